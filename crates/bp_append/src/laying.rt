@@ -3,7 +3,7 @@
 ghost use Rattle.std.specs.Prelude.{◌≡◌, ℕ, ◌+◌, ◌*◌, ◌/◌, ◌^◌, ◌<◌, ◌≤◌, length, slice_index};
 ghost use Rattle.bp_layout.specs.Words.{byte_of};
 ghost use Rattle.bp_limits.specs.Limits.{block_size, block_words};
-ghost use Rattle.pm_region.specs.Memory.{current_words, room_in};
+ghost use Rattle.pm_region.specs.Memory.{words_in, room_in};
 ghost use Rattle.bp_append.specs.Given.{given, run_words, IsLaid, Lays, LaysRun};
 
 use crate::bytes::{given_in, word_with};
@@ -110,7 +110,7 @@ fn laid_word<R: Region>(region: &R, place: u64, start: u64, layer: &Layer<'_>) -
     requires few { start + 8 < 2 ^ 64 }
     requires begun { layer.now.low < start + 8 }
     ensures { IsLaid layer.now.low layer.now.from layer.now.bytes.now
-        (slice_index (current_words (R.memory region.now)) place) start result }
+        (slice_index (words_in R.memory region.now) place) start result }
 {
     if layer.low <= start {
         return given_in(start, layer.from, layer.bytes);

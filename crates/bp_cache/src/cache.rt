@@ -14,7 +14,7 @@ ghost use Rattle.bp_layout.specs.WellFormed.{IsWellFormed};
 ghost use Rattle.bp_layout.specs.Words.{Image};
 ghost use Rattle.bp_limits.specs.CallLimits.{max_name};
 ghost use Rattle.bp_names.specs.Names.{known_of};
-ghost use Rattle.pm_region.specs.Memory.{current_words};
+ghost use Rattle.pm_region.specs.Memory.{words_in};
 
 use crate::held::Held;
 use crate::name_at::NameAt;
@@ -84,11 +84,11 @@ impl DirectoryCache {
 
     /// Returns what is remembered of a name in a small directory.
     fn recall_name<R: Region>(&mut self, region: &R, dir: u32, tree: Tree, name: &[u8]) -> Recalled
-        requires tree { HasTree (current_words (R.memory region.now)) dir tree }
+        requires tree { HasTree (words_in R.memory region.now) dir tree }
         requires short { length name.now ≤ max_name }
-        requires right { IsCacheOf (current_words (R.memory region.now)) self.old }
-        ensures told { IsRecalled (current_words (R.memory region.now)) tree name.now result }
-        ensures right { IsCacheOf (current_words (R.memory region.now)) self.new }
+        requires right { IsCacheOf (words_in R.memory region.now) self.old }
+        ensures told { IsRecalled (words_in R.memory region.now) tree name.now result }
+        ensures right { IsCacheOf (words_in R.memory region.now) self.new }
     {
         match self.names.hint(dir, name) {
             Some(slot) => Recalled::Told(Some(Found {
@@ -102,11 +102,11 @@ impl DirectoryCache {
     /// Returns what is remembered of a name in a large directory, by its index if one is held. Else it counts the
     /// search, and makes an index after many searches.
     fn recall_large<R: Region>(&mut self, region: &R, dir: u32, tree: Tree, name: &[u8]) -> Recalled
-        requires tree { HasTree (current_words (R.memory region.now)) dir tree }
+        requires tree { HasTree (words_in R.memory region.now) dir tree }
         requires short { length name.now ≤ max_name }
-        requires right { IsCacheOf (current_words (R.memory region.now)) self.old }
-        ensures told { IsRecalled (current_words (R.memory region.now)) tree name.now result }
-        ensures right { IsCacheOf (current_words (R.memory region.now)) self.new }
+        requires right { IsCacheOf (words_in R.memory region.now) self.old }
+        ensures told { IsRecalled (words_in R.memory region.now) tree name.now result }
+        ensures right { IsCacheOf (words_in R.memory region.now) self.new }
     {
         match self.directories.get(&dir) {
             None | Some(Held::Lost) => {}
@@ -130,11 +130,11 @@ impl DirectoryCache {
         tree: Tree,
         name: &[u8],
     ) -> Recalled
-        requires tree { HasTree (current_words (R.memory region.now)) dir tree }
+        requires tree { HasTree (words_in R.memory region.now) dir tree }
         requires short { length name.now ≤ max_name }
-        requires right { IsCacheOf (current_words (R.memory region.now)) self.old }
-        ensures told { IsRecalled (current_words (R.memory region.now)) tree name.now result }
-        ensures right { IsCacheOf (current_words (R.memory region.now)) self.new }
+        requires right { IsCacheOf (words_in R.memory region.now) self.old }
+        ensures told { IsRecalled (words_in R.memory region.now) tree name.now result }
+        ensures right { IsCacheOf (words_in R.memory region.now) self.new }
     {
         if tree.size <= SMALL_SIZE {
             return self.recall_name(region, dir, tree, name);
@@ -144,11 +144,11 @@ impl DirectoryCache {
 
     /// Returns what is remembered of a name in a directory.
     fn recall<R: Region>(&mut self, region: &R, dir: u32, tree: Tree, name: &[u8]) -> Recalled
-        requires tree { HasTree (current_words (R.memory region.now)) dir tree }
+        requires tree { HasTree (words_in R.memory region.now) dir tree }
         requires short { length name.now ≤ max_name }
-        requires right { IsCacheOf (current_words (R.memory region.now)) self.old }
-        ensures told { IsRecalled (current_words (R.memory region.now)) tree name.now result }
-        ensures right { IsCacheOf (current_words (R.memory region.now)) self.new }
+        requires right { IsCacheOf (words_in R.memory region.now) self.old }
+        ensures told { IsRecalled (words_in R.memory region.now) tree name.now result }
+        ensures right { IsCacheOf (words_in R.memory region.now) self.new }
     {
         if tree.size <= FEW_SIZE {
             return Recalled::Unknown;
@@ -183,9 +183,9 @@ impl DirectoryCache {
     /// Counts a search of a large directory for which no state is held, and makes an index of it if it was searched
     /// often. Returns whether a state is held for it then.
     fn make_held<R: Region>(&mut self, region: &R, dir: u32, tree: Tree) -> bool
-        requires tree { HasTree (current_words (R.memory region.now)) dir tree }
-        requires right { IsCacheOf (current_words (R.memory region.now)) self.old }
-        ensures right { IsCacheOf (current_words (R.memory region.now)) self.new }
+        requires tree { HasTree (words_in R.memory region.now) dir tree }
+        requires right { IsCacheOf (words_in R.memory region.now) self.old }
+        ensures right { IsCacheOf (words_in R.memory region.now) self.new }
     {
         if !self.searches.count(dir) {
             return false;
@@ -198,25 +198,25 @@ impl DirectoryCache {
     /// Counts a search of a large directory, and makes an index of it if it was searched often. Returns whether a
     /// state is held for it.
     fn count_search<R: Region>(&mut self, region: &R, dir: u32, tree: Tree) -> bool
-        requires tree { HasTree (current_words (R.memory region.now)) dir tree }
-        requires right { IsCacheOf (current_words (R.memory region.now)) self.old }
-        ensures right { IsCacheOf (current_words (R.memory region.now)) self.new }
+        requires tree { HasTree (words_in R.memory region.now) dir tree }
+        requires right { IsCacheOf (words_in R.memory region.now) self.old }
+        ensures right { IsCacheOf (words_in R.memory region.now) self.new }
     {
         self.is_held(dir) || self.make_held(region, dir, tree)
     }
 
     /// Returns what [`bp_dirs::find_or_free`] returns for a directory, given its inode and its tree.
     pub fn find_or_free<R: Region>(&mut self, region: &R, dir: u32, tree: Tree, name: &[u8]) -> Spot
-        requires well { IsWellFormed (current_words (R.memory region.now)) }
-        requires reached { IsReached (current_words (R.memory region.now)) dir }
-        requires directory { IsDirectory (current_words (R.memory region.now)) dir }
-        requires root { tree.root ≡ root_of (current_words (R.memory region.now)) dir }
-        requires size { tree.size ≡ size_of (current_words (R.memory region.now)) dir }
+        requires well { IsWellFormed (words_in R.memory region.now) }
+        requires reached { IsReached (words_in R.memory region.now) dir }
+        requires directory { IsDirectory (words_in R.memory region.now) dir }
+        requires root { tree.root ≡ root_of (words_in R.memory region.now) dir }
+        requires size { tree.size ≡ size_of (words_in R.memory region.now) dir }
         requires short { length name.now ≤ max_name }
-        requires right { IsCacheOf (current_words (R.memory region.now)) self.old }
-        ensures named { named_slot result ≡ slot_named (current_words (R.memory region.now)) dir name.now }
-        ensures free { FreeIs result (empty_slot (current_words (R.memory region.now)) dir) }
-        ensures right { IsCacheOf (current_words (R.memory region.now)) self.new }
+        requires right { IsCacheOf (words_in R.memory region.now) self.old }
+        ensures named { named_slot result ≡ slot_named (words_in R.memory region.now) dir name.now }
+        ensures free { FreeIs result (empty_slot (words_in R.memory region.now) dir) }
+        ensures right { IsCacheOf (words_in R.memory region.now) self.new }
     {
         if tree.size <= SMALL_SIZE {
             return find_or_free(region, tree, name);
@@ -240,20 +240,20 @@ impl DirectoryCache {
         one: &[u8],
         other: &[u8],
     ) -> Both
-        requires well { IsWellFormed (current_words (R.memory region.now)) }
-        requires reached { IsReached (current_words (R.memory region.now)) dir }
-        requires directory { IsDirectory (current_words (R.memory region.now)) dir }
-        requires root { tree.root ≡ root_of (current_words (R.memory region.now)) dir }
-        requires size { tree.size ≡ size_of (current_words (R.memory region.now)) dir }
+        requires well { IsWellFormed (words_in R.memory region.now) }
+        requires reached { IsReached (words_in R.memory region.now) dir }
+        requires directory { IsDirectory (words_in R.memory region.now) dir }
+        requires root { tree.root ≡ root_of (words_in R.memory region.now) dir }
+        requires size { tree.size ≡ size_of (words_in R.memory region.now) dir }
         requires one { length one.now ≤ max_name }
         requires other { length other.now ≤ max_name }
-        requires right { IsCacheOf (current_words (R.memory region.now)) self.old }
-        ensures slot { found_slot result.found ≡ slot_named (current_words (R.memory region.now)) dir one.now }
+        requires right { IsCacheOf (words_in R.memory region.now) self.old }
+        ensures slot { found_slot result.found ≡ slot_named (words_in R.memory region.now) dir one.now }
         ensures inumber { IfSome result.found
-            (λ found. found.inumber ≡ inumber_at (current_words (R.memory region.now)) dir found.slot) }
-        ensures named { named_slot result.spot ≡ slot_named (current_words (R.memory region.now)) dir other.now }
-        ensures free { FreeIs result.spot (empty_slot (current_words (R.memory region.now)) dir) }
-        ensures right { IsCacheOf (current_words (R.memory region.now)) self.new }
+            (λ found. found.inumber ≡ inumber_at (words_in R.memory region.now) dir found.slot) }
+        ensures named { named_slot result.spot ≡ slot_named (words_in R.memory region.now) dir other.now }
+        ensures free { FreeIs result.spot (empty_slot (words_in R.memory region.now) dir) }
+        ensures right { IsCacheOf (words_in R.memory region.now) self.new }
     {
         match self.recall(region, dir, tree, one) {
             Recalled::Told(found) => {

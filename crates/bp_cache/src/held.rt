@@ -8,7 +8,7 @@ ghost use Rattle.bp_index.specs.Index.{EntersSlot, IsIndexOf, LeavesSlot};
 ghost use Rattle.bp_layout.specs.Directory.{empty_slot_in, slot_named_in};
 ghost use Rattle.bp_layout.specs.Tree.{IsSound};
 ghost use Rattle.bp_limits.specs.CallLimits.{max_name};
-ghost use Rattle.pm_region.specs.Memory.{current_words};
+ghost use Rattle.pm_region.specs.Memory.{words_in};
 
 use crate::recalled::Recalled;
 use bp_dirs::{Spot, find_or_free};
@@ -31,8 +31,8 @@ pub(crate) enum Held {
 impl Held {
     /// Makes an index of the directory with this tree, if possible.
     pub fn of<R: Region>(alloc: Global, region: &R, tree: Tree) -> Held
-        requires { IsSound (current_words (R.memory region.now)) tree.root tree.size }
-        ensures { IndexIs (IsIndexOf (current_words (R.memory region.now)) tree.root tree.size) result }
+        requires { IsSound (words_in R.memory region.now) tree.root tree.size }
+        ensures { IndexIs (IsIndexOf (words_in R.memory region.now) tree.root tree.size) result }
     {
         match Index::of(alloc, region, tree) {
             Some(index) => Held::Indexed(index),
@@ -42,10 +42,10 @@ impl Held {
 
     /// Returns what the index records of a name in the directory with this tree.
     pub fn recall<R: Region>(&self, region: &R, tree: Tree, name: &[u8]) -> Recalled
-        requires sound { IsSound (current_words (R.memory region.now)) tree.root tree.size }
+        requires sound { IsSound (words_in R.memory region.now) tree.root tree.size }
         requires short { length name.now ≤ max_name }
-        requires right { IndexIs (IsIndexOf (current_words (R.memory region.now)) tree.root tree.size) self.now }
-        ensures { IsRecalled (current_words (R.memory region.now)) tree name.now result }
+        requires right { IndexIs (IsIndexOf (words_in R.memory region.now) tree.root tree.size) self.now }
+        ensures { IsRecalled (words_in R.memory region.now) tree name.now result }
     {
         match self {
             Held::Indexed(index) => Recalled::Told(index.find_entry(region, tree, name)),
@@ -55,13 +55,12 @@ impl Held {
 
     /// Returns what [`find_or_free`] returns, by the index if there is one.
     pub fn find_or_free<R: Region>(&mut self, region: &R, tree: Tree, name: &[u8]) -> Spot
-        requires sound { IsSound (current_words (R.memory region.now)) tree.root tree.size }
+        requires sound { IsSound (words_in R.memory region.now) tree.root tree.size }
         requires short { length name.now ≤ max_name }
-        requires right { IndexIs (IsIndexOf (current_words (R.memory region.now)) tree.root tree.size) self.old }
-        ensures named { named_slot result ≡
-            slot_named_in (current_words (R.memory region.now)) tree.root tree.size name.now }
-        ensures free { FreeIs result (empty_slot_in (current_words (R.memory region.now)) tree.root tree.size) }
-        ensures right { IndexIs (IsIndexOf (current_words (R.memory region.now)) tree.root tree.size) self.new }
+        requires right { IndexIs (IsIndexOf (words_in R.memory region.now) tree.root tree.size) self.old }
+        ensures named { named_slot result ≡ slot_named_in (words_in R.memory region.now) tree.root tree.size name.now }
+        ensures free { FreeIs result (empty_slot_in (words_in R.memory region.now) tree.root tree.size) }
+        ensures right { IndexIs (IsIndexOf (words_in R.memory region.now) tree.root tree.size) self.new }
     {
         match self {
             Held::Indexed(index) => index.find_or_free(region, tree, name),

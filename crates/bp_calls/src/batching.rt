@@ -2,7 +2,7 @@
 
 ghost use Rattle.std.specs.Prelude.{◌≡◌, ◌+◌, ◌≤◌, [], ◌∷◌, length, IfErr, OnErr, OnOk};
 ghost use Rattle.bp_calls.specs.Commits.{CommitsOrLacksBlocks, CommitsOrLacksSpace};
-ghost use Rattle.bp_calls.specs.Mounted.{IsMounted};
+ghost use Rattle.bp_calls.specs.Mounted.{image_in, IsExactIn, IsMountedIn};
 ghost use Rattle.bp_calls.specs.Overwritten.{AreRuns, CanOverwrite, CanOverwriteThawed, IsPatchIn, batch_change, patch_seen, patches_seen};
 ghost use Rattle.bp_calls.specs.Space.{HasRoomWhereFree, LacksSpace};
 ghost use Rattle.bp_calls.specs.ThawsFor.{ThawsBefore};
@@ -16,9 +16,9 @@ ghost use Rattle.bp_layout.specs.Members.{Each};
 ghost use Rattle.bp_layout.specs.Need.{need};
 ghost use Rattle.bp_layout.specs.WellFormed.{IsWellFormed};
 ghost use Rattle.bp_limits.specs.Limits.{block_words, max_pieces};
-ghost use Rattle.bp_shapes.specs.Sets.{IsExact, kept_of};
+ghost use Rattle.bp_shapes.specs.Sets.{kept_of};
 ghost use Rattle.bp_thaw.specs.Thaws.{paths_in};
-ghost use Rattle.pm_region.specs.Memory.{current_words, room_in};
+ghost use Rattle.pm_region.specs.Memory.{words_in, room_in};
 
 use crate::committing::{commit_below, run_for, touched_by};
 use crate::targets::Targets;
@@ -43,9 +43,9 @@ pub struct Patch<'a> {
 
 /// Returns the run of a patch that has bytes.
 fn run_of<'a, R: Region>(region: &R, patch: &Patch<'a>) -> Run<'a>
-    requires well_formed { IsWellFormed (current_words (R.memory region.now)) }
-    requires inside { IsPatchIn (current_words (R.memory region.now)) (patch_seen patch.now) }
-    ensures { IsRunFor (current_words (R.memory region.now)) patch.now.inode patch.now.off patch.now.bytes.now result }
+    requires well_formed { IsWellFormed (words_in R.memory region.now) }
+    requires inside { IsPatchIn (words_in R.memory region.now) (patch_seen patch.now) }
+    ensures { IsRunFor (words_in R.memory region.now) patch.now.inode patch.now.off patch.now.bytes.now result }
 {
     let tree = tree_of(region, patch.inode);
     run_for(region, patch.inode, tree, patch.off, patch.bytes)
@@ -53,10 +53,10 @@ fn run_of<'a, R: Region>(region: &R, patch: &Patch<'a>) -> Run<'a>
 
 /// Returns the runs of those patches that have bytes, in their order.
 fn runs_of<'a, R: Region>(region: &R, patches: &[Patch<'a>]) -> ArrayVec<Run<'a>, MAX_PIECES>
-    requires well_formed { IsWellFormed (current_words (R.memory region.now)) }
+    requires well_formed { IsWellFormed (words_in R.memory region.now) }
     requires few { length patches.now ≤ max_pieces }
-    requires each { Each (IsPatchIn (current_words (R.memory region.now))) (patches_seen patches.now) }
-    ensures { AreRuns (current_words (R.memory region.now)) (patches_seen patches.now) result.items }
+    requires each { Each (IsPatchIn (words_in R.memory region.now)) (patches_seen patches.now) }
+    ensures { AreRuns (words_in R.memory region.now) (patches_seen patches.now) result.items }
 {
     let mut runs = ArrayVec::new();
     for patch in patches {
@@ -70,9 +70,9 @@ fn runs_of<'a, R: Region>(region: &R, patches: &[Patch<'a>]) -> ArrayVec<Run<'a>
 /// Returns where bytes below the sizes of files change: the word that covers them all.
 fn covering<R: Region>(region: &R, touched: &Touched<'_>) -> Targets
     requires touched { IsTouched touched.now }
-    requires some { block_words ≤ length (current_words (R.memory region.now)) }
-    requires in_range { LeadsInside (current_words (R.memory region.now)) touched.now }
-    ensures { paths_in result ≡ commit_cover (current_words (R.memory region.now)) touched.now ∷ [] }
+    requires some { block_words ≤ length (words_in R.memory region.now) }
+    requires in_range { LeadsInside (words_in R.memory region.now) touched.now }
+    ensures { paths_in result ≡ commit_cover (words_in R.memory region.now) touched.now ∷ [] }
 {
     let mut targets = Targets::new();
     targets.push(cover(region, touched));
@@ -89,7 +89,7 @@ fn covering<R: Region>(region: &R, touched: &Touched<'_>) -> Targets
 fn overlay<R: Region>(parts: &mut Parts<R>, patches: &[Patch<'_>]) -> Result<(), NoSpace>
     requires can { CanOverwriteThawed (kept_of parts.old) (R.memory parts.old.region) parts.old.blocks parts.old.inodes
         (patches_seen patches.now) }
-    requires exact { IsExact (current_words (R.memory parts.old.region)) parts.old }
+    requires exact { IsExactIn R.memory parts.old }
     ensures { CommitsOrLacksBlocks R.memory parts.old parts.new result (batch_change patches.now)
         (OverwritesFiles (patches_seen patches.now)) }
 {
@@ -107,16 +107,16 @@ fn overlay<R: Region>(parts: &mut Parts<R>, patches: &[Patch<'_>]) -> Result<(),
 ///
 /// - `NoSpace`: fewer blocks are free than the call needs. It is returned in exactly this case.
 fn thaw_batch<R: Region>(parts: &mut Parts<R>, patches: &[Patch<'_>]) -> Result<(), NoSpace>
-    requires mounted { IsMounted (current_words (R.memory parts.old.region)) parts.old }
-    requires can { CanOverwrite (current_words (R.memory parts.old.region)) (patches_seen patches.now) }
+    requires mounted { IsMountedIn R.memory parts.old }
+    requires can { CanOverwrite (image_in R.memory parts.old) (patches_seen patches.now) }
     requires room { HasRoomWhereFree (R.memory parts.old.region) (kept_of parts.old) parts.old.blocks
         (batch_change patches.now) }
     ensures thaws { OnOk result (ThawsBefore R.memory parts.old parts.new (batch_change patches.now)) }
-    ensures room { OnOk result (room_for (need (current_words (R.memory parts.old.region)) (batch_change patches.now))
+    ensures room { OnOk result (room_for (need (image_in R.memory parts.old) (batch_change patches.now))
         ≤ room_in (R.memory parts.new.region) + 2) }
-    ensures enough { OnOk result (need (current_words (R.memory parts.old.region)) (batch_change patches.now)
+    ensures enough { OnOk result (need (image_in R.memory parts.old) (batch_change patches.now)
         ≤ length (members parts.new.blocks)) }
-    ensures refused { IfErr result (LacksSpace (current_words (R.memory parts.old.region)) (kept_of parts.old)
+    ensures refused { IfErr result (LacksSpace (image_in R.memory parts.old) (kept_of parts.old)
         (batch_change patches.now)) }
     ensures same { OnErr result (parts.new ≡ parts.old) }
 {
@@ -137,8 +137,8 @@ fn thaw_batch<R: Region>(parts: &mut Parts<R>, patches: &[Patch<'_>]) -> Result<
 /// - `NoSpace`: fewer blocks are free than the call copies. It copies once each block on the paths to the bytes from
 ///   the word that covers all of them down, and those that it thaws. It is returned in exactly this case.
 pub fn batch<R: Region>(parts: &mut Parts<R>, patches: &[Patch<'_>]) -> Result<(), NoSpace>
-    requires mounted { IsMounted (current_words (R.memory parts.old.region)) parts.old }
-    requires can { CanOverwrite (current_words (R.memory parts.old.region)) (patches_seen patches.now) }
+    requires mounted { IsMountedIn R.memory parts.old }
+    requires can { CanOverwrite (image_in R.memory parts.old) (patches_seen patches.now) }
     requires room { HasRoomWhereFree (R.memory parts.old.region) (kept_of parts.old) parts.old.blocks
         (batch_change patches.now) }
     ensures { CommitsOrLacksSpace R.memory parts.old parts.new result (batch_change patches.now)

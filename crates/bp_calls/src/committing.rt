@@ -3,13 +3,14 @@
 ghost use Rattle.std.specs.Prelude.{◌≡◌, ◌≤◌, [], length};
 ghost use Rattle.bp_calls.specs.CommitsTouched.{CanCommitTouched, CommitsTouchedOrLacks, HasRoomToCommit};
 ghost use Rattle.bp_calls.specs.TouchedBelow.{IsRunFor};
+ghost use Rattle.bp_calls.specs.Mounted.{image_in};
 ghost use Rattle.bp_cow.specs.Commit.{HasLooseCover};
 ghost use Rattle.bp_cow.specs.Found.{AreWaysIn};
 ghost use Rattle.bp_layout.specs.Inode.{root_of, size_of};
 ghost use Rattle.bp_layout.specs.WellFormed.{IsWellFormed};
 ghost use Rattle.bp_layout.specs.Words.{block_count};
 ghost use Rattle.bp_shapes.specs.Sets.{kept_of};
-ghost use Rattle.pm_region.specs.Memory.{current_words};
+ghost use Rattle.pm_region.specs.Memory.{words_in};
 
 use bp_cow::{FoundWays, Run, Touched, commit_at, copies_below, find_ways};
 use bp_free::{NoSpace, Parts};
@@ -25,10 +26,10 @@ pub(crate) fn run_for<'a, R: Region>(
     off: u64,
     bytes: &'a [u8],
 ) -> Run<'a>
-    requires some { 4 ≤ length (current_words (R.memory region.now)) }
-    requires root { tree.root ≡ root_of (current_words (R.memory region.now)) i }
-    requires size { tree.size ≡ size_of (current_words (R.memory region.now)) i }
-    ensures { IsRunFor (current_words (R.memory region.now)) i off bytes.now result }
+    requires some { 4 ≤ length (words_in R.memory region.now) }
+    requires root { tree.root ≡ root_of (words_in R.memory region.now) i }
+    requires size { tree.size ≡ size_of (words_in R.memory region.now) i }
+    ensures { IsRunFor (words_in R.memory region.now) i off bytes.now result }
 {
     Run {
         root: root_path(region, i),
@@ -62,13 +63,13 @@ pub(crate) fn commit_found<R: Region>(
     touched: &Touched<'_>,
     found: &FoundWays,
 ) -> Result<(), NoSpace>
-    requires well_formed { IsWellFormed (current_words (R.memory parts.old.region)) }
+    requires well_formed { IsWellFormed (image_in R.memory parts.old) }
     requires can { CanCommitTouched R.memory parts.old touched.now }
-    requires loose { HasLooseCover (current_words (R.memory parts.old.region)) (kept_of parts.old) touched.now }
-    requires known { block_count (current_words (R.memory parts.old.region)) ≤ length parts.old.frozen }
-    requires fits { block_count (current_words (R.memory parts.old.region)) ≤ length parts.old.blocks }
+    requires loose { HasLooseCover (image_in R.memory parts.old) (kept_of parts.old) touched.now }
+    requires known { block_count (image_in R.memory parts.old) ≤ length parts.old.frozen }
+    requires fits { block_count (image_in R.memory parts.old) ≤ length parts.old.blocks }
     requires room { HasRoomToCommit R.memory parts.old touched.now }
-    requires found { AreWaysIn (current_words (R.memory parts.old.region)) touched.now found.now }
+    requires found { AreWaysIn (image_in R.memory parts.old) touched.now found.now }
     ensures { CommitsTouchedOrLacks R.memory parts.old parts.new result touched.now }
 {
     let copies = copies_below(touched, found);
@@ -89,11 +90,11 @@ pub(crate) fn commit_below<R: Region>(
     parts: &mut Parts<R>,
     touched: &Touched<'_>,
 ) -> Result<(), NoSpace>
-    requires well_formed { IsWellFormed (current_words (R.memory parts.old.region)) }
+    requires well_formed { IsWellFormed (image_in R.memory parts.old) }
     requires can { CanCommitTouched R.memory parts.old touched.now }
-    requires loose { HasLooseCover (current_words (R.memory parts.old.region)) (kept_of parts.old) touched.now }
-    requires known { block_count (current_words (R.memory parts.old.region)) ≤ length parts.old.frozen }
-    requires fits { block_count (current_words (R.memory parts.old.region)) ≤ length parts.old.blocks }
+    requires loose { HasLooseCover (image_in R.memory parts.old) (kept_of parts.old) touched.now }
+    requires known { block_count (image_in R.memory parts.old) ≤ length parts.old.frozen }
+    requires fits { block_count (image_in R.memory parts.old) ≤ length parts.old.blocks }
     requires room { HasRoomToCommit R.memory parts.old touched.now }
     ensures { CommitsTouchedOrLacks R.memory parts.old parts.new result touched.now }
 {

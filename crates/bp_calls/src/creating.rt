@@ -5,7 +5,7 @@ ghost use Rattle.bp_calls.specs.Commits.{CommitsChange, CreatesOrLacksSpace};
 ghost use Rattle.bp_calls.specs.Created.{EntersName};
 ghost use Rattle.bp_calls.specs.Entrant.{ForCreation};
 ghost use Rattle.bp_calls.specs.FewBlocks.{most_for_leaf};
-ghost use Rattle.bp_calls.specs.Mounted.{IsMounted};
+ghost use Rattle.bp_calls.specs.Mounted.{image_in, IsExactIn, IsMountedIn};
 ghost use Rattle.bp_calls.specs.NewEntry.{EntersLeastFree, PerformsCreation};
 ghost use Rattle.bp_calls.specs.Space.{HasRoomToCreate, LacksSpaceToCreate};
 ghost use Rattle.bp_calls.specs.Steps.{CanEnter, LacksName, name_need};
@@ -21,9 +21,9 @@ ghost use Rattle.bp_layout.specs.Need.Entrant.{grown};
 ghost use Rattle.bp_layout.specs.Reached.{IsReached};
 ghost use Rattle.bp_layout.specs.Thaw.{targets};
 ghost use Rattle.bp_layout.specs.WellFormed.{IsWellFormed};
-ghost use Rattle.bp_shapes.specs.Sets.{IsExact, kept_of};
+ghost use Rattle.bp_shapes.specs.Sets.{kept_of};
 ghost use Rattle.bp_thaw.specs.Thaws.{paths_in};
-ghost use Rattle.pm_region.specs.Memory.{current_words};
+ghost use Rattle.pm_region.specs.Memory.{words_in};
 
 use crate::entering::{enter_behind, enter_slot, entering};
 use crate::growing::{grow, grow_need};
@@ -41,11 +41,11 @@ use pm_region::Region;
 /// Returns the number of blocks that a name for an existing inode takes, given its directory's least empty slot. If no
 /// slot is empty, these are the blocks that the tree lacks for one more entry.
 pub(crate) fn entry_need<R: Region>(region: &R, dir: u32, slot: Option<u64>) -> u32
-    requires well_formed { IsWellFormed (current_words (R.memory region.now)) }
-    requires reached { IsReached (current_words (R.memory region.now)) dir }
-    requires directory { IsDirectory (current_words (R.memory region.now)) dir }
-    requires slot { slot ≡ empty_slot (current_words (R.memory region.now)) dir }
-    ensures need { result ≡ name_need (current_words (R.memory region.now)) dir }
+    requires well_formed { IsWellFormed (words_in R.memory region.now) }
+    requires reached { IsReached (words_in R.memory region.now) dir }
+    requires directory { IsDirectory (words_in R.memory region.now) dir }
+    requires slot { slot ≡ empty_slot (words_in R.memory region.now) dir }
+    ensures need { result ≡ name_need (words_in R.memory region.now) dir }
     ensures few { result ≤ most_for_leaf }
 {
     match slot {
@@ -60,12 +60,12 @@ pub(crate) fn entry_need<R: Region>(region: &R, dir: u32, slot: Option<u64>) -> 
 /// Returns the number of blocks that a new name takes in a directory, given its least empty slot. If no inode is free,
 /// it includes those of the inode file.
 fn new_need<R: Region>(parts: &Parts<R>, dir: u32, slot: Option<u64>) -> u32
-    requires mounted { IsMounted (current_words (R.memory parts.now.region)) parts.now }
-    requires reached { IsReached (current_words (R.memory parts.now.region)) dir }
-    requires directory { IsDirectory (current_words (R.memory parts.now.region)) dir }
-    requires slot { slot ≡ empty_slot (current_words (R.memory parts.now.region)) dir }
-    ensures need { ForCreation (current_words (R.memory parts.now.region)) dir
-        (λ change. need (current_words (R.memory parts.now.region)) change ≡ result) }
+    requires mounted { IsMountedIn R.memory parts.now }
+    requires reached { IsReached (image_in R.memory parts.now) dir }
+    requires directory { IsDirectory (image_in R.memory parts.now) dir }
+    requires slot { slot ≡ empty_slot (image_in R.memory parts.now) dir }
+    ensures need { ForCreation (image_in R.memory parts.now) dir
+        (λ change. need (image_in R.memory parts.now) change ≡ result) }
     ensures few { result < 2 ^ 31 }
 {
     let entry = entry_need(&parts.region, dir, slot);
@@ -88,11 +88,11 @@ fn least(inodes: &mut Inodes) -> Option<u32>
 /// Returns the words near which a new name of a directory is stored, given its least empty slot: the words of the
 /// entry, and those of its inode, or those by which the inode file grows.
 fn entering_new<R: Region>(parts: &mut Parts<R>, dir: u32, slot: Option<u64>) -> Targets
-    requires mounted { IsMounted (current_words (R.memory parts.old.region)) parts.old }
-    requires reached { IsReached (current_words (R.memory parts.old.region)) dir }
-    requires directory { IsDirectory (current_words (R.memory parts.old.region)) dir }
-    requires slot { slot ≡ empty_slot (current_words (R.memory parts.old.region)) dir }
-    ensures paths { let image = current_words (R.memory parts.old.region) in
+    requires mounted { IsMountedIn R.memory parts.old }
+    requires reached { IsReached (image_in R.memory parts.old) dir }
+    requires directory { IsDirectory (image_in R.memory parts.old) dir }
+    requires slot { slot ≡ empty_slot (image_in R.memory parts.old) dir }
+    ensures paths { let image = image_in R.memory parts.old in
         ForCreation image dir (λ change. paths_in result ≡ targets image change) }
     ensures same { parts.new ≡ parts.old }
 {
@@ -114,16 +114,15 @@ fn entering_new<R: Region>(parts: &mut Parts<R>, dir: u32, slot: Option<u64>) ->
 ///
 /// - `NoSpace`: fewer blocks are free than the thaw and the name take. It is returned in exactly this case.
 fn thaw_new<R: Region>(parts: &mut Parts<R>, dir: u32, slot: Option<u64>) -> Result<(), NoSpace>
-    requires mounted { IsMounted (current_words (R.memory parts.old.region)) parts.old }
-    requires reached { IsReached (current_words (R.memory parts.old.region)) dir }
-    requires directory { IsDirectory (current_words (R.memory parts.old.region)) dir }
-    requires slot { slot ≡ empty_slot (current_words (R.memory parts.old.region)) dir }
+    requires mounted { IsMountedIn R.memory parts.old }
+    requires reached { IsReached (image_in R.memory parts.old) dir }
+    requires directory { IsDirectory (image_in R.memory parts.old) dir }
+    requires slot { slot ≡ empty_slot (image_in R.memory parts.old) dir }
     requires room { HasRoomToCreate (R.memory parts.old.region) (kept_of parts.old) parts.old.blocks dir }
-    ensures thaws { OnOk result (ForCreation (current_words (R.memory parts.old.region)) dir
+    ensures thaws { OnOk result (ForCreation (image_in R.memory parts.old) dir
         (ThawsBefore R.memory parts.old parts.new)) }
-    ensures thawed { OnOk result (ForCreation (current_words (R.memory parts.old.region)) dir
-        (AreThawedFor R.memory parts.new)) }
-    ensures refused { IfErr result (LacksSpaceToCreate (current_words (R.memory parts.old.region)) (kept_of parts.old) dir) }
+    ensures thawed { OnOk result (ForCreation (image_in R.memory parts.old) dir (AreThawedFor R.memory parts.new)) }
+    ensures refused { IfErr result (LacksSpaceToCreate (image_in R.memory parts.old) (kept_of parts.old) dir) }
     ensures same { OnErr result (parts.new ≡ parts.old) }
 {
     let need = new_need(parts, dir, slot);
@@ -141,11 +140,11 @@ fn thaw_new<R: Region>(parts: &mut Parts<R>, dir: u32, slot: Option<u64>) -> Res
 /// Enters a name for the least free inode in a directory, in its least empty slot or after its last entry.
 fn enter<R: Region>(parts: &mut Parts<R>, dir: u32, slot: Option<u64>, name: &[u8], kind: Kind)
     requires can { CanEnter (kept_of parts.old) (R.memory parts.old.region) parts.old.blocks parts.old.inodes dir name.now }
-    requires exact { IsExact (current_words (R.memory parts.old.region)) parts.old }
-    requires slot { slot ≡ empty_slot (current_words (R.memory parts.old.region)) dir }
+    requires exact { IsExactIn R.memory parts.old }
+    requires slot { slot ≡ empty_slot (image_in R.memory parts.old) dir }
     ensures performs { EntersLeastFree (kept_of parts.old) (R.memory parts.old.region) (R.memory parts.new.region) dir name.now
         kind }
-    ensures exact { IsExact (current_words (R.memory parts.new.region)) parts.new }
+    ensures exact { IsExactIn R.memory parts.new }
     ensures frozen { parts.new.frozen ≡ parts.old.frozen }
 {
     let inode = parts.inodes.take_least();
@@ -165,9 +164,9 @@ fn grow_and_enter<R: Region>(
     name: &[u8],
     kind: Kind,
 )
-    requires lacks { LacksName (current_words (R.memory parts.old.region)) dir name.now }
-    requires exact { IsExact (current_words (R.memory parts.old.region)) parts.old }
-    requires slot { slot ≡ empty_slot (current_words (R.memory parts.old.region)) dir }
+    requires lacks { LacksName (image_in R.memory parts.old) dir name.now }
+    requires exact { IsExactIn R.memory parts.old }
+    requires slot { slot ≡ empty_slot (image_in R.memory parts.old) dir }
     requires none { members parts.old.inodes ≡ [] }
     requires thawed { AreThawedFor R.memory parts.old (enters dir grown) }
     ensures { CommitsChange R.memory parts.old parts.new (enters dir grown) (EntersName dir name.now kind) }
@@ -178,13 +177,13 @@ fn grow_and_enter<R: Region>(
 
 /// Does what [`create_in`] does once no block is left to thaw.
 fn enter_new<R: Region>(parts: &mut Parts<R>, dir: u32, slot: Option<u64>, name: &[u8], kind: Kind)
-    requires lacks { LacksName (current_words (R.memory parts.old.region)) dir name.now }
-    requires exact { IsExact (current_words (R.memory parts.old.region)) parts.old }
-    requires slot { slot ≡ empty_slot (current_words (R.memory parts.old.region)) dir }
-    requires thawed { ForCreation (current_words (R.memory parts.old.region)) dir (AreThawedFor R.memory parts.old) }
+    requires lacks { LacksName (image_in R.memory parts.old) dir name.now }
+    requires exact { IsExactIn R.memory parts.old }
+    requires slot { slot ≡ empty_slot (image_in R.memory parts.old) dir }
+    requires thawed { ForCreation (image_in R.memory parts.old) dir (AreThawedFor R.memory parts.old) }
     ensures performs { PerformsCreation (kept_of parts.old) (R.memory parts.old.region) (R.memory parts.new.region) dir name.now
         kind }
-    ensures exact { IsExact (current_words (R.memory parts.new.region)) parts.new }
+    ensures exact { IsExactIn R.memory parts.new }
     ensures frozen { parts.new.frozen ≡ parts.old.frozen }
 {
     if parts.inodes.count() == 0 {
@@ -207,12 +206,12 @@ pub fn create_in<R: Region>(
     name: &[u8],
     kind: Kind,
 ) -> Result<(), NoSpace>
-    requires mounted { IsMounted (current_words (R.memory parts.old.region)) parts.old }
-    requires reached { IsReached (current_words (R.memory parts.old.region)) dir }
-    requires directory { IsDirectory (current_words (R.memory parts.old.region)) dir }
+    requires mounted { IsMountedIn R.memory parts.old }
+    requires reached { IsReached (image_in R.memory parts.old) dir }
+    requires directory { IsDirectory (image_in R.memory parts.old) dir }
     requires name { IsName name.now }
-    requires slot { slot ≡ empty_slot (current_words (R.memory parts.old.region)) dir }
-    requires new { slot_named (current_words (R.memory parts.old.region)) dir name.now ≡ None }
+    requires slot { slot ≡ empty_slot (image_in R.memory parts.old) dir }
+    requires new { slot_named (image_in R.memory parts.old) dir name.now ≡ None }
     requires room { HasRoomToCreate (R.memory parts.old.region) (kept_of parts.old) parts.old.blocks dir }
     ensures { CreatesOrLacksSpace R.memory parts.old parts.new result dir name.now kind }
 {
@@ -239,11 +238,11 @@ pub fn create<R: Region>(
     name: &[u8],
     kind: Kind,
 ) -> Result<(), NoSpace>
-    requires mounted { IsMounted (current_words (R.memory parts.old.region)) parts.old }
-    requires reached { IsReached (current_words (R.memory parts.old.region)) dir }
-    requires directory { IsDirectory (current_words (R.memory parts.old.region)) dir }
+    requires mounted { IsMountedIn R.memory parts.old }
+    requires reached { IsReached (image_in R.memory parts.old) dir }
+    requires directory { IsDirectory (image_in R.memory parts.old) dir }
     requires name { IsName name.now }
-    requires new { slot_named (current_words (R.memory parts.old.region)) dir name.now ≡ None }
+    requires new { slot_named (image_in R.memory parts.old) dir name.now ≡ None }
     requires room { HasRoomToCreate (R.memory parts.old.region) (kept_of parts.old) parts.old.blocks dir }
     ensures { CreatesOrLacksSpace R.memory parts.old parts.new result dir name.now kind }
 {

@@ -1,11 +1,13 @@
 //! Entry of a name and its inode in a directory: in an empty entry, or in one after the last.
 
 ghost use Rattle.std.specs.Prelude.{Some, ◌≡◌, ◌≤◌, length};
+ghost use Rattle.bp_free.specs.Parts.{KeepsSets};
 ghost use Rattle.bp_shapes.specs.Sets.{kept_of};
 ghost use Rattle.bp_calls.specs.Created.{CountsName, EntersName};
 ghost use Rattle.bp_calls.specs.Entries.{AreEntryBytes, PutsEntry, entry_byte};
 ghost use Rattle.bp_calls.specs.NewEntry.{EntersInSlot, PerformsEntry, TakesFreeInode, TakesOnlyInode};
 ghost use Rattle.bp_calls.specs.Steps.{CanEnterBehind, CanName, CanPutBehind, entering_room, name_need};
+ghost use Rattle.bp_calls.specs.Mounted.{image_in};
 ghost use Rattle.bp_layout.specs.Directory.{empty_slot};
 ghost use Rattle.bp_layout.specs.Inode.{IsDirectory, root_of, size_of};
 ghost use Rattle.bp_layout.specs.Need.Change.{enters};
@@ -14,7 +16,7 @@ ghost use Rattle.bp_layout.specs.Reached.{IsReached};
 ghost use Rattle.bp_layout.specs.Thaw.{targets};
 ghost use Rattle.bp_layout.specs.WellFormed.{IsWellFormed};
 ghost use Rattle.bp_thaw.specs.Thaws.{paths_in};
-ghost use Rattle.pm_region.specs.Memory.{current_words, room_in};
+ghost use Rattle.pm_region.specs.Memory.{words_in, room_in};
 
 use crate::targets::{Targets, entry_path, push_end};
 use bp_append::prep;
@@ -36,11 +38,11 @@ const NAME_AT: usize = 2 * WORD;
 /// Returns the words near which a name of a directory is stored, given its least empty slot: the inode number of the
 /// entry there, or else the size, which then includes an entry after the last one.
 pub(crate) fn entering<R: Region>(region: &R, dir: u32, slot: Option<u64>) -> Targets
-    requires well_formed { IsWellFormed (current_words (R.memory region.now)) }
-    requires reached { IsReached (current_words (R.memory region.now)) dir }
-    requires directory { IsDirectory (current_words (R.memory region.now)) dir }
-    requires slot { slot ≡ empty_slot (current_words (R.memory region.now)) dir }
-    ensures paths { paths_in result ≡ targets (current_words (R.memory region.now)) (enters dir linked) }
+    requires well_formed { IsWellFormed (words_in R.memory region.now) }
+    requires reached { IsReached (words_in R.memory region.now) dir }
+    requires directory { IsDirectory (words_in R.memory region.now) dir }
+    requires slot { slot ≡ empty_slot (words_in R.memory region.now) dir }
+    ensures paths { paths_in result ≡ targets (words_in R.memory region.now) (enters dir linked) }
     ensures few { length result.items ≤ 3 }
 {
     let mut targets = Targets::new();
@@ -64,13 +66,12 @@ pub(crate) fn enter_slot<R: Region>(
     name: &[u8],
     kind: Kind,
 )
-    requires can { CanName (current_words (R.memory region.old)) dir inode name.now }
-    requires found { empty_slot (current_words (R.memory region.old)) dir ≡ Some slot }
-    requires room { entering_room (name_need (current_words (R.memory region.old)) dir)
-        ≤ room_in (R.memory region.old) }
+    requires can { CanName (words_in R.memory region.old) dir inode name.now }
+    requires found { empty_slot (words_in R.memory region.old) dir ≡ Some slot }
+    requires room { entering_room (name_need (words_in R.memory region.old) dir) ≤ room_in (R.memory region.old) }
     ensures performs { EntersInSlot (R.memory region.old) (R.memory region.new) dir slot inode name.now kind }
     ensures exact { TakesOnlyInode (R.memory region.old) (R.memory region.new) inode }
-    ensures counts { CountsName (current_words (R.memory region.old)) (current_words (R.memory region.new)) inode }
+    ensures counts { CountsName (words_in R.memory region.old) (words_in R.memory region.new) inode }
 {
     let tree = tree_of(region, dir);
     let entry = entry_place(region, tree, slot, 0);
@@ -110,13 +111,10 @@ fn entry_bytes(inode: u32, name: &[u8]) -> [u8; ENTRY_SIZE as usize]
 /// one more entry.
 pub fn put_behind<R: Region>(parts: &mut Parts<R>, dir: u32, tree: Tree, inode: u32, name: &[u8])
     requires can { CanPutBehind (kept_of parts.old) (R.memory parts.old.region) parts.old.blocks dir name.now }
-    requires root { tree.root ≡ root_of (current_words (R.memory parts.old.region)) dir }
-    requires size { tree.size ≡ size_of (current_words (R.memory parts.old.region)) dir }
+    requires root { tree.root ≡ root_of (image_in R.memory parts.old) dir }
+    requires size { tree.size ≡ size_of (image_in R.memory parts.old) dir }
     ensures puts { PutsEntry R.memory parts.old parts.new dir inode name.now }
-    ensures blocks { length parts.new.blocks ≡ length parts.old.blocks }
-    ensures inodes { parts.new.inodes ≡ parts.old.inodes }
-    ensures counts { parts.new.counts ≡ parts.old.counts }
-    ensures frozen { parts.new.frozen ≡ parts.old.frozen }
+    ensures keeps { KeepsSets parts.old parts.new }
 {
     let end = tree.size + ENTRY_SIZE;
     let at = root_path(&parts.region, dir);
@@ -145,11 +143,8 @@ pub(crate) fn enter_behind<R: Region>(
         (EntersName dir name.now kind) }
     ensures exact { TakesFreeInode (kept_of parts.old) (R.memory parts.old.region) (R.memory parts.new.region) parts.old.blocks
         parts.new.blocks inode }
-    ensures counts { CountsName (current_words (R.memory parts.old.region))
-        (current_words (R.memory parts.new.region)) inode }
-    ensures inodes { parts.new.inodes ≡ parts.old.inodes }
-    ensures counted { parts.new.counts ≡ parts.old.counts }
-    ensures frozen { parts.new.frozen ≡ parts.old.frozen }
+    ensures counts { CountsName (image_in R.memory parts.old) (image_in R.memory parts.new) inode }
+    ensures keeps { KeepsSets parts.old parts.new }
 {
     let tree = tree_of(&parts.region, dir);
     let size_place = place(&parts.region, dir, SIZE_FIELD);

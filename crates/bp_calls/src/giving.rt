@@ -7,7 +7,7 @@ ghost use Rattle.bp_free.specs.Set.{has};
 ghost use Rattle.bp_layout.specs.Tree.{HasBlock, IsSound, span};
 ghost use Rattle.bp_layout.specs.Words.{block_count};
 ghost use Rattle.bp_shapes.specs.Freed.{IsGivenUp};
-ghost use Rattle.pm_region.specs.Memory.{current_words};
+ghost use Rattle.pm_region.specs.Memory.{words_in};
 
 use bp_free::Blocks;
 use bp_tree::{Tree, child};
@@ -35,13 +35,13 @@ pub fn give_back<R: Region>(
     blocks: &mut Blocks,
     frozen: &Blocks,
 )
-    requires sound { IsSound (current_words (R.memory region.now)) tree.root tree.size }
-    requires room { length blocks.old ≡ block_count (current_words (R.memory region.now)) }
-    requires known { length frozen.now ≡ block_count (current_words (R.memory region.now)) }
-    requires taken { (b : ℕ) → HasBlock (current_words (R.memory region.now)) tree.root tree.size b →
+    requires sound { IsSound (words_in R.memory region.now) tree.root tree.size }
+    requires room { length blocks.old ≡ block_count (words_in R.memory region.now) }
+    requires known { length frozen.now ≡ block_count (words_in R.memory region.now) }
+    requires taken { (b : ℕ) → HasBlock (words_in R.memory region.now) tree.root tree.size b →
         has blocks.old b ≡ false }
     ensures { GivesBack (has frozen.now)
-        (IsGivenUp (current_words (R.memory region.now)) tree.root tree.size shorter) blocks.old blocks.new }
+        (IsGivenUp (words_in R.memory region.now) tree.root tree.size shorter) blocks.old blocks.new }
 {
     let _words = region.words();
     if tree.size <= shorter {

@@ -3,10 +3,11 @@
 ghost use Rattle.std.specs.Prelude.{◌≡◌, ◌+◌, ◌≤◌, length};
 ghost use Rattle.bp_calls.specs.FewBlocks.{most_for_leaf};
 ghost use Rattle.bp_calls.specs.Growth.{CanGrowInodes, GrowsInodes, growth_need};
+ghost use Rattle.bp_calls.specs.Mounted.{image_in, IsExactIn};
 ghost use Rattle.bp_free.specs.Set.{members};
 ghost use Rattle.bp_layout.specs.WellFormed.{IsWellFormed};
-ghost use Rattle.bp_shapes.specs.Sets.{IsExact, kept_of};
-ghost use Rattle.pm_region.specs.Memory.{current_words};
+ghost use Rattle.bp_shapes.specs.Sets.{kept_of};
+ghost use Rattle.pm_region.specs.Memory.{words_in};
 
 use bp_append::{need_prep, prep};
 use bp_free::Parts;
@@ -17,8 +18,8 @@ use pm_region::Region;
 
 /// Returns the number of blocks that [`grow`] takes.
 pub(crate) fn grow_need<R: Region>(region: &R) -> u32
-    requires { IsWellFormed (current_words (R.memory region.now)) }
-    ensures need { result ≡ growth_need (current_words (R.memory region.now)) }
+    requires { IsWellFormed (words_in R.memory region.now) }
+    ensures need { result ≡ growth_need (words_in R.memory region.now) }
     ensures few { result ≤ most_for_leaf }
 {
     let inodes = inode_file(region);
@@ -32,12 +33,12 @@ pub(crate) fn grow_need<R: Region>(region: &R) -> u32
 /// makes no further inode reachable.
 pub(crate) fn grow<R: Region>(parts: &mut Parts<R>)
     requires can { CanGrowInodes (kept_of parts.old) (R.memory parts.old.region) parts.old.blocks parts.old.inodes }
-    requires exact { IsExact (current_words (R.memory parts.old.region)) parts.old }
+    requires exact { IsExactIn R.memory parts.old }
     ensures grows { GrowsInodes (kept_of parts.old) (R.memory parts.old.region) (R.memory parts.new.region) }
-    ensures exact { IsExact (current_words (R.memory parts.new.region)) parts.new }
+    ensures exact { IsExactIn R.memory parts.new }
     ensures frozen { parts.new.frozen ≡ parts.old.frozen }
     ensures left { length (members parts.old.blocks) ≡
-        growth_need (current_words (R.memory parts.old.region)) + length (members parts.new.blocks) }
+        growth_need (image_in R.memory parts.old) + length (members parts.new.blocks) }
 {
     let size = inode_file(&parts.region).size;
     let end = size + BLOCK_SIZE;

@@ -1,9 +1,10 @@
 //! Hard links.
 
 ghost use Rattle.std.specs.Prelude.{Some, ◌≡◌, ◌≤◌, None, IfErr, OnErr, OnOk};
+ghost use Rattle.bp_free.specs.Parts.{KeepsSets};
 ghost use Rattle.bp_calls.specs.Commits.{CommitsChange, CommitsOrLacksSpace};
 ghost use Rattle.bp_calls.specs.Created.{CountsMore, LinksEntry};
-ghost use Rattle.bp_calls.specs.Mounted.{IsMounted};
+ghost use Rattle.bp_calls.specs.Mounted.{image_in, IsExactIn, IsMountedIn};
 ghost use Rattle.bp_calls.specs.NewEntry.{KeepsFree, KeepsFreeInodes, LinksInSlot, PerformsEntry};
 ghost use Rattle.bp_calls.specs.Space.{HasRoomWhereFree, LacksSpace};
 ghost use Rattle.bp_calls.specs.Steps.{CanLink, CanLinkBehind, CanShare, entering_room, name_need};
@@ -15,8 +16,8 @@ ghost use Rattle.bp_layout.specs.Inode.{IsDirectory, IsFile};
 ghost use Rattle.bp_layout.specs.Need.Change.{enters};
 ghost use Rattle.bp_layout.specs.Need.Entrant.{linked};
 ghost use Rattle.bp_layout.specs.Reached.{IsReached};
-ghost use Rattle.bp_shapes.specs.Sets.{IsExact, kept_of};
-ghost use Rattle.pm_region.specs.Memory.{current_words, room_in};
+ghost use Rattle.bp_shapes.specs.Sets.{kept_of};
+ghost use Rattle.pm_region.specs.Memory.{words_in, room_in};
 
 use crate::creating::entry_need;
 use crate::entering::{entering, put_behind};
@@ -31,13 +32,12 @@ use pm_region::Region;
 /// Enters a name for an existing file in an empty entry of a directory, if the block of the entry is not kept for the
 /// snapshot.
 fn link_slot<R: Region>(region: &mut R, dir: u32, slot: u64, i: u32, name: &[u8])
-    requires can { CanLink (current_words (R.memory region.old)) dir i name.now }
-    requires found { empty_slot (current_words (R.memory region.old)) dir ≡ Some slot }
-    requires room { entering_room (name_need (current_words (R.memory region.old)) dir)
-        ≤ room_in (R.memory region.old) }
+    requires can { CanLink (words_in R.memory region.old) dir i name.now }
+    requires found { empty_slot (words_in R.memory region.old) dir ≡ Some slot }
+    requires room { entering_room (name_need (words_in R.memory region.old) dir) ≤ room_in (R.memory region.old) }
     ensures performs { LinksInSlot (R.memory region.old) (R.memory region.new) dir slot name.now i }
     ensures exact { KeepsFree (R.memory region.old) (R.memory region.new) }
-    ensures counts { CountsMore (current_words (R.memory region.old)) (current_words (R.memory region.new)) i }
+    ensures counts { CountsMore (words_in R.memory region.old) (words_in R.memory region.new) i }
 {
     let tree = tree_of(region, dir);
     let entry = entry_place(region, tree, slot, 0);
@@ -52,11 +52,8 @@ fn link_behind<R: Region>(parts: &mut Parts<R>, dir: u32, i: u32, name: &[u8])
         (LinksEntry dir name.now i) }
     ensures exact { KeepsFreeInodes (kept_of parts.old) (R.memory parts.old.region) (R.memory parts.new.region) parts.old.blocks
         parts.new.blocks }
-    ensures counts { CountsMore (current_words (R.memory parts.old.region))
-        (current_words (R.memory parts.new.region)) i }
-    ensures inodes { parts.new.inodes ≡ parts.old.inodes }
-    ensures counted { parts.new.counts ≡ parts.old.counts }
-    ensures frozen { parts.new.frozen ≡ parts.old.frozen }
+    ensures counts { CountsMore (image_in R.memory parts.old) (image_in R.memory parts.new) i }
+    ensures keeps { KeepsSets parts.old parts.new }
 {
     let tree = tree_of(&parts.region, dir);
     let size_place = place(&parts.region, dir, SIZE_FIELD);
@@ -73,14 +70,14 @@ fn link_behind<R: Region>(parts: &mut Parts<R>, dir: u32, i: u32, name: &[u8])
 ///
 /// - `NoSpace`: fewer blocks are free than the thaw and the name take. It is returned in exactly this case.
 fn thaw_linked<R: Region>(parts: &mut Parts<R>, dir: u32, slot: Option<u64>) -> Result<(), NoSpace>
-    requires mounted { IsMounted (current_words (R.memory parts.old.region)) parts.old }
-    requires reached { IsReached (current_words (R.memory parts.old.region)) dir }
-    requires directory { IsDirectory (current_words (R.memory parts.old.region)) dir }
-    requires slot { slot ≡ empty_slot (current_words (R.memory parts.old.region)) dir }
+    requires mounted { IsMountedIn R.memory parts.old }
+    requires reached { IsReached (image_in R.memory parts.old) dir }
+    requires directory { IsDirectory (image_in R.memory parts.old) dir }
+    requires slot { slot ≡ empty_slot (image_in R.memory parts.old) dir }
     requires room { HasRoomWhereFree (R.memory parts.old.region) (kept_of parts.old) parts.old.blocks (enters dir linked) }
     ensures thaws { OnOk result (ThawsBefore R.memory parts.old parts.new (enters dir linked)) }
     ensures thawed { OnOk result (AreThawedFor R.memory parts.new (enters dir linked)) }
-    ensures refused { IfErr result (λ lacks. LacksSpace (current_words (R.memory parts.old.region)) (kept_of parts.old)
+    ensures refused { IfErr result (λ lacks. LacksSpace (image_in R.memory parts.old) (kept_of parts.old)
         (enters dir linked) lacks) }
     ensures same { OnErr result (parts.new ≡ parts.old) }
 {
@@ -100,8 +97,8 @@ fn thaw_linked<R: Region>(parts: &mut Parts<R>, dir: u32, slot: Option<u64>) -> 
 /// thaw.
 fn share<R: Region>(parts: &mut Parts<R>, dir: u32, slot: Option<u64>, name: &[u8], i: u32)
     requires can { CanShare (kept_of parts.old) (R.memory parts.old.region) parts.old.blocks parts.old.inodes dir i name.now }
-    requires exact { IsExact (current_words (R.memory parts.old.region)) parts.old }
-    requires slot { slot ≡ empty_slot (current_words (R.memory parts.old.region)) dir }
+    requires exact { IsExactIn R.memory parts.old }
+    requires slot { slot ≡ empty_slot (image_in R.memory parts.old) dir }
     ensures { CommitsChange R.memory parts.old parts.new (enters dir linked) (LinksEntry dir name.now i) }
 {
     let names = parts.counts.names(i);
@@ -126,14 +123,14 @@ pub fn link_in<R: Region>(
     name: &[u8],
     i: u32,
 ) -> Result<(), NoSpace>
-    requires mounted { IsMounted (current_words (R.memory parts.old.region)) parts.old }
-    requires reached { IsReached (current_words (R.memory parts.old.region)) dir }
-    requires directory { IsDirectory (current_words (R.memory parts.old.region)) dir }
+    requires mounted { IsMountedIn R.memory parts.old }
+    requires reached { IsReached (image_in R.memory parts.old) dir }
+    requires directory { IsDirectory (image_in R.memory parts.old) dir }
     requires name { IsName name.now }
-    requires slot { slot ≡ empty_slot (current_words (R.memory parts.old.region)) dir }
-    requires new { slot_named (current_words (R.memory parts.old.region)) dir name.now ≡ None }
-    requires there { IsReached (current_words (R.memory parts.old.region)) i }
-    requires file { IsFile (current_words (R.memory parts.old.region)) i }
+    requires slot { slot ≡ empty_slot (image_in R.memory parts.old) dir }
+    requires new { slot_named (image_in R.memory parts.old) dir name.now ≡ None }
+    requires there { IsReached (image_in R.memory parts.old) i }
+    requires file { IsFile (image_in R.memory parts.old) i }
     requires room { HasRoomWhereFree (R.memory parts.old.region) (kept_of parts.old) parts.old.blocks (enters dir linked) }
     ensures { CommitsOrLacksSpace R.memory parts.old parts.new result (enters dir linked) (LinksEntry dir name.now i) }
 {

@@ -7,7 +7,7 @@ ghost use Rattle.bp_layout.specs.Directory.{entry_count};
 ghost use Rattle.bp_layout.specs.Inode.{IsDirectory};
 ghost use Rattle.bp_layout.specs.Reached.{IsReached};
 ghost use Rattle.bp_layout.specs.WellFormed.{IsWellFormed};
-ghost use Rattle.pm_region.specs.Memory.{current_words};
+ghost use Rattle.pm_region.specs.Memory.{words_in};
 
 use bp_dirs::{EntryView, count};
 use bp_inodes::{get, tree_of};
@@ -26,10 +26,10 @@ const ENTRY: usize = ENTRY_WORDS as usize;
 ///
 /// - `AllocError`: allocation fails.
 pub fn list<R: Region>(alloc: Global, region: &R, i: u32) -> Result<Listing, AllocError>
-    requires well_formed { IsWellFormed (current_words (R.memory region.now)) }
-    requires reached { IsReached (current_words (R.memory region.now)) i }
-    requires directory { IsDirectory (current_words (R.memory region.now)) i }
-    ensures { IfOk result (λ names. ListsNames (current_words (R.memory region.now)) i names) }
+    requires well_formed { IsWellFormed (words_in R.memory region.now) }
+    requires reached { IsReached (words_in R.memory region.now) i }
+    requires directory { IsDirectory (words_in R.memory region.now) i }
+    ensures { IfOk result (λ names. ListsNames (words_in R.memory region.now) i names) }
 {
     let mut listing = entries(alloc, region, i)?;
     listing.sort();
@@ -38,10 +38,10 @@ pub fn list<R: Region>(alloc: Global, region: &R, i: u32) -> Result<Listing, All
 
 /// Returns the kinds and names of the entries of directory `i` that refer to an inode, in the order of their slots.
 fn entries<R: Region>(alloc: Global, region: &R, i: u32) -> Result<Listing, AllocError>
-    requires well_formed { IsWellFormed (current_words (R.memory region.now)) }
-    requires reached { IsReached (current_words (R.memory region.now)) i }
-    requires directory { IsDirectory (current_words (R.memory region.now)) i }
-    ensures { let image = current_words (R.memory region.now) in
+    requires well_formed { IsWellFormed (words_in R.memory region.now) }
+    requires reached { IsReached (words_in R.memory region.now) i }
+    requires directory { IsDirectory (words_in R.memory region.now) i }
+    ensures { let image = words_in R.memory region.now in
         IfOk result (λ listing. listing ≡ entries_seen image i (entry_count image i)) }
 {
     let tree = tree_of(region, i);
@@ -58,9 +58,9 @@ fn entries<R: Region>(alloc: Global, region: &R, i: u32) -> Result<Listing, Allo
 
 /// Adds the kinds and names of those of some consecutive entries of a directory that refer to an inode.
 fn list_row<R: Region>(region: &R, words: &[u64], listing: &mut Listing) -> Result<(), AllocError>
-    requires well_formed { IsWellFormed (current_words (R.memory region.now)) }
-    requires entries { AreEntries (current_words (R.memory region.now)) words.now }
-    ensures { OnOk result (AddsEntries (current_words (R.memory region.now)) words.now listing.old listing.new) }
+    requires well_formed { IsWellFormed (words_in R.memory region.now) }
+    requires entries { AreEntries (words_in R.memory region.now) words.now }
+    ensures { OnOk result (AddsEntries (words_in R.memory region.now) words.now listing.old listing.new) }
 {
     for index in 0..words.len() / ENTRY {
         let view = EntryView::new(&words[ENTRY * index..ENTRY * index + ENTRY]);
@@ -75,9 +75,9 @@ fn list_entry<R: Region>(
     view: EntryView<'_>,
     listing: &mut Listing,
 ) -> Result<(), AllocError>
-    requires well_formed { IsWellFormed (current_words (R.memory region.now)) }
-    requires entry { IsEntryRow (current_words (R.memory region.now)) view.words.now }
-    ensures { OnOk result (AddsEntry (current_words (R.memory region.now)) view.entry.words.now listing.old listing.new) }
+    requires well_formed { IsWellFormed (words_in R.memory region.now) }
+    requires entry { IsEntryRow (words_in R.memory region.now) view.words.now }
+    ensures { OnOk result (AddsEntry (words_in R.memory region.now) view.entry.words.now listing.old listing.new) }
 {
     let inumber = view.inumber();
     if inumber == 0 {

@@ -2,12 +2,12 @@
 
 ghost use Rattle.std.specs.Prelude.{◌≡◌, ◌≤◌, drop, length, take};
 ghost use Rattle.bp_calls.specs.Asked.{bytes_of, stat_of};
-ghost use Rattle.bp_calls.specs.Mounted.{IsMounted};
+ghost use Rattle.bp_calls.specs.Mounted.{image_in, IsMountedIn};
 ghost use Rattle.bp_layout.specs.Inode.{IsFile};
 ghost use Rattle.bp_layout.specs.Names.{HasNames};
 ghost use Rattle.bp_layout.specs.Reached.{IsReached};
 ghost use Rattle.bp_layout.specs.WellFormed.{IsWellFormed};
-ghost use Rattle.pm_region.specs.Memory.{current_words};
+ghost use Rattle.pm_region.specs.Memory.{words_in};
 
 use bp_dirs::count;
 use bp_free::Parts;
@@ -19,11 +19,11 @@ use pm_region::Region;
 /// Reads bytes of a file from an offset on, and returns their number: as many as `into` has room for and the file has
 /// from there on. At and past the end of the file there are none. The rest of `into` is unchanged.
 pub fn read<R: Region>(region: &R, i: u32, off: u64, into: &mut [u8]) -> usize
-    requires well_formed { IsWellFormed (current_words (R.memory region.now)) }
-    requires reached { IsReached (current_words (R.memory region.now)) i }
-    requires file { IsFile (current_words (R.memory region.now)) i }
+    requires well_formed { IsWellFormed (words_in R.memory region.now) }
+    requires reached { IsReached (words_in R.memory region.now) i }
+    requires file { IsFile (words_in R.memory region.now) i }
     ensures bytes { take result into.new ≡
-        take (length into.old) (drop off (bytes_of (current_words (R.memory region.now)) i)) }
+        take (length into.old) (drop off (bytes_of (words_in R.memory region.now) i)) }
     ensures fits { result ≤ length into.new }
     ensures rest { drop result into.new ≡ drop result into.old }
 {
@@ -32,10 +32,10 @@ pub fn read<R: Region>(region: &R, i: u32, off: u64, into: &mut [u8]) -> usize
 
 /// Returns the size in bytes of a file, or the number of names of a directory.
 pub fn stat<R: Region>(region: &R, i: u32) -> Stat
-    requires well_formed { IsWellFormed (current_words (R.memory region.now)) }
-    requires reached { IsReached (current_words (R.memory region.now)) i }
+    requires well_formed { IsWellFormed (words_in R.memory region.now) }
+    requires reached { IsReached (words_in R.memory region.now) i }
     requires inode { 1 ≤ i }
-    ensures { result ≡ stat_of (current_words (R.memory region.now)) i }
+    ensures { result ≡ stat_of (words_in R.memory region.now) i }
 {
     let inode = get(region, i);
     let tree = Tree {
@@ -52,9 +52,9 @@ pub fn stat<R: Region>(region: &R, i: u32) -> Stat
 
 /// Returns the number of links of an inode.
 pub fn links<R: Region>(parts: &Parts<R>, i: u32) -> u32
-    requires mounted { IsMounted (current_words (R.memory parts.now.region)) parts.now }
-    requires reached { IsReached (current_words (R.memory parts.now.region)) i }
-    ensures { HasNames (current_words (R.memory parts.now.region)) i result }
+    requires mounted { IsMountedIn R.memory parts.now }
+    requires reached { IsReached (image_in R.memory parts.now) i }
+    ensures { HasNames (image_in R.memory parts.now) i result }
 {
     parts.counts.names(i)
 }

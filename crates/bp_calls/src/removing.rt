@@ -2,7 +2,7 @@
 
 ghost use Rattle.std.specs.Prelude.{◌≡◌, ◌≤◌, [], IfErr, OnErr, OnOk};
 ghost use Rattle.bp_calls.specs.Commits.{CommitsChange, CommitsOrLacksSpace};
-ghost use Rattle.bp_calls.specs.Mounted.{IsMounted};
+ghost use Rattle.bp_calls.specs.Mounted.{image_in, IsMountedIn};
 ghost use Rattle.bp_calls.specs.Space.{HasRoomWhereFree, LacksSpace};
 ghost use Rattle.bp_calls.specs.ThawsFor.{ThawsBefore};
 ghost use Rattle.bp_changes.specs.Effects.{CanUnlink, RemovesEntry};
@@ -10,7 +10,7 @@ ghost use Rattle.bp_layout.specs.Directory.{inumber_at};
 ghost use Rattle.bp_layout.specs.Need.Change.{leaves};
 ghost use Rattle.bp_layout.specs.Thaw.{thawed};
 ghost use Rattle.bp_shapes.specs.Sets.{kept_of};
-ghost use Rattle.pm_region.specs.Memory.{current_words, room_in};
+ghost use Rattle.pm_region.specs.Memory.{room_in};
 
 use crate::giving::give_back;
 use crate::targets::leaving;
@@ -29,14 +29,13 @@ use pm_region::Region;
 ///
 /// - `NoSpace`: fewer blocks are free than the thaw takes. It is returned in exactly this case.
 fn thaw_entry<R: Region>(parts: &mut Parts<R>, dir: u32, slot: u64) -> Result<(), NoSpace>
-    requires mounted { IsMounted (current_words (R.memory parts.old.region)) parts.old }
-    requires can { CanUnlink (current_words (R.memory parts.old.region)) dir slot
-        (inumber_at (current_words (R.memory parts.old.region)) dir slot) }
+    requires mounted { IsMountedIn R.memory parts.old }
+    requires can { CanUnlink (image_in R.memory parts.old) dir slot
+        (inumber_at (image_in R.memory parts.old) dir slot) }
     requires room { HasRoomWhereFree (R.memory parts.old.region) (kept_of parts.old) parts.old.blocks (leaves dir slot) }
     ensures thaws { OnOk result (ThawsBefore R.memory parts.old parts.new (leaves dir slot)) }
     ensures room { OnOk result (3 ≤ room_in (R.memory parts.new.region)) }
-    ensures refused { IfErr result (LacksSpace (current_words (R.memory parts.old.region)) (kept_of parts.old)
-        (leaves dir slot)) }
+    ensures refused { IfErr result (LacksSpace (image_in R.memory parts.old) (kept_of parts.old) (leaves dir slot)) }
     ensures same { OnErr result (parts.new ≡ parts.old) }
 {
     if parts.frozen.count() == 0 {
@@ -48,10 +47,10 @@ fn thaw_entry<R: Region>(parts: &mut Parts<R>, dir: u32, slot: u64) -> Result<()
 
 /// Does what [`remove`] does once no block is left to thaw.
 fn take_out<R: Region>(parts: &mut Parts<R>, dir: u32, slot: u64)
-    requires mounted { IsMounted (current_words (R.memory parts.old.region)) parts.old }
-    requires can { CanUnlink (current_words (R.memory parts.old.region)) dir slot
-        (inumber_at (current_words (R.memory parts.old.region)) dir slot) }
-    requires clear { thawed (current_words (R.memory parts.old.region)) (kept_of parts.old) (leaves dir slot) ≡ [] }
+    requires mounted { IsMountedIn R.memory parts.old }
+    requires can { CanUnlink (image_in R.memory parts.old) dir slot
+        (inumber_at (image_in R.memory parts.old) dir slot) }
+    requires clear { thawed (image_in R.memory parts.old) (kept_of parts.old) (leaves dir slot) ≡ [] }
     requires room { 3 ≤ room_in (R.memory parts.old.region) }
     ensures { CommitsChange R.memory parts.old parts.new (leaves dir slot) (λ image after. RemovesEntry image after dir slot) }
 {
@@ -82,9 +81,9 @@ fn take_out<R: Region>(parts: &mut Parts<R>, dir: u32, slot: u64)
 ///
 /// - `NoSpace`: fewer blocks are free than the call needs. It is returned in exactly this case.
 pub fn remove<R: Region>(parts: &mut Parts<R>, dir: u32, slot: u64) -> Result<(), NoSpace>
-    requires mounted { IsMounted (current_words (R.memory parts.old.region)) parts.old }
-    requires can { CanUnlink (current_words (R.memory parts.old.region)) dir slot
-        (inumber_at (current_words (R.memory parts.old.region)) dir slot) }
+    requires mounted { IsMountedIn R.memory parts.old }
+    requires can { CanUnlink (image_in R.memory parts.old) dir slot
+        (inumber_at (image_in R.memory parts.old) dir slot) }
     requires room { HasRoomWhereFree (R.memory parts.old.region) (kept_of parts.old) parts.old.blocks (leaves dir slot) }
     ensures { CommitsOrLacksSpace R.memory parts.old parts.new result (leaves dir slot)
         (λ image after. RemovesEntry image after dir slot) }

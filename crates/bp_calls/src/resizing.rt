@@ -2,7 +2,7 @@
 
 ghost use Rattle.std.specs.Prelude.{◌≡◌, ◌≢◌, ◌<◌, ◌≤◌, [], IfErr, OnErr, OnOk, length};
 ghost use Rattle.bp_calls.specs.Commits.{CommitsChange, CommitsOrLacksSpace};
-ghost use Rattle.bp_calls.specs.Mounted.{IsMounted};
+ghost use Rattle.bp_calls.specs.Mounted.{image_in, IsExactIn, IsMountedIn};
 ghost use Rattle.bp_calls.specs.Space.{HasRoomThawed, HasRoomWhereFree, LacksSpace};
 ghost use Rattle.bp_calls.specs.ThawsFor.{ThawsBefore};
 ghost use Rattle.bp_layout.specs.Thaw.{thawed};
@@ -15,8 +15,8 @@ ghost use Rattle.bp_layout.specs.Need.Change.{resizes};
 ghost use Rattle.bp_layout.specs.Reached.{IsReached};
 ghost use Rattle.bp_layout.specs.Formatted.{version_of};
 ghost use Rattle.bp_limits.specs.CallLimits.{greatest_size};
-ghost use Rattle.bp_shapes.specs.Sets.{IsExact, kept_of};
-ghost use Rattle.pm_region.specs.Memory.{current_words, room_in};
+ghost use Rattle.bp_shapes.specs.Sets.{kept_of};
+ghost use Rattle.pm_region.specs.Memory.{room_in};
 
 use crate::giving::give_back;
 use crate::targets::{lengthening, shrinking};
@@ -32,8 +32,8 @@ use pm_region::Region;
 /// preparation makes its tree high enough and clears the rest of its last leaf, and then the size is stored.
 fn lengthen<R: Region>(parts: &mut Parts<R>, i: u32, size: u64)
     requires can { CanGrowFile (kept_of parts.old) (R.memory parts.old.region) parts.old.blocks parts.old.inodes i size }
-    requires exact { IsExact (current_words (R.memory parts.old.region)) parts.old }
-    requires enough { need (current_words (R.memory parts.old.region)) (resizes i size) ≤ length (members parts.old.blocks) }
+    requires exact { IsExactIn R.memory parts.old }
+    requires enough { need (image_in R.memory parts.old) (resizes i size) ≤ length (members parts.old.blocks) }
     ensures { CommitsChange R.memory parts.old parts.new (resizes i size) (ResizesFile i size) }
 {
     let size_place = place(&parts.region, i, SIZE_FIELD);
@@ -50,15 +50,14 @@ fn lengthen<R: Region>(parts: &mut Parts<R>, i: u32, size: u64)
 ///
 /// - `NoSpace`: fewer blocks are free than the thaw takes. It is returned in exactly this case.
 fn thaw_size<R: Region>(parts: &mut Parts<R>, i: u32, size: u64) -> Result<(), NoSpace>
-    requires mounted { IsMounted (current_words (R.memory parts.old.region)) parts.old }
-    requires reached { IsReached (current_words (R.memory parts.old.region)) i }
-    requires file { IsFile (current_words (R.memory parts.old.region)) i }
-    requires smaller { size < size_of (current_words (R.memory parts.old.region)) i }
+    requires mounted { IsMountedIn R.memory parts.old }
+    requires reached { IsReached (image_in R.memory parts.old) i }
+    requires file { IsFile (image_in R.memory parts.old) i }
+    requires smaller { size < size_of (image_in R.memory parts.old) i }
     requires room { HasRoomWhereFree (R.memory parts.old.region) (kept_of parts.old) parts.old.blocks (resizes i size) }
     ensures thaws { OnOk result (ThawsBefore R.memory parts.old parts.new (resizes i size)) }
     ensures room { OnOk result (3 ≤ room_in (R.memory parts.new.region)) }
-    ensures refused { IfErr result (LacksSpace (current_words (R.memory parts.old.region)) (kept_of parts.old)
-        (resizes i size)) }
+    ensures refused { IfErr result (LacksSpace (image_in R.memory parts.old) (kept_of parts.old) (resizes i size)) }
     ensures same { OnErr result (parts.new ≡ parts.old) }
 {
     if parts.frozen.count() == 0 {
@@ -71,11 +70,11 @@ fn thaw_size<R: Region>(parts: &mut Parts<R>, i: u32, size: u64) -> Result<(), N
 /// Does what [`shrink_file`] does once no block is left to thaw: it stores the size, and then frees the blocks that
 /// hold no byte below it and are not kept for the snapshot.
 fn shorten<R: Region>(parts: &mut Parts<R>, i: u32, size: u64)
-    requires mounted { IsMounted (current_words (R.memory parts.old.region)) parts.old }
-    requires reached { IsReached (current_words (R.memory parts.old.region)) i }
-    requires file { IsFile (current_words (R.memory parts.old.region)) i }
-    requires smaller { size < size_of (current_words (R.memory parts.old.region)) i }
-    requires clear { thawed (current_words (R.memory parts.old.region)) (kept_of parts.old) (resizes i size) ≡ [] }
+    requires mounted { IsMountedIn R.memory parts.old }
+    requires reached { IsReached (image_in R.memory parts.old) i }
+    requires file { IsFile (image_in R.memory parts.old) i }
+    requires smaller { size < size_of (image_in R.memory parts.old) i }
+    requires clear { thawed (image_in R.memory parts.old) (kept_of parts.old) (resizes i size) ≡ [] }
     requires room { 3 ≤ room_in (R.memory parts.old.region) }
     ensures { CommitsChange R.memory parts.old parts.new (resizes i size) (ResizesFile i size) }
 {
@@ -94,10 +93,10 @@ fn shorten<R: Region>(parts: &mut Parts<R>, i: u32, size: u64)
 ///
 /// - `NoSpace`: fewer blocks are free than the call needs. It is returned in exactly this case.
 fn shrink_file<R: Region>(parts: &mut Parts<R>, i: u32, size: u64) -> Result<(), NoSpace>
-    requires mounted { IsMounted (current_words (R.memory parts.old.region)) parts.old }
-    requires reached { IsReached (current_words (R.memory parts.old.region)) i }
-    requires file { IsFile (current_words (R.memory parts.old.region)) i }
-    requires smaller { size < size_of (current_words (R.memory parts.old.region)) i }
+    requires mounted { IsMountedIn R.memory parts.old }
+    requires reached { IsReached (image_in R.memory parts.old) i }
+    requires file { IsFile (image_in R.memory parts.old) i }
+    requires smaller { size < size_of (image_in R.memory parts.old) i }
     requires room { HasRoomWhereFree (R.memory parts.old.region) (kept_of parts.old) parts.old.blocks (resizes i size) }
     ensures { CommitsOrLacksSpace R.memory parts.old parts.new result (resizes i size) (ResizesFile i size) }
 {
@@ -120,18 +119,17 @@ fn shrink_file<R: Region>(parts: &mut Parts<R>, i: u32, size: u64) -> Result<(),
 /// - `NoSpace`: fewer blocks are free than the thaw takes, together with those that make the tree high enough. It is
 ///   returned in exactly this case.
 fn thaw_end<R: Region>(parts: &mut Parts<R>, i: u32, size: u64) -> Result<(), NoSpace>
-    requires mounted { IsMounted (current_words (R.memory parts.old.region)) parts.old }
-    requires reached { IsReached (current_words (R.memory parts.old.region)) i }
-    requires file { IsFile (current_words (R.memory parts.old.region)) i }
-    requires longer { size_of (current_words (R.memory parts.old.region)) i < size }
-    requires fits { size ≤ greatest_size (version_of (current_words (R.memory parts.old.region))) }
+    requires mounted { IsMountedIn R.memory parts.old }
+    requires reached { IsReached (image_in R.memory parts.old) i }
+    requires file { IsFile (image_in R.memory parts.old) i }
+    requires longer { size_of (image_in R.memory parts.old) i < size }
+    requires fits { size ≤ greatest_size (version_of (image_in R.memory parts.old)) }
     requires room { HasRoomWhereFree (R.memory parts.old.region) (kept_of parts.old) parts.old.blocks (resizes i size) }
     ensures thaws { OnOk result (ThawsBefore R.memory parts.old parts.new (resizes i size)) }
     ensures room { OnOk result (HasRoomThawed (R.memory parts.new.region) parts.new.blocks (resizes i size)) }
-    ensures enough { OnOk result (need (current_words (R.memory parts.new.region)) (resizes i size)
+    ensures enough { OnOk result (need (image_in R.memory parts.new) (resizes i size)
         ≤ length (members parts.new.blocks)) }
-    ensures refused { IfErr result (LacksSpace (current_words (R.memory parts.old.region)) (kept_of parts.old)
-        (resizes i size)) }
+    ensures refused { IfErr result (LacksSpace (image_in R.memory parts.old) (kept_of parts.old) (resizes i size)) }
     ensures same { OnErr result (parts.new ≡ parts.old) }
 {
     let tree = tree_of(&parts.region, i);
@@ -151,11 +149,11 @@ fn thaw_end<R: Region>(parts: &mut Parts<R>, i: u32, size: u64) -> Result<(), No
 ///
 /// - `NoSpace`: fewer blocks are free than the call needs. It is returned in exactly this case.
 fn grow_file<R: Region>(parts: &mut Parts<R>, i: u32, size: u64) -> Result<(), NoSpace>
-    requires mounted { IsMounted (current_words (R.memory parts.old.region)) parts.old }
-    requires reached { IsReached (current_words (R.memory parts.old.region)) i }
-    requires file { IsFile (current_words (R.memory parts.old.region)) i }
-    requires longer { size_of (current_words (R.memory parts.old.region)) i < size }
-    requires fits { size ≤ greatest_size (version_of (current_words (R.memory parts.old.region))) }
+    requires mounted { IsMountedIn R.memory parts.old }
+    requires reached { IsReached (image_in R.memory parts.old) i }
+    requires file { IsFile (image_in R.memory parts.old) i }
+    requires longer { size_of (image_in R.memory parts.old) i < size }
+    requires fits { size ≤ greatest_size (version_of (image_in R.memory parts.old)) }
     requires room { HasRoomWhereFree (R.memory parts.old.region) (kept_of parts.old) parts.old.blocks (resizes i size) }
     ensures { CommitsOrLacksSpace R.memory parts.old parts.new result (resizes i size) (ResizesFile i size) }
 {
@@ -179,11 +177,11 @@ fn grow_file<R: Region>(parts: &mut Parts<R>, i: u32, size: u64) -> Result<(), N
 ///   words to which it stores, and one for each level by which a tree becomes higher. It is returned in exactly this
 ///   case.
 pub fn truncate<R: Region>(parts: &mut Parts<R>, i: u32, size: u64) -> Result<(), NoSpace>
-    requires mounted { IsMounted (current_words (R.memory parts.old.region)) parts.old }
-    requires reached { IsReached (current_words (R.memory parts.old.region)) i }
-    requires file { IsFile (current_words (R.memory parts.old.region)) i }
-    requires fits { size ≤ greatest_size (version_of (current_words (R.memory parts.old.region))) }
-    requires changed { size ≢ size_of (current_words (R.memory parts.old.region)) i }
+    requires mounted { IsMountedIn R.memory parts.old }
+    requires reached { IsReached (image_in R.memory parts.old) i }
+    requires file { IsFile (image_in R.memory parts.old) i }
+    requires fits { size ≤ greatest_size (version_of (image_in R.memory parts.old)) }
+    requires changed { size ≢ size_of (image_in R.memory parts.old) i }
     requires room { HasRoomWhereFree (R.memory parts.old.region) (kept_of parts.old) parts.old.blocks (resizes i size) }
     ensures { CommitsOrLacksSpace R.memory parts.old parts.new result (resizes i size) (ResizesFile i size) }
 {

@@ -2,7 +2,7 @@
 
 ghost use Rattle.std.specs.Prelude.{◌≡◌, ◌+◌, ◌/◌, ◌<◌, ◌≤◌, [], ◌∷◌, ◌++◌, length};
 ghost use Rattle.bp_calls.specs.CanWrite.{CanWrite};
-ghost use Rattle.bp_calls.specs.Mounted.{IsMounted};
+ghost use Rattle.bp_calls.specs.Mounted.{image_in, IsMountedIn};
 ghost use Rattle.bp_calls.specs.NearEnd.{AreTargetsAcross, AreTargetsBehind, AreTargetsLonger, AreTargetsShorter, ForTree};
 ghost use Rattle.bp_changes.specs.Effects.{CanUnlink};
 ghost use Rattle.bp_layout.specs.Directory.{entry_count, inumber_at};
@@ -15,7 +15,7 @@ ghost use Rattle.bp_layout.specs.WellFormed.{IsWellFormed};
 ghost use Rattle.bp_layout.specs.Words.{height_of};
 ghost use Rattle.bp_limits.specs.Limits.{max_height};
 ghost use Rattle.bp_thaw.specs.Thaws.{paths_in};
-ghost use Rattle.pm_region.specs.Memory.{current_words};
+ghost use Rattle.pm_region.specs.Memory.{words_in};
 
 use crate::committing::{run_for, touched_by};
 use arrayvec::ArrayVec;
@@ -32,12 +32,12 @@ pub type Targets = ArrayVec<Slots, 8>;
 
 /// Returns the path of the word that holds a byte of a tree other than the inode file, given the tree.
 pub(crate) fn content_path<R: Region>(region: &R, i: u32, tree: Tree, off: u64) -> Slots
-    requires well_formed { IsWellFormed (current_words (R.memory region.now)) }
-    requires reached { IsReached (current_words (R.memory region.now)) i }
+    requires well_formed { IsWellFormed (words_in R.memory region.now) }
+    requires reached { IsReached (words_in R.memory region.now) i }
     requires some { 1 ≤ i }
-    requires root { tree.root ≡ root_of (current_words (R.memory region.now)) i }
-    requires below { off < size_of (current_words (R.memory region.now)) i }
-    ensures { result.items ≡ content_path_at (heights_now (current_words (R.memory region.now))) i (off / 8) }
+    requires root { tree.root ≡ root_of (words_in R.memory region.now) i }
+    requires below { off < size_of (words_in R.memory region.now) i }
+    ensures { result.items ≡ content_path_at (heights_now (words_in R.memory region.now)) i (off / 8) }
 {
     let mut path = root_path(region, i);
     let within = word_path(tree, off);
@@ -49,21 +49,21 @@ pub(crate) fn content_path<R: Region>(region: &R, i: u32, tree: Tree, off: u64) 
 
 /// Returns the path of the inode number of an entry.
 pub fn entry_path<R: Region>(region: &R, dir: u32, slot: u64) -> Slots
-    requires well_formed { IsWellFormed (current_words (R.memory region.now)) }
-    requires reached { IsReached (current_words (R.memory region.now)) dir }
+    requires well_formed { IsWellFormed (words_in R.memory region.now) }
+    requires reached { IsReached (words_in R.memory region.now) dir }
     requires some { 1 ≤ dir }
-    requires live { slot < entry_count (current_words (R.memory region.now)) dir }
-    ensures { result.items ≡ entry_path_at (heights_now (current_words (R.memory region.now))) dir slot 0 }
+    requires live { slot < entry_count (words_in R.memory region.now) dir }
+    ensures { result.items ≡ entry_path_at (heights_now (words_in R.memory region.now)) dir slot 0 }
 {
     content_path(region, dir, tree_of(region, dir), slot * ENTRY_SIZE)
 }
 
 /// Returns the target of the removal of the entry in `slot`: its inode number alone.
 pub(crate) fn leaving<R: Region>(region: &R, dir: u32, slot: u64) -> Targets
-    requires well_formed { IsWellFormed (current_words (R.memory region.now)) }
-    requires can { CanUnlink (current_words (R.memory region.now)) dir slot
-        (inumber_at (current_words (R.memory region.now)) dir slot) }
-    ensures { paths_in result ≡ targets (current_words (R.memory region.now)) (leaves dir slot) }
+    requires well_formed { IsWellFormed (words_in R.memory region.now) }
+    requires can { CanUnlink (words_in R.memory region.now) dir slot
+        (inumber_at (words_in R.memory region.now) dir slot) }
+    ensures { paths_in result ≡ targets (words_in R.memory region.now) (leaves dir slot) }
 {
     let mut targets = Targets::new();
     targets.push(entry_path(region, dir, slot));
@@ -72,9 +72,9 @@ pub(crate) fn leaving<R: Region>(region: &R, dir: u32, slot: u64) -> Targets
 
 /// Returns the target of making a file no longer: the word of its size alone.
 pub(crate) fn shrinking<R: Region>(region: &R, i: u32) -> Targets
-    requires well_formed { IsWellFormed (current_words (R.memory region.now)) }
-    requires reached { IsReached (current_words (R.memory region.now)) i }
-    ensures { AreTargetsShorter (current_words (R.memory region.now)) i (paths_in result) }
+    requires well_formed { IsWellFormed (words_in R.memory region.now) }
+    requires reached { IsReached (words_in R.memory region.now) i }
+    ensures { AreTargetsShorter (words_in R.memory region.now) i (paths_in result) }
 {
     let mut targets = Targets::new();
     targets.push(size_path(region, i));
@@ -94,11 +94,11 @@ fn copy_of(path: &Slots) -> Slots
 
 /// Returns a word, and those near which bytes past the size of a file are stored.
 fn with_end<R: Region>(region: &R, i: u32, word: Slots) -> Targets
-    requires well_formed { IsWellFormed (current_words (R.memory region.now)) }
-    requires reached { IsReached (current_words (R.memory region.now)) i }
+    requires well_formed { IsWellFormed (words_in R.memory region.now) }
+    requires reached { IsReached (words_in R.memory region.now) i }
     requires some { 1 ≤ i }
-    ensures { paths_in result ≡ word.items ∷ root_path_now (current_words (R.memory region.now)) i
-        ∷ end_path_now (current_words (R.memory region.now)) i ∷ [] }
+    ensures { paths_in result ≡ word.items ∷ root_path_now (words_in R.memory region.now) i
+        ∷ end_path_now (words_in R.memory region.now) i ∷ [] }
 {
     let mut targets = Targets::new();
     targets.push(word);
@@ -109,11 +109,11 @@ fn with_end<R: Region>(region: &R, i: u32, word: Slots) -> Targets
 /// Returns the targets of making a file longer, with zeros or with bytes past its size: the word of its size, and the
 /// end of its tree.
 pub(crate) fn lengthening<R: Region>(region: &R, i: u32) -> Targets
-    requires well_formed { IsWellFormed (current_words (R.memory region.now)) }
-    requires reached { IsReached (current_words (R.memory region.now)) i }
+    requires well_formed { IsWellFormed (words_in R.memory region.now) }
+    requires reached { IsReached (words_in R.memory region.now) i }
     requires some { 1 ≤ i }
-    ensures resizes { AreTargetsLonger (current_words (R.memory region.now)) i (paths_in result) }
-    ensures writes { AreTargetsBehind (current_words (R.memory region.now)) i (paths_in result) }
+    ensures resizes { AreTargetsLonger (words_in R.memory region.now) i (paths_in result) }
+    ensures writes { AreTargetsBehind (words_in R.memory region.now) i (paths_in result) }
 {
     with_end(region, i, size_path(region, i))
 }
@@ -121,10 +121,10 @@ pub(crate) fn lengthening<R: Region>(region: &R, i: u32) -> Targets
 /// Returns the targets of a write on both sides of a file's size: the pointer to the leaf with its inode, which holds
 /// both the word of its size and its root word, and the end of its tree.
 fn crossing<R: Region>(region: &R, i: u32) -> Targets
-    requires well_formed { IsWellFormed (current_words (R.memory region.now)) }
-    requires reached { IsReached (current_words (R.memory region.now)) i }
+    requires well_formed { IsWellFormed (words_in R.memory region.now) }
+    requires reached { IsReached (words_in R.memory region.now) i }
     requires some { 1 ≤ i }
-    ensures { AreTargetsAcross (current_words (R.memory region.now)) i (paths_in result) }
+    ensures { AreTargetsAcross (words_in R.memory region.now) i (paths_in result) }
 {
     let mut leaf = size_path(region, i);
     leaf.pop();
@@ -133,10 +133,10 @@ fn crossing<R: Region>(region: &R, i: u32) -> Targets
 
 /// Returns the target of a write below a file's size: the word that covers the bytes.
 fn covering<R: Region>(parts: &Parts<R>, i: u32, off: u64, bytes: &[u8]) -> Targets
-    requires mounted { IsMounted (current_words (R.memory parts.now.region)) parts.now }
-    requires can { CanWrite (current_words (R.memory parts.now.region)) i off bytes.now }
-    requires below { off + length bytes.now ≤ size_of (current_words (R.memory parts.now.region)) i }
-    ensures { paths_in result ≡ targets (current_words (R.memory parts.now.region)) (writes i off (length bytes.now)) }
+    requires mounted { IsMountedIn R.memory parts.now }
+    requires can { CanWrite (image_in R.memory parts.now) i off bytes.now }
+    requires below { off + length bytes.now ≤ size_of (image_in R.memory parts.now) i }
+    ensures { paths_in result ≡ targets (image_in R.memory parts.now) (writes i off (length bytes.now)) }
 {
     let tree = tree_of(&parts.region, i);
     let runs = [run_for(&parts.region, i, tree, off, bytes)];
@@ -147,9 +147,9 @@ fn covering<R: Region>(parts: &Parts<R>, i: u32, off: u64, bytes: &[u8]) -> Targ
 
 /// Returns the targets of a write.
 pub(crate) fn writing<R: Region>(parts: &Parts<R>, i: u32, off: u64, bytes: &[u8]) -> Targets
-    requires mounted { IsMounted (current_words (R.memory parts.now.region)) parts.now }
-    requires can { CanWrite (current_words (R.memory parts.now.region)) i off bytes.now }
-    ensures { paths_in result ≡ targets (current_words (R.memory parts.now.region)) (writes i off (length bytes.now)) }
+    requires mounted { IsMountedIn R.memory parts.now }
+    requires can { CanWrite (image_in R.memory parts.now) i off bytes.now }
+    ensures { paths_in result ≡ targets (image_in R.memory parts.now) (writes i off (length bytes.now)) }
 {
     let size = tree_of(&parts.region, i).size;
     if size <= off {

@@ -1,7 +1,7 @@
 //! Thaws before changes: copy-on-write of the blocks of the snapshot near the words of a change.
 
 ghost use Rattle.std.specs.Prelude.{◌≡◌, ◌+◌, ◌^◌, ◌<◌, ◌≤◌, IfErr, OnErr, OnOk, length};
-ghost use Rattle.bp_calls.specs.Mounted.{IsMounted};
+ghost use Rattle.bp_calls.specs.Mounted.{image_in, IsMountedIn};
 ghost use Rattle.bp_calls.specs.Space.{LacksBlocks};
 ghost use Rattle.bp_calls.specs.ThawsFor.{HasRoomToThaw, LacksBlocksToThaw, ThawsFor, thaw_count};
 ghost use Rattle.bp_free.specs.Set.{members};
@@ -10,7 +10,6 @@ ghost use Rattle.bp_layout.specs.WordPaths.{WordPath};
 ghost use Rattle.bp_shapes.specs.Sets.{kept_of};
 ghost use Rattle.bp_thaw.specs.Fronts.{IsWayIn};
 ghost use Rattle.bp_thaw.specs.Thaws.{paths_in};
-ghost use Rattle.pm_region.specs.Memory.{current_words};
 
 use crate::targets::Targets;
 use bp_free::{NoSpace, Parts};
@@ -23,9 +22,9 @@ use pm_region::Region;
 ///
 /// - `NoSpace`: fewer blocks are free.
 pub(crate) fn enough_free<R: Region>(parts: &Parts<R>, need: u32) -> Result<(), NoSpace>
-    requires { IsMounted (current_words (R.memory parts.now.region)) parts.now }
+    requires { IsMountedIn R.memory parts.now }
     ensures enough { OnOk result (need ≤ length (members parts.now.blocks)) }
-    ensures refused { IfErr result (LacksBlocks (current_words (R.memory parts.now.region)) (kept_of parts.now) need) }
+    ensures refused { IfErr result (LacksBlocks (image_in R.memory parts.now) (kept_of parts.now) need) }
     ensures free { IfErr result (λ lacks. lacks.free ≡ length (members parts.now.blocks)) }
 {
     let free = parts.blocks.count();
@@ -47,9 +46,8 @@ pub fn thaw_before<R: Region>(
     targets: &Targets,
     more: u32,
 ) -> Result<(), NoSpace>
-    requires mounted { IsMounted (current_words (R.memory parts.old.region)) parts.old }
-    requires ways { (path : WordPath) → Has (paths_in targets.now) path →
-        IsWayIn (current_words (R.memory parts.old.region)) path }
+    requires mounted { IsMountedIn R.memory parts.old }
+    requires ways { (path : WordPath) → Has (paths_in targets.now) path → IsWayIn (image_in R.memory parts.old) path }
     requires few { more < 2 ^ 31 }
     requires room { HasRoomToThaw R.memory (paths_in targets.now) parts.old more }
     ensures thaws { OnOk result (ThawsFor R.memory (paths_in targets.now) parts.old parts.new) }

@@ -4,8 +4,8 @@ ghost use Rattle.std.specs.Prelude.{◌≡◌, ◌+◌, ◌<◌, ◌≤◌, [], 
 ghost use Rattle.bp_calls.specs.Commits.{CommitsChange, CommitsOrLacksBlocks, CommitsOrLacksSpace};
 ghost use Rattle.bp_calls.specs.CanWrite.{CanWrite, CanWriteThawed};
 ghost use Rattle.bp_calls.specs.FewBlocks.{most_for_write};
-ghost use Rattle.bp_calls.specs.Mounted.{IsMounted};
-ghost use Rattle.bp_shapes.specs.Sets.{IsExact, kept_of};
+ghost use Rattle.bp_calls.specs.Mounted.{image_in, IsExactIn, IsMountedIn};
+ghost use Rattle.bp_shapes.specs.Sets.{kept_of};
 ghost use Rattle.bp_calls.specs.Space.{HasRoomThawed, HasRoomWhereFree, LacksSpace};
 ghost use Rattle.bp_calls.specs.ThawsFor.{ThawsBefore};
 ghost use Rattle.bp_free.specs.Set.{members};
@@ -14,7 +14,6 @@ ghost use Rattle.bp_calls.specs.WritesFile.{WritesFile};
 ghost use Rattle.bp_layout.specs.Inode.{root_of, size_of};
 ghost use Rattle.bp_layout.specs.Need.{need};
 ghost use Rattle.bp_layout.specs.Need.Change.{writes};
-ghost use Rattle.pm_region.specs.Memory.{current_words};
 
 mod across;
 
@@ -34,12 +33,12 @@ use pm_region::Region;
 
 /// Returns the number of blocks that bytes take that begin at or past the size of a file, given its tree.
 fn need_behind<R: Region>(parts: &Parts<R>, i: u32, tree: Tree, off: u64, bytes: &[u8]) -> u32
-    requires root { tree.root ≡ root_of (current_words (R.memory parts.now.region)) i }
-    requires size { tree.size ≡ size_of (current_words (R.memory parts.now.region)) i }
-    requires mounted { IsMounted (current_words (R.memory parts.now.region)) parts.now }
-    requires can { CanWrite (current_words (R.memory parts.now.region)) i off bytes.now }
-    requires behind { size_of (current_words (R.memory parts.now.region)) i ≤ off }
-    ensures need { result ≡ need (current_words (R.memory parts.now.region)) (writes i off (length bytes.now)) }
+    requires root { tree.root ≡ root_of (image_in R.memory parts.now) i }
+    requires size { tree.size ≡ size_of (image_in R.memory parts.now) i }
+    requires mounted { IsMountedIn R.memory parts.now }
+    requires can { CanWrite (image_in R.memory parts.now) i off bytes.now }
+    requires behind { size_of (image_in R.memory parts.now) i ≤ off }
+    ensures need { result ≡ need (image_in R.memory parts.now) (writes i off (length bytes.now)) }
     ensures few { result ≤ most_for_write }
 {
     need_prep(&parts.region, tree, off, off + bytes.len() as u64)
@@ -48,12 +47,12 @@ fn need_behind<R: Region>(parts: &Parts<R>, i: u32, tree: Tree, off: u64, bytes:
 /// Returns the number of blocks that bytes below the size of a file take, given its tree. It is one for each block on
 /// the paths to them from the word that covers them down, and 0 if they lie in one word.
 fn need_below<R: Region>(parts: &Parts<R>, i: u32, tree: Tree, off: u64, bytes: &[u8]) -> u32
-    requires root { tree.root ≡ root_of (current_words (R.memory parts.now.region)) i }
-    requires size { tree.size ≡ size_of (current_words (R.memory parts.now.region)) i }
-    requires mounted { IsMounted (current_words (R.memory parts.now.region)) parts.now }
-    requires can { CanWrite (current_words (R.memory parts.now.region)) i off bytes.now }
-    requires below { off + length bytes.now ≤ size_of (current_words (R.memory parts.now.region)) i }
-    ensures need { result ≡ need (current_words (R.memory parts.now.region)) (writes i off (length bytes.now)) }
+    requires root { tree.root ≡ root_of (image_in R.memory parts.now) i }
+    requires size { tree.size ≡ size_of (image_in R.memory parts.now) i }
+    requires mounted { IsMountedIn R.memory parts.now }
+    requires can { CanWrite (image_in R.memory parts.now) i off bytes.now }
+    requires below { off + length bytes.now ≤ size_of (image_in R.memory parts.now) i }
+    ensures need { result ≡ need (image_in R.memory parts.now) (writes i off (length bytes.now)) }
     ensures few { result ≤ most_for_write }
 {
     let runs = [run_for(&parts.region, i, tree, off, bytes)];
@@ -62,11 +61,11 @@ fn need_below<R: Region>(parts: &Parts<R>, i: u32, tree: Tree, off: u64, bytes: 
 
 /// Returns the number of blocks that a write into a file takes besides those that are thawed, given its tree.
 fn need_write<R: Region>(parts: &Parts<R>, i: u32, tree: Tree, off: u64, bytes: &[u8]) -> u32
-    requires root { tree.root ≡ root_of (current_words (R.memory parts.now.region)) i }
-    requires size { tree.size ≡ size_of (current_words (R.memory parts.now.region)) i }
-    requires mounted { IsMounted (current_words (R.memory parts.now.region)) parts.now }
-    requires can { CanWrite (current_words (R.memory parts.now.region)) i off bytes.now }
-    ensures need { result ≡ need (current_words (R.memory parts.now.region)) (writes i off (length bytes.now)) }
+    requires root { tree.root ≡ root_of (image_in R.memory parts.now) i }
+    requires size { tree.size ≡ size_of (image_in R.memory parts.now) i }
+    requires mounted { IsMountedIn R.memory parts.now }
+    requires can { CanWrite (image_in R.memory parts.now) i off bytes.now }
+    ensures need { result ≡ need (image_in R.memory parts.now) (writes i off (length bytes.now)) }
     ensures few { result ≤ most_for_write }
 {
     if tree.size <= off {
@@ -80,10 +79,10 @@ fn need_write<R: Region>(parts: &Parts<R>, i: u32, tree: Tree, off: u64, bytes: 
 
 /// Returns whether no block of the snapshot has to be thawed before bytes are written into a file.
 fn is_clear<R: Region>(parts: &Parts<R>, i: u32, off: u64, bytes: &[u8]) -> bool
-    requires mounted { IsMounted (current_words (R.memory parts.now.region)) parts.now }
-    requires can { CanWrite (current_words (R.memory parts.now.region)) i off bytes.now }
+    requires mounted { IsMountedIn R.memory parts.now }
+    requires can { CanWrite (image_in R.memory parts.now) i off bytes.now }
     ensures { result ≡ true →
-        thawed (current_words (R.memory parts.now.region)) (kept_of parts.now) (writes i off (length bytes.now)) ≡ [] }
+        thawed (image_in R.memory parts.now) (kept_of parts.now) (writes i off (length bytes.now)) ≡ [] }
 {
     if parts.frozen.count() == 0 {
         return true;
@@ -102,13 +101,13 @@ fn is_clear_below<R: Region>(
     run: &Run<'_>,
     cover: usize,
 ) -> bool
-    requires root { tree.root ≡ root_of (current_words (R.memory parts.now.region)) i }
-    requires mounted { IsMounted (current_words (R.memory parts.now.region)) parts.now }
-    requires can { CanWrite (current_words (R.memory parts.now.region)) i run.now.off run.now.bytes.now }
-    requires below { run.now.off + length run.now.bytes.now ≤ size_of (current_words (R.memory parts.now.region)) i }
-    requires cover { cover ≡ length (cover_now (current_words (R.memory parts.now.region))
+    requires root { tree.root ≡ root_of (image_in R.memory parts.now) i }
+    requires mounted { IsMountedIn R.memory parts.now }
+    requires can { CanWrite (image_in R.memory parts.now) i run.now.off run.now.bytes.now }
+    requires below { run.now.off + length run.now.bytes.now ≤ size_of (image_in R.memory parts.now) i }
+    requires cover { cover ≡ length (cover_now (image_in R.memory parts.now)
         (writes i run.now.off (length run.now.bytes.now))) }
-    ensures { result ≡ true → thawed (current_words (R.memory parts.now.region)) (kept_of parts.now)
+    ensures { result ≡ true → thawed (image_in R.memory parts.now) (kept_of parts.now)
         (writes i run.now.off (length run.now.bytes.now)) ≡ [] }
 {
     if parts.frozen.count() == 0 {
@@ -132,16 +131,16 @@ fn thaw_write<R: Region>(
     off: u64,
     bytes: &[u8],
 ) -> Result<(), NoSpace>
-    requires mounted { IsMounted (current_words (R.memory parts.old.region)) parts.old }
-    requires can { CanWrite (current_words (R.memory parts.old.region)) i off bytes.now }
+    requires mounted { IsMountedIn R.memory parts.old }
+    requires can { CanWrite (image_in R.memory parts.old) i off bytes.now }
     requires room { HasRoomWhereFree (R.memory parts.old.region) (kept_of parts.old) parts.old.blocks
         (writes i off (length bytes.now)) }
     ensures thaws { OnOk result (ThawsBefore R.memory parts.old parts.new (writes i off (length bytes.now))) }
     ensures room { OnOk result (HasRoomThawed (R.memory parts.new.region) parts.new.blocks
         (writes i off (length bytes.now))) }
-    ensures enough { OnOk result (need (current_words (R.memory parts.new.region)) (writes i off (length bytes.now))
+    ensures enough { OnOk result (need (image_in R.memory parts.new) (writes i off (length bytes.now))
         ≤ length (members parts.new.blocks)) }
-    ensures refused { IfErr result (LacksSpace (current_words (R.memory parts.old.region)) (kept_of parts.old)
+    ensures refused { IfErr result (LacksSpace (image_in R.memory parts.old) (kept_of parts.old)
         (writes i off (length bytes.now))) }
     ensures same { OnErr result (parts.new ≡ parts.old) }
 {
@@ -155,10 +154,10 @@ fn thaw_write<R: Region>(
 /// The file's tree is prepared for them, and then its size includes them.
 fn write_behind<R: Region>(parts: &mut Parts<R>, i: u32, off: u64, bytes: &[u8])
     requires can { CanWriteThawed (kept_of parts.old) (R.memory parts.old.region) parts.old.blocks parts.old.inodes i off bytes.now }
-    requires exact { IsExact (current_words (R.memory parts.old.region)) parts.old }
-    requires enough { need (current_words (R.memory parts.old.region)) (writes i off (length bytes.now))
+    requires exact { IsExactIn R.memory parts.old }
+    requires enough { need (image_in R.memory parts.old) (writes i off (length bytes.now))
         ≤ length (members parts.old.blocks) }
-    requires behind { size_of (current_words (R.memory parts.old.region)) i ≤ off }
+    requires behind { size_of (image_in R.memory parts.old) i ≤ off }
     ensures { CommitsChange R.memory parts.old parts.new (writes i off (length bytes.now)) (WritesFile i off bytes.now) }
 {
     let end = off + bytes.len() as u64;
@@ -181,11 +180,11 @@ fn write_below<R: Region>(
     off: u64,
     bytes: &[u8],
 ) -> Result<(), NoSpace>
-    requires root { tree.root ≡ root_of (current_words (R.memory parts.old.region)) i }
-    requires size { tree.size ≡ size_of (current_words (R.memory parts.old.region)) i }
+    requires root { tree.root ≡ root_of (image_in R.memory parts.old) i }
+    requires size { tree.size ≡ size_of (image_in R.memory parts.old) i }
     requires can { CanWriteThawed (kept_of parts.old) (R.memory parts.old.region) parts.old.blocks parts.old.inodes i off bytes.now }
-    requires exact { IsExact (current_words (R.memory parts.old.region)) parts.old }
-    requires below { off + length bytes.now ≤ size_of (current_words (R.memory parts.old.region)) i }
+    requires exact { IsExactIn R.memory parts.old }
+    requires below { off + length bytes.now ≤ size_of (image_in R.memory parts.old) i }
     ensures { CommitsOrLacksBlocks R.memory parts.old parts.new result (writes i off (length bytes.now)) (WritesFile i off bytes.now) }
 {
     let runs = [run_for(&parts.region, i, tree, off, bytes)];
@@ -208,11 +207,11 @@ fn write_longer<R: Region>(
     off: u64,
     bytes: &[u8],
 ) -> Result<(), NoSpace>
-    requires root { tree.root ≡ root_of (current_words (R.memory parts.old.region)) i }
-    requires size { tree.size ≡ size_of (current_words (R.memory parts.old.region)) i }
+    requires root { tree.root ≡ root_of (image_in R.memory parts.old) i }
+    requires size { tree.size ≡ size_of (image_in R.memory parts.old) i }
     requires can { CanWriteThawed (kept_of parts.old) (R.memory parts.old.region) parts.old.blocks parts.old.inodes i off bytes.now }
-    requires exact { IsExact (current_words (R.memory parts.old.region)) parts.old }
-    requires past { size_of (current_words (R.memory parts.old.region)) i < off + length bytes.now }
+    requires exact { IsExactIn R.memory parts.old }
+    requires past { size_of (image_in R.memory parts.old) i < off + length bytes.now }
     ensures { CommitsOrLacksBlocks R.memory parts.old parts.new result (writes i off (length bytes.now)) (WritesFile i off bytes.now) }
 {
     if tree.size > off {
@@ -242,7 +241,7 @@ fn write_thawed<R: Region>(
     bytes: &[u8],
 ) -> Result<(), NoSpace>
     requires can { CanWriteThawed (kept_of parts.old) (R.memory parts.old.region) parts.old.blocks parts.old.inodes i off bytes.now }
-    requires exact { IsExact (current_words (R.memory parts.old.region)) parts.old }
+    requires exact { IsExactIn R.memory parts.old }
     ensures { CommitsOrLacksBlocks R.memory parts.old parts.new result (writes i off (length bytes.now)) (WritesFile i off bytes.now) }
 {
     let tree = tree_of(&parts.region, i);
@@ -263,8 +262,8 @@ fn thaw_and_write<R: Region>(
     off: u64,
     bytes: &[u8],
 ) -> Result<(), NoSpace>
-    requires mounted { IsMounted (current_words (R.memory parts.old.region)) parts.old }
-    requires can { CanWrite (current_words (R.memory parts.old.region)) i off bytes.now }
+    requires mounted { IsMountedIn R.memory parts.old }
+    requires can { CanWrite (image_in R.memory parts.old) i off bytes.now }
     requires room { HasRoomWhereFree (R.memory parts.old.region) (kept_of parts.old) parts.old.blocks
         (writes i off (length bytes.now)) }
     ensures { CommitsOrLacksSpace R.memory parts.old parts.new result (writes i off (length bytes.now)) (WritesFile i off bytes.now) }
@@ -288,11 +287,11 @@ fn write_within<R: Region>(
     off: u64,
     bytes: &[u8],
 ) -> Result<(), NoSpace>
-    requires root { tree.root ≡ root_of (current_words (R.memory parts.old.region)) i }
-    requires size { tree.size ≡ size_of (current_words (R.memory parts.old.region)) i }
-    requires below { off + length bytes.now ≤ size_of (current_words (R.memory parts.old.region)) i }
-    requires mounted { IsMounted (current_words (R.memory parts.old.region)) parts.old }
-    requires can { CanWrite (current_words (R.memory parts.old.region)) i off bytes.now }
+    requires root { tree.root ≡ root_of (image_in R.memory parts.old) i }
+    requires size { tree.size ≡ size_of (image_in R.memory parts.old) i }
+    requires below { off + length bytes.now ≤ size_of (image_in R.memory parts.old) i }
+    requires mounted { IsMountedIn R.memory parts.old }
+    requires can { CanWrite (image_in R.memory parts.old) i off bytes.now }
     requires room { HasRoomWhereFree (R.memory parts.old.region) (kept_of parts.old) parts.old.blocks
         (writes i off (length bytes.now)) }
     ensures { CommitsOrLacksSpace R.memory parts.old parts.new result (writes i off (length bytes.now)) (WritesFile i off bytes.now) }
@@ -317,8 +316,8 @@ fn write_within<R: Region>(
 ///   the words to which it stores, those for bytes past the size, and those that it copies for bytes below the size.
 ///   It is returned in exactly this case.
 pub fn write<R: Region>(parts: &mut Parts<R>, i: u32, off: u64, bytes: &[u8]) -> Result<(), NoSpace>
-    requires mounted { IsMounted (current_words (R.memory parts.old.region)) parts.old }
-    requires can { CanWrite (current_words (R.memory parts.old.region)) i off bytes.now }
+    requires mounted { IsMountedIn R.memory parts.old }
+    requires can { CanWrite (image_in R.memory parts.old) i off bytes.now }
     requires room { HasRoomWhereFree (R.memory parts.old.region) (kept_of parts.old) parts.old.blocks
         (writes i off (length bytes.now)) }
     ensures { CommitsOrLacksSpace R.memory parts.old parts.new result (writes i off (length bytes.now)) (WritesFile i off bytes.now) }

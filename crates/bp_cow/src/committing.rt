@@ -2,11 +2,12 @@
 
 ghost use Rattle.std.specs.Prelude.{◌≡◌, ◌≢◌, ℕ, ◌+◌, ◌/◌, ◌<◌, ◌≤◌, length, false};
 ghost use Rattle.bp_free.specs.Set.{Set, has};
+ghost use Rattle.bp_free.specs.Parts.{KeepsSets};
 ghost use Rattle.bp_limits.specs.Limits.{block_words};
 ghost use Rattle.bp_layout.specs.Words.{word, block_count};
 ghost use Rattle.bp_shapes.specs.Forest.{IsExactSet, IsTreePointer};
 ghost use Rattle.pm_epochs.specs.Crash.{commit};
-ghost use Rattle.pm_region.specs.Memory.{current_words, room_in, Adds};
+ghost use Rattle.pm_region.specs.Memory.{words_in, room_in, Adds};
 ghost use Rattle.bp_cow.specs.CanCommit.{TellsKept};
 ghost use Rattle.bp_cow.specs.Commit.{CanCommitIn, CommitsParts};
 ghost use Rattle.bp_cow.specs.Found.{AreWaysIn};
@@ -43,7 +44,7 @@ fn turn_over<R: Region>(
     ensures done { HasTurned plan touched.now from place blocks.old blocks.new
         (R.memory region.old) (R.memory region.new) }
     ensures others { (w : ℕ) → w ≢ place → plan.free (w / block_words) ≡ false →
-        word (current_words (R.memory region.new)) w ≡ word plan.old w }
+        word (words_in R.memory region.new) w ≡ word plan.old w }
     ensures base { length (R.memory region.new).base ≡ length (R.memory region.old).base }
 {
     let pointer = region.load(place);
@@ -69,12 +70,9 @@ fn commit_copies<R: Region>(
     requires shared { AreShared touched.now shared.now }
     ensures done { (taken : Set) × HasTurned plan touched.now from place parts.old.blocks taken
         (R.memory parts.old.region) (R.memory parts.new.region) }
-    ensures exact { IsExactSet (current_words (R.memory parts.new.region))
+    ensures exact { IsExactSet (words_in R.memory parts.new.region)
         (IsTreePointer plan.old plan.bound) plan.kept (has parts.new.blocks) }
-    ensures size { length parts.new.blocks ≡ length parts.old.blocks }
-    ensures inodes { parts.new.inodes ≡ parts.old.inodes }
-    ensures counts { parts.new.counts ≡ parts.old.counts }
-    ensures frozen { parts.new.frozen ≡ parts.old.frozen }
+    ensures keeps { KeepsSets parts.old parts.new }
 {
     let _words = parts.region.words();
     let pointer = parts.region.load(place);
@@ -101,10 +99,10 @@ fn commit_copies<R: Region>(
 /// Stores the value of the only touched word in place, at `place`.
 fn commit_one<R: Region>(region: &mut R, touched: &Touched<'_>, place: u64)
     requires touched { IsTouched touched.now }
-    requires place { place < length (current_words (R.memory region.old)) }
+    requires place { place < length (words_in R.memory region.old) }
     requires room { 3 ≤ room_in (R.memory region.old) }
     ensures { Adds (R.memory region.old) (R.memory region.new)
-        (commit place (only_value touched.now (word (current_words (R.memory region.old)) place))) }
+        (commit place (only_value touched.now (word (words_in R.memory region.old) place))) }
 {
     let old = region.load(place);
     commit_word(region, place, touched.only_value(old));
@@ -117,13 +115,10 @@ fn commit_one<R: Region>(region: &mut R, touched: &Touched<'_>, place: u64)
 pub fn commit_at<R: Region>(parts: &mut Parts<R>, touched: &Touched<'_>, found: &FoundWays)
     ghost bound: { ℕ → ℕ }
     requires can { CanCommitIn bound (kept_of parts.old) (R.memory parts.old.region) touched.now parts.old.blocks }
-    requires found { AreWaysIn (current_words (R.memory parts.old.region)) touched.now found.now }
-    requires kept { TellsKept (kept_of parts.old) (current_words (R.memory parts.old.region)) parts.old.frozen }
+    requires found { AreWaysIn (words_in R.memory parts.old.region) touched.now found.now }
+    requires kept { TellsKept (kept_of parts.old) (words_in R.memory parts.old.region) parts.old.frozen }
     ensures commits { CommitsParts R.memory bound touched.now parts.old parts.new }
-    ensures size { length parts.new.blocks ≡ length parts.old.blocks }
-    ensures inodes { parts.new.inodes ≡ parts.old.inodes }
-    ensures counts { parts.new.counts ≡ parts.old.counts }
-    ensures frozen { parts.new.frozen ≡ parts.old.frozen }
+    ensures keeps { KeepsSets parts.old parts.new }
 {
     let cover = found.cover;
     if touched.way_len(0, &found.shared) < cover.len {

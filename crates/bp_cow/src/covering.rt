@@ -2,7 +2,7 @@
 
 ghost use Rattle.std.specs.Prelude.{◌≡◌, ◌↔◌, ℕ, ◌+◌, ◌-◌, ◌/◌, ◌^◌, ◌<◌, ◌≤◌, length, slice_index, IfSome};
 ghost use Rattle.bp_limits.specs.Limits.{block_words};
-ghost use Rattle.pm_region.specs.Memory.{current_words};
+ghost use Rattle.pm_region.specs.Memory.{words_in};
 ghost use Rattle.bp_cow.specs.Cover.{end_path, ends, BeginAlike, BothBegin, LeadsInside, commit_cover};
 ghost use Rattle.bp_cow.specs.Touched.{IsRun, IsTouched, run_end, run_path};
 ghost use Rattle.bp_cow.specs.Found.{AreWaysIn, IsCoverIn};
@@ -156,9 +156,9 @@ pub struct FoundWays {
 /// Follows the common prefix of all touched paths as far as it exists, which gives the cover. Needs no free block.
 fn find_cover<R: Region>(region: &R, touched: &Touched<'_>) -> FoundCover
     requires touched { IsTouched touched.now }
-    requires some { block_words ≤ length (current_words (R.memory region.now)) }
-    requires in_range { LeadsInside (current_words (R.memory region.now)) touched.now }
-    ensures { IsCoverIn (current_words (R.memory region.now)) touched.now result }
+    requires some { block_words ≤ length (words_in R.memory region.now) }
+    requires in_range { LeadsInside (words_in R.memory region.now) touched.now }
+    ensures { IsCoverIn (words_in R.memory region.now) touched.now result }
 {
     let _words = region.words();
     let alike = touched.alike();
@@ -183,9 +183,9 @@ fn find_cover<R: Region>(region: &R, touched: &Touched<'_>) -> FoundCover
 /// Finds the cover of the touched words, and counts the slots that their ways share. Needs no free block.
 pub fn find_ways<R: Region>(region: &R, touched: &Touched<'_>) -> FoundWays
     requires touched { IsTouched touched.now }
-    requires some { block_words ≤ length (current_words (R.memory region.now)) }
-    requires in_range { LeadsInside (current_words (R.memory region.now)) touched.now }
-    ensures { AreWaysIn (current_words (R.memory region.now)) touched.now result }
+    requires some { block_words ≤ length (words_in R.memory region.now) }
+    requires in_range { LeadsInside (words_in R.memory region.now) touched.now }
+    ensures { AreWaysIn (words_in R.memory region.now) touched.now result }
 {
     let cover = find_cover(region, touched);
     if touched.runs.len() < 2 {
@@ -204,9 +204,9 @@ pub fn find_ways<R: Region>(region: &R, touched: &Touched<'_>) -> FoundWays
 /// no free block.
 pub fn cover<R: Region>(region: &R, touched: &Touched<'_>) -> Slots
     requires touched { IsTouched touched.now }
-    requires some { block_words ≤ length (current_words (R.memory region.now)) }
-    requires in_range { LeadsInside (current_words (R.memory region.now)) touched.now }
-    ensures { result.items ≡ commit_cover (current_words (R.memory region.now)) touched.now }
+    requires some { block_words ≤ length (words_in R.memory region.now) }
+    requires in_range { LeadsInside (words_in R.memory region.now) touched.now }
+    ensures { result.items ≡ commit_cover (words_in R.memory region.now) touched.now }
 {
     let found = find_cover(region, touched);
     let mut path = Slots::new();

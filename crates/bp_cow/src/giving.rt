@@ -4,7 +4,7 @@ ghost use Rattle.std.specs.Prelude.{◌≡◌, ◌+◌, ◌<◌, ◌≤◌, leng
 ghost use Rattle.bp_free.specs.Set.{TakesNumber, has};
 ghost use Rattle.bp_shapes.specs.Trail.{block_on};
 ghost use Rattle.bp_layout.specs.Words.{block_count};
-ghost use Rattle.pm_region.specs.Memory.{current_words};
+ghost use Rattle.pm_region.specs.Memory.{words_in};
 ghost use Rattle.bp_cow.specs.CanCommit.{TellsKept};
 ghost use Rattle.bp_cow.specs.Job.{ways, front};
 ghost use Rattle.bp_cow.specs.Plan.{Plan, planned};
@@ -57,7 +57,7 @@ fn give_step<R: Region>(
     requires touched { IsTouched touched.now }
     requires is_way { IsWay touched.now way.now }
     requires can { CanGive (planned plan touched.now) from way.now.index at.depth blocks.old
-        (current_words (R.memory region.now)) }
+        (words_in R.memory region.now) }
     requires more { at.depth < length ((job_of touched.now).way way.now.index) }
     requires block { at.block ≡ block_on plan.old (front (job_of touched.now) way.now.index at.depth) }
     requires kept { TellsKept plan.kept plan.old frozen.now }
@@ -87,7 +87,7 @@ fn give_way<R: Region>(
     ghost plan: { Plan }
     requires touched { IsTouched touched.now }
     requires is_way { IsWay touched.now way.now }
-    requires can { CanGive (planned plan touched.now) from way.now.index from blocks.old (current_words (R.memory region.now)) }
+    requires can { CanGive (planned plan touched.now) from way.now.index from blocks.old (words_in R.memory region.now) }
     requires top { top ≡ block_on plan.old (front (job_of touched.now) 0 from) }
     requires kept { TellsKept plan.kept plan.old frozen.now }
     ensures back { IsBack (planned plan touched.now) from (way.now.index + 1) from plan.free_after (has blocks.new) }
@@ -113,7 +113,7 @@ pub(crate) fn give_back<R: Region>(
 )
     ghost plan: { Plan }
     requires touched { IsTouched touched.now }
-    requires left { IsLeft (planned plan touched.now) from plan.free_after (current_words (R.memory region.now)) }
+    requires left { IsLeft (planned plan touched.now) from plan.free_after (words_in R.memory region.now) }
     requires taken { plan.free_after ≡ has blocks.old }
     requires top { top ≡ block_on plan.old (front (job_of touched.now) 0 from) }
     requires fits { block_count plan.old ≤ length blocks.old }

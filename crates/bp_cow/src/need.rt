@@ -2,7 +2,7 @@
 
 ghost use Rattle.std.specs.Prelude.{◌≡◌, ◌+◌, ◌<◌, ◌≤◌, length};
 ghost use Rattle.bp_limits.specs.Limits.{block_words};
-ghost use Rattle.pm_region.specs.Memory.{current_words};
+ghost use Rattle.pm_region.specs.Memory.{words_in};
 ghost use Rattle.bp_cow.specs.Cover.{LeadsInside, copied_count};
 ghost use Rattle.bp_cow.specs.Job.{ways, turned_for, copies_at};
 ghost use Rattle.bp_cow.specs.Touched.{IsTouched, NoneBegins, all_paths, job_of};
@@ -71,10 +71,10 @@ pub fn copies_below(touched: &Touched<'_>, found: &FoundWays) -> u32
 /// paths from the cover down. Needs no free block.
 pub fn need_cover<R: Region>(region: &R, touched: &Touched<'_>) -> u32
     requires touched { IsTouched touched.now }
-    requires some { block_words ≤ length (current_words (R.memory region.now)) }
-    requires in_range { LeadsInside (current_words (R.memory region.now)) touched.now }
+    requires some { block_words ≤ length (words_in R.memory region.now) }
+    requires in_range { LeadsInside (words_in R.memory region.now) touched.now }
     requires apart { NoneBegins (all_paths touched.now) }
-    ensures { result ≡ copied_count (current_words (R.memory region.now)) touched.now }
+    ensures { result ≡ copied_count (words_in R.memory region.now) touched.now }
 {
     copies_below(touched, &find_ways(region, touched))
 }

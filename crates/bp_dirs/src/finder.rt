@@ -9,7 +9,7 @@ ghost use Rattle.bp_layout.specs.Reached.{IsReached};
 ghost use Rattle.bp_layout.specs.WellFormed.{IsWellFormed};
 ghost use Rattle.bp_layout.specs.Words.{Image};
 ghost use Rattle.bp_limits.specs.CallLimits.{max_name};
-ghost use Rattle.pm_region.specs.Memory.{current_words};
+ghost use Rattle.pm_region.specs.Memory.{words_in};
 ghost use Rattle.bp_dirs.specs.Spots.{found_slot};
 
 use crate::directory::{find_entry, inumber};
@@ -28,17 +28,17 @@ pub trait Finder {
 
     /// Returns the result of [`find_entry`] for the directory with inode `dir` and this tree.
     fn find<R: Region>(&mut self, region: &R, dir: u32, tree: Tree, name: &[u8]) -> Option<Found>
-        requires well { IsWellFormed (current_words (R.memory region.now)) }
-        requires reached { IsReached (current_words (R.memory region.now)) dir }
-        requires directory { IsDirectory (current_words (R.memory region.now)) dir }
-        requires root { tree.root ≡ root_of (current_words (R.memory region.now)) dir }
-        requires size { tree.size ≡ size_of (current_words (R.memory region.now)) dir }
+        requires well { IsWellFormed (words_in R.memory region.now) }
+        requires reached { IsReached (words_in R.memory region.now) dir }
+        requires directory { IsDirectory (words_in R.memory region.now) dir }
+        requires root { tree.root ≡ root_of (words_in R.memory region.now) dir }
+        requires size { tree.size ≡ size_of (words_in R.memory region.now) dir }
         requires short { length name.now ≤ max_name }
-        requires right { right self.old (current_words (R.memory region.now)) }
-        ensures slot { found_slot result ≡ slot_named (current_words (R.memory region.now)) dir name.now }
+        requires right { right self.old (words_in R.memory region.now) }
+        ensures slot { found_slot result ≡ slot_named (words_in R.memory region.now) dir name.now }
         ensures inumber { IfSome result
-            (λ found. found.inumber ≡ inumber_at (current_words (R.memory region.now)) dir found.slot) }
-        ensures right { right self.new (current_words (R.memory region.now)) }
+            (λ found. found.inumber ≡ inumber_at (words_in R.memory region.now) dir found.slot) }
+        ensures right { right self.new (words_in R.memory region.now) }
         ensures references { same_references self.old self.new };
 
     ghost same_references_reflexive: { (x : Self) → same_references x x };

@@ -3,7 +3,7 @@
 ghost use Rattle.std.specs.Prelude.{◌≡◌, ◌≢◌, ℕ, ◌+◌, ◌-◌, ◌*◌, ◌/◌, ◌%◌, ◌<◌, ◌≤◌, min, length, Option, IfSome, IfNone};
 ghost use Rattle.bp_layout.specs.Tree.{IsSound};
 ghost use Rattle.bp_layout.specs.Directory.{inumber_in};
-ghost use Rattle.pm_region.specs.Memory.{current_words};
+ghost use Rattle.pm_region.specs.Memory.{words_in};
 ghost use Rattle.bp_dirs.specs.EntryWords.{HasWords, IsLeaf, IsRow, IsZeroEntry, last_part, part_word};
 ghost use Rattle.bp_dirs.specs.Leaves.{empty_in_leaf, named_in_leaf, names_in_leaf};
 ghost use Rattle.bp_dirs.specs.Spots.{found_slot};
@@ -43,10 +43,10 @@ pub(crate) fn leaf_count(tree: Tree) -> u64
 
 /// Returns the leaf that starts with a slot.
 pub(crate) fn leaf_from<R: Region>(region: &R, tree: Tree, first: u64) -> Leaf
-    requires sound { IsSound (current_words (R.memory region.now)) tree.root tree.size }
+    requires sound { IsSound (words_in R.memory region.now) tree.root tree.size }
     requires starts { first % block_entries ≡ 0 }
     requires live { first < tree.size / entry_size }
-    ensures leaf { IsLeaf (current_words (R.memory region.now)) result }
+    ensures leaf { IsLeaf (words_in R.memory region.now) result }
     ensures tree { result.tree ≡ tree }
     ensures first { result.first ≡ first }
     ensures count { result.count ≡ min block_entries (tree.size / entry_size - first) }
@@ -62,10 +62,9 @@ pub(crate) fn leaf_from<R: Region>(region: &R, tree: Tree, first: u64) -> Leaf
 impl Leaf {
     /// Returns the words of the entries, which must be in a block.
     fn words<'a, R: Region>(&self, region: &'a R) -> &'a [u64]
-        requires leaf { IsLeaf (current_words (R.memory region.now)) self.now }
+        requires leaf { IsLeaf (words_in R.memory region.now) self.now }
         requires present { self.now.block ≢ 0 }
-        ensures { IsRow (current_words (R.memory region.now))
-            self.now.tree.root self.now.first self.now.count result.now }
+        ensures { IsRow (words_in R.memory region.now) self.now.tree.root self.now.first self.now.count result.now }
     {
         // Word numbers have 32 bits, so the place of a word fits.
         let _words = region.words();
@@ -74,11 +73,11 @@ impl Leaf {
 
     /// Returns one of the entries, or `None` if all of them are empty because the block is null.
     pub fn entry<'a, R: Region>(&self, region: &'a R, index: u64) -> Option<EntryView<'a>>
-        requires leaf { IsLeaf (current_words (R.memory region.now)) self.now }
+        requires leaf { IsLeaf (words_in R.memory region.now) self.now }
         requires live { index < self.now.count }
-        ensures some { IfSome result (λ entry. HasWords (current_words (R.memory region.now))
+        ensures some { IfSome result (λ entry. HasWords (words_in R.memory region.now)
             self.now.tree.root (self.now.first + index) entry.words.now) }
-        ensures none { IfNone result (IsZeroEntry (current_words (R.memory region.now))
+        ensures none { IfNone result (IsZeroEntry (words_in R.memory region.now)
             self.now.tree.root (self.now.first + index)) }
     {
         if self.block == 0 {
@@ -90,12 +89,12 @@ impl Leaf {
 
     /// Returns the first entry that names an inode by this name, whose last word is `last`.
     pub fn find<R: Region>(&self, region: &R, name: &[u8], last: u64) -> Option<Found>
-        requires leaf { IsLeaf (current_words (R.memory region.now)) self.now }
+        requires leaf { IsLeaf (words_in R.memory region.now) self.now }
         requires short { length name.now ≤ max_name }
         requires last { last ≡ part_word name.now (last_part name.now) }
-        ensures slot { found_slot result ≡ named_in_leaf (current_words (R.memory region.now)) self.now name.now }
+        ensures slot { found_slot result ≡ named_in_leaf (words_in R.memory region.now) self.now name.now }
         ensures inumber { IfSome result
-            (λ found. found.inumber ≡ inumber_in (current_words (R.memory region.now)) self.now.tree.root found.slot) }
+            (λ found. found.inumber ≡ inumber_in (words_in R.memory region.now) self.now.tree.root found.slot) }
     {
         if self.block == 0 {
             return None;
@@ -122,14 +121,14 @@ impl Leaf {
         last: u64,
         before: Option<Found>,
     ) -> Option<Found>
-        requires leaf { IsLeaf (current_words (R.memory region.now)) self.now }
+        requires leaf { IsLeaf (words_in R.memory region.now) self.now }
         requires short { length name.now ≤ max_name }
         requires last { last ≡ part_word name.now (last_part name.now) }
         ensures some { IfSome before (λ found. result ≡ before) }
         ensures slot { IfNone before
-            (found_slot result ≡ named_in_leaf (current_words (R.memory region.now)) self.now name.now) }
+            (found_slot result ≡ named_in_leaf (words_in R.memory region.now) self.now name.now) }
         ensures inumber { IfNone before (IfSome result
-            (λ found. found.inumber ≡ inumber_in (current_words (R.memory region.now)) self.now.tree.root found.slot)) }
+            (λ found. found.inumber ≡ inumber_in (words_in R.memory region.now) self.now.tree.root found.slot)) }
     {
         match before {
             Some(_) => before,
@@ -139,8 +138,8 @@ impl Leaf {
 
     /// Returns the first slot whose entry is empty.
     pub fn first_empty<R: Region>(&self, region: &R) -> Option<u64>
-        requires { IsLeaf (current_words (R.memory region.now)) self.now }
-        ensures { result ≡ empty_in_leaf (current_words (R.memory region.now)) self.now }
+        requires { IsLeaf (words_in R.memory region.now) self.now }
+        ensures { result ≡ empty_in_leaf (words_in R.memory region.now) self.now }
     {
         if self.block == 0 {
             return Some(self.first);
@@ -156,9 +155,9 @@ impl Leaf {
 
     /// Returns the earlier result if there is one, else the first empty slot of the leaf.
     pub fn first_empty_after<R: Region>(&self, region: &R, before: Option<u64>) -> Option<u64>
-        requires { IsLeaf (current_words (R.memory region.now)) self.now }
+        requires { IsLeaf (words_in R.memory region.now) self.now }
         ensures some { IfSome before (λ slot. result ≡ before) }
-        ensures none { IfNone before (result ≡ empty_in_leaf (current_words (R.memory region.now)) self.now) }
+        ensures none { IfNone before (result ≡ empty_in_leaf (words_in R.memory region.now) self.now) }
     {
         match before {
             Some(_) => before,
@@ -168,8 +167,8 @@ impl Leaf {
 
     /// Returns how many of the entries name an inode.
     pub fn count_names<R: Region>(&self, region: &R) -> u64
-        requires { IsLeaf (current_words (R.memory region.now)) self.now }
-        ensures count { result ≡ names_in_leaf (current_words (R.memory region.now)) self.now }
+        requires { IsLeaf (words_in R.memory region.now) self.now }
+        ensures count { result ≡ names_in_leaf (words_in R.memory region.now) self.now }
         ensures few { result ≤ self.now.count }
     {
         if self.block == 0 {

@@ -6,7 +6,7 @@ ghost use Rattle.bp_limits.specs.Limits.{entry_words};
 ghost use Rattle.bp_limits.specs.CallLimits.{max_name};
 ghost use Rattle.bp_tree.specs.Within.{IsWithin};
 ghost use Rattle.pm_epochs.specs.May.{AnyAt};
-ghost use Rattle.pm_region.specs.Memory.{current_words, room_in};
+ghost use Rattle.pm_region.specs.Memory.{words_in, room_in};
 ghost use Rattle.pm_region.specs.Safe.{AddsMay};
 
 use bp_layout::name_word;
@@ -20,7 +20,7 @@ pub fn put_name<R: Region>(region: &mut R, place: u64, name: &[u8])
     ensures stores { AddsMay (AnyAt (IsWithin (place + 1) 31)) 0 31 (R.memory region.old) (R.memory region.new) }
     ensures taken { AddsMay (AnyAt (IsWithin (place + 1) (taken_words name.now))) 0 (taken_words name.now)
         (R.memory region.old) (R.memory region.new) }
-    ensures name { HasNameAt (current_words (R.memory region.new)) place name.now }
+    ensures name { HasNameAt (words_in R.memory region.new) place name.now }
 {
     let _words = region.words();
     region.store(place + 1, name.len() as u64);

@@ -6,7 +6,7 @@ ghost use Rattle.bp_export.specs.Rows.{EachEntry, NamesReached};
 ghost use Rattle.bp_layout.specs.Inode.{IsDirectory};
 ghost use Rattle.bp_layout.specs.Reached.{IsReached};
 ghost use Rattle.bp_layout.specs.WellFormed.{IsWellFormed};
-ghost use Rattle.pm_region.specs.Memory.{current_words};
+ghost use Rattle.pm_region.specs.Memory.{words_in};
 
 use crate::rows::{ENTRY, entry_row, leaf_count};
 use bp_dirs::EntryView;
@@ -18,10 +18,10 @@ use pm_region::Region;
 /// than there are bytes left.
 #[cycle(depth)]
 pub(crate) fn has_long_path<R: Region>(region: &R, i: u32, left: usize) -> bool
-    requires well_formed { IsWellFormed (current_words (R.memory region.now)) }
-    requires reached { IsReached (current_words (R.memory region.now)) i }
-    requires directory { IsDirectory (current_words (R.memory region.now)) i }
-    ensures { IsTrue result ↔ HasLongPath (current_words (R.memory region.now)) i left }
+    requires well_formed { IsWellFormed (words_in R.memory region.now) }
+    requires reached { IsReached (words_in R.memory region.now) i }
+    requires directory { IsDirectory (words_in R.memory region.now) i }
+    ensures { IsTrue result ↔ HasLongPath (words_in R.memory region.now) i left }
 {
     let tree = tree_of(region, i);
     for leaf in 0..leaf_count(tree) {
@@ -37,9 +37,9 @@ pub(crate) fn has_long_path<R: Region>(region: &R, i: u32, left: usize) -> bool
 /// Whether a path of more than `left` bytes begins with one of consecutive entries.
 #[cycle(depth)]
 fn has_long_entry<R: Region>(region: &R, words: &[u64], left: usize) -> bool
-    requires well_formed { IsWellFormed (current_words (R.memory region.now)) }
-    requires entries { EachEntry (NamesReached (current_words (R.memory region.now))) words.now }
-    ensures { TellsLongRow (current_words (R.memory region.now)) words.now left result }
+    requires well_formed { IsWellFormed (words_in R.memory region.now) }
+    requires entries { EachEntry (NamesReached (words_in R.memory region.now)) words.now }
+    ensures { TellsLongRow (words_in R.memory region.now) words.now left result }
 {
     for index in 0..words.len() / ENTRY {
         let view = EntryView::new(&words[ENTRY * index..ENTRY * index + ENTRY]);
@@ -53,9 +53,9 @@ fn has_long_entry<R: Region>(region: &R, words: &[u64], left: usize) -> bool
 /// Whether a path of more than `left` bytes begins with an entry.
 #[cycle(depth)]
 fn is_long<R: Region>(region: &R, view: EntryView<'_>, left: usize) -> bool
-    requires well_formed { IsWellFormed (current_words (R.memory region.now)) }
-    requires entry { NamesReached (current_words (R.memory region.now)) view.words.now }
-    ensures { TellsLongEntry (current_words (R.memory region.now)) view.entry.words.now left result }
+    requires well_formed { IsWellFormed (words_in R.memory region.now) }
+    requires entry { NamesReached (words_in R.memory region.now) view.words.now }
+    ensures { TellsLongEntry (words_in R.memory region.now) view.entry.words.now left result }
 {
     let inumber = view.inumber();
     if inumber == 0 {

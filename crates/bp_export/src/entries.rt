@@ -9,7 +9,7 @@ ghost use Rattle.bp_layout.specs.Inode.{IsDirectory};
 ghost use Rattle.bp_layout.specs.Reached.{IsReached};
 ghost use Rattle.bp_layout.specs.WellFormed.{IsWellFormed};
 ghost use Rattle.bp_limits.specs.CallLimits.{max_name};
-ghost use Rattle.pm_region.specs.Memory.{current_words};
+ghost use Rattle.pm_region.specs.Memory.{words_in};
 
 use crate::rows::{ENTRY, entry_row, leaf_count};
 use bp_dirs::{EntryView, count};
@@ -58,10 +58,10 @@ fn name_in(bytes: &[u8], row: Row) -> &[u8]
 
 /// Collects the entries of directory `i` that are not empty, in the order of their slots.
 fn entries_of<R: Region>(alloc: Global, region: &R, i: u32) -> Result<Entries, AllocError>
-    requires well_formed { IsWellFormed (current_words (R.memory region.now)) }
-    requires reached { IsReached (current_words (R.memory region.now)) i }
-    requires directory { IsDirectory (current_words (R.memory region.now)) i }
-    ensures { let image = current_words (R.memory region.now) in
+    requires well_formed { IsWellFormed (words_in R.memory region.now) }
+    requires reached { IsReached (words_in R.memory region.now) i }
+    requires directory { IsDirectory (words_in R.memory region.now) i }
+    ensures { let image = words_in R.memory region.now in
         IfOk result (λ entries. entries ≡ entries_named image i 0 (entry_count image i)) }
 {
     let tree = tree_of(region, i);
@@ -81,10 +81,10 @@ impl Entries {
     ///
     /// * `AllocError`: allocation fails.
     pub(crate) fn of<R: Region>(alloc: Global, region: &R, i: u32) -> Result<Entries, AllocError>
-        requires well_formed { IsWellFormed (current_words (R.memory region.now)) }
-        requires reached { IsReached (current_words (R.memory region.now)) i }
-        requires directory { IsDirectory (current_words (R.memory region.now)) i }
-        ensures { IfOk result (λ entries. AreEntries (current_words (R.memory region.now)) i entries) }
+        requires well_formed { IsWellFormed (words_in R.memory region.now) }
+        requires reached { IsReached (words_in R.memory region.now) i }
+        requires directory { IsDirectory (words_in R.memory region.now) i }
+        ensures { IfOk result (λ entries. AreEntries (words_in R.memory region.now) i entries) }
     {
         let mut entries = entries_of(alloc, region, i)?;
         entries.sort();

@@ -6,7 +6,7 @@ ghost use Rattle.bp_limits.specs.Limits.{block_size};
 ghost use Rattle.bp_plain.specs.Export.{is_zeros, size_call, write_of, writes_of};
 ghost use Rattle.bp_script.specs.Export.{FitsText};
 ghost use Rattle.bp_export.specs.Telling.{TellsAmong, calls_to_make, content_in, size_behind, write_end};
-ghost use Rattle.pm_region.specs.Memory.{current_words};
+ghost use Rattle.pm_region.specs.Memory.{words_in};
 
 use crate::telling::tell;
 use bp_io::{Failed, Sink};
@@ -34,7 +34,7 @@ fn export_stretch<R: Region, K: Sink>(
     replies: &mut Replies,
     out: &mut K,
 ) -> Result<Option<u64>, Failed>
-    requires sound { IsSound (current_words (R.memory region.now)) tree.root tree.size }
+    requires sound { IsSound (words_in R.memory region.now) tree.root tree.size }
     requires live { block_size * leaf < tree.size }
     requires room { length block.old ≡ block_size }
     requires short { All FitsText (write_of path.now (content_in (R.memory region.now) tree) leaf) }
@@ -64,7 +64,7 @@ fn export_leaves<R: Region, K: Sink>(
     replies: &mut Replies,
     out: &mut K,
 ) -> Result<u64, Failed>
-    requires sound { IsSound (current_words (R.memory region.now)) tree.root tree.size }
+    requires sound { IsSound (words_in R.memory region.now) tree.root tree.size }
     requires room { length block.old ≡ block_size }
     requires short { All FitsText (writes_of path.now (content_in (R.memory region.now) tree)) }
     ensures told { let bytes = content_in (R.memory region.now) tree in
@@ -114,7 +114,7 @@ pub(crate) fn export_file<R: Region, K: Sink>(
     replies: &mut Replies,
     out: &mut K,
 ) -> Result<(), Failed>
-    requires sound { IsSound (current_words (R.memory region.now)) tree.root tree.size }
+    requires sound { IsSound (words_in R.memory region.now) tree.root tree.size }
     requires room { length block.old ≡ block_size }
     requires short { All FitsText (calls_to_make path.now (R.memory region.now) tree) }
     ensures lines { TellsAmong (calls_to_make path.now (R.memory region.now) tree)

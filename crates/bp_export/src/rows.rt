@@ -4,7 +4,7 @@ ghost use Rattle.std.specs.Prelude.{ℕ, ◌*◌, ◌/◌, ◌<◌, ◌≤◌, I
 ghost use Rattle.bp_export.specs.Rows.{IsEmptyLeaf, IsLeafRow};
 ghost use Rattle.bp_layout.specs.Tree.{IsSound};
 ghost use Rattle.bp_limits.specs.Limits.{block_entries, entry_size};
-ghost use Rattle.pm_region.specs.Memory.{current_words};
+ghost use Rattle.pm_region.specs.Memory.{words_in};
 
 use bp_limits::{BLOCK_ENTRIES, ENTRY_SIZE, ENTRY_WORDS};
 use bp_tree::{Tree, leaf_words};
@@ -24,11 +24,11 @@ pub(crate) fn leaf_count(tree: Tree) -> u64
 /// Returns the words of those entries of a leaf that are below the size. None if the leaf is null, so that each of
 /// them is empty.
 pub(crate) fn entry_row<R: Region>(region: &R, tree: Tree, leaf: u64) -> Option<&[u64]>
-    requires sound { IsSound (current_words (R.memory region.now)) tree.root tree.size }
+    requires sound { IsSound (words_in R.memory region.now) tree.root tree.size }
     requires live { block_entries * leaf < tree.size / entry_size }
     ensures some { IfSome result
-        (λ words. IsLeafRow (current_words (R.memory region.now)) tree.root tree.size leaf words.now) }
-    ensures none { IfNone result (IsEmptyLeaf (current_words (R.memory region.now)) tree.root leaf) }
+        (λ words. IsLeafRow (words_in R.memory region.now) tree.root tree.size leaf words.now) }
+    ensures none { IfNone result (IsEmptyLeaf (words_in R.memory region.now) tree.root leaf) }
 {
     match leaf_words(region, tree, leaf) {
         Some(words) => {

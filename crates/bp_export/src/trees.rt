@@ -15,7 +15,7 @@ ghost use Rattle.bp_limits.specs.Limits.{block_inodes};
 ghost use Rattle.bp_plain.specs.PlainTree.{FileTree};
 ghost use Rattle.bp_plain.specs.Stands.{Stands};
 ghost use Rattle.bp_script.specs.Export.{FitsText};
-ghost use Rattle.pm_region.specs.Memory.{current_words};
+ghost use Rattle.pm_region.specs.Memory.{words_in};
 
 use crate::depth::has_long_path;
 use crate::entries::Entries;
@@ -52,7 +52,7 @@ fn export_new<R: Region, K: Sink>(
     work: &mut Work,
     out: &mut K,
 ) -> Result<(), Fault>
-    requires sound { IsSound (current_words (R.memory region.now)) tree.root tree.size }
+    requires sound { IsSound (words_in R.memory region.now) tree.root tree.size }
     requires short { All FitsText (file_calls (R.memory region.now) tree work.old) }
     ensures goes { Goes (file_calls (R.memory region.now) tree work.old) result
         (held_lines work.old) (held_lines work.new) (K.view out.old) (K.view out.new) }
@@ -86,16 +86,16 @@ fn export_name<R: Region, K: Sink>(
     work: &mut Work,
     out: &mut K,
 ) -> Result<(), Fault>
-    requires well_formed { IsWellFormed (current_words (R.memory region.now)) }
-    requires file { IsFile (current_words (R.memory region.now)) i }
-    requires root { tree.root ≡ root_of (current_words (R.memory region.now)) i }
-    requires size { tree.size ≡ size_of (current_words (R.memory region.now)) i }
-    requires counts { AreCounts (current_words (R.memory region.now)) counts.now }
-    requires inodes { length counts.now ≡ block_inodes * block_count (current_words (R.memory region.now)) }
+    requires well_formed { IsWellFormed (words_in R.memory region.now) }
+    requires file { IsFile (words_in R.memory region.now) i }
+    requires root { tree.root ≡ root_of (words_in R.memory region.now) i }
+    requires size { tree.size ≡ size_of (words_in R.memory region.now) i }
+    requires counts { AreCounts (words_in R.memory region.now) counts.now }
+    requires inodes { length counts.now ≡ block_inodes * block_count (words_in R.memory region.now) }
     requires below { 1 ≤ length work.old.path.items }
-    requires stands { let words = current_words (R.memory region.now) in
+    requires stands { let words = words_in R.memory region.now in
         (place : Place) × StandsHeld words counts.now (itself words i) i work.old place }
-    ensures tours { ToursItself (current_words (R.memory region.now)) counts.now i result
+    ensures tours { ToursItself (words_in R.memory region.now) counts.now i result
         work.old (K.view out.old) work.new (K.view out.new) }
     ensures path { work.new.path.items ≡ work.old.path.items }
 {
@@ -127,15 +127,15 @@ fn export_entry<R: Region, K: Sink>(
     work: &mut Work,
     out: &mut K,
 ) -> Result<Kind, Fault>
-    requires well_formed { IsWellFormed (current_words (R.memory region.now)) }
-    requires counts { AreCounts (current_words (R.memory region.now)) counts.now }
-    requires inodes { length counts.now ≡ block_inodes * block_count (current_words (R.memory region.now)) }
+    requires well_formed { IsWellFormed (words_in R.memory region.now) }
+    requires counts { AreCounts (words_in R.memory region.now) counts.now }
+    requires inodes { length counts.now ≡ block_inodes * block_count (words_in R.memory region.now) }
     requires below { 1 ≤ length work.old.path.items }
-    requires stands { let words = current_words (R.memory region.now) in
+    requires stands { let words = words_in R.memory region.now in
         (place : Place) × StandsHeld words counts.now (itself words i) i work.old place }
-    ensures tours { ToursItself (current_words (R.memory region.now)) counts.now i result
+    ensures tours { ToursItself (words_in R.memory region.now) counts.now i result
         work.old (K.view out.old) work.new (K.view out.new) }
-    ensures kind { IfOk result (λ kind. kind_word kind ≡ kind_of (current_words (R.memory region.now)) i) }
+    ensures kind { IfOk result (λ kind. kind_word kind ≡ kind_of (words_in R.memory region.now) i) }
     ensures path { work.new.path.items ≡ work.old.path.items }
 {
     let inode = get(region, i);
@@ -160,13 +160,12 @@ fn export_below<R: Region, K: Sink>(
     work: &mut Work,
     out: &mut K,
 ) -> Result<(), Fault>
-    requires well_formed { IsWellFormed (current_words (R.memory region.now)) }
-    requires directory { IsDirectory (current_words (R.memory region.now)) i }
-    requires counts { AreCounts (current_words (R.memory region.now)) counts.now }
-    requires inodes { length counts.now ≡ block_inodes * block_count (current_words (R.memory region.now)) }
-    requires stands { (place : Place)
-        × StandsHeld (current_words (R.memory region.now)) counts.now inside i work.old place }
-    ensures tours { ToursHeld (current_words (R.memory region.now)) counts.now inside i result
+    requires well_formed { IsWellFormed (words_in R.memory region.now) }
+    requires directory { IsDirectory (words_in R.memory region.now) i }
+    requires counts { AreCounts (words_in R.memory region.now) counts.now }
+    requires inodes { length counts.now ≡ block_inodes * block_count (words_in R.memory region.now) }
+    requires stands { (place : Place) × StandsHeld (words_in R.memory region.now) counts.now inside i work.old place }
+    ensures tours { ToursHeld (words_in R.memory region.now) counts.now inside i result
         work.old (K.view out.old) work.new (K.view out.new) }
     ensures path { OnOk result (work.new.path.items ≡ work.old.path.items) }
 {
@@ -199,10 +198,10 @@ pub fn export<R: Region, K: Sink>(
     counts: &Counts,
     out: &mut K,
 ) -> Result<(), Fault>
-    requires file_system { IsFileSystem (current_words (R.memory region.now)) }
-    requires counts { AreCounts (current_words (R.memory region.now)) counts.now }
-    requires inodes { length counts.now ≡ block_inodes * block_count (current_words (R.memory region.now)) }
-    ensures { (tree : FileTree) → Stands (current_words (R.memory region.now)) tree
+    requires file_system { IsFileSystem (words_in R.memory region.now) }
+    requires counts { AreCounts (words_in R.memory region.now) counts.now }
+    requires inodes { length counts.now ≡ block_inodes * block_count (words_in R.memory region.now) }
+    ensures { (tree : FileTree) → Stands (words_in R.memory region.now) tree
         → EndsExport tree result (K.view out.old) (K.view out.new) }
 {
     if has_long_path(region, ROOT_INUMBER, MAX_PATH) {

@@ -2,3 +2,4 @@ pub mod Looks
 pub mod Padded
 pub mod Set
 pub mod Words
+pub mod Parts

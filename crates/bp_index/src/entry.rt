@@ -8,7 +8,7 @@ ghost use Rattle.bp_layout.specs.Tree.{IsSound};
 ghost use Rattle.bp_layout.specs.Words.{Image};
 ghost use Rattle.bp_limits.specs.Limits.{entry_size};
 ghost use Rattle.bp_limits.specs.CallLimits.{max_name};
-ghost use Rattle.pm_region.specs.Memory.{current_words};
+ghost use Rattle.pm_region.specs.Memory.{words_in};
 
 use bp_dirs::{EntryView, Found, entry};
 use bp_limits::{ENTRY_SIZE, MAX_NAME};
@@ -17,12 +17,11 @@ use pm_region::Region;
 
 /// Returns the entry in a slot; `None` if it is empty.
 pub(crate) fn live_entry<R: Region>(region: &R, tree: Tree, slot: u64) -> Option<EntryView<'_>>
-    requires sound { IsSound (current_words (R.memory region.now)) tree.root tree.size }
+    requires sound { IsSound (words_in R.memory region.now) tree.root tree.size }
     requires live { slot < tree.size / entry_size }
-    ensures words { IfSome result
-        (λ entry. HasWords (current_words (R.memory region.now)) tree.root slot entry.words.now) }
-    ensures some { IfSome result (λ entry. inumber_in (current_words (R.memory region.now)) tree.root slot ≢ 0) }
-    ensures none { IfNone result (inumber_in (current_words (R.memory region.now)) tree.root slot ≡ 0) }
+    ensures words { IfSome result (λ entry. HasWords (words_in R.memory region.now) tree.root slot entry.words.now) }
+    ensures some { IfSome result (λ entry. inumber_in (words_in R.memory region.now) tree.root slot ≢ 0) }
+    ensures none { IfNone result (inumber_in (words_in R.memory region.now) tree.root slot ≡ 0) }
 {
     let entry = entry(region, tree, slot)?;
     if entry.inumber() == 0 {
@@ -47,12 +46,10 @@ fn has_name(entry: &EntryView<'_>, name: &[u8]) -> bool
 
 /// Returns the entry in a slot; `None` if it is not below the size, or does not refer to an inode by this name.
 pub(crate) fn find_at<R: Region>(region: &R, tree: Tree, slot: u64, name: &[u8]) -> Option<Found>
-    requires sound { IsSound (current_words (R.memory region.now)) tree.root tree.size }
+    requires sound { IsSound (words_in R.memory region.now) tree.root tree.size }
     requires short { length name.now ≤ max_name }
-    ensures some { IfSome result
-        (IsEntryAt (current_words (R.memory region.now)) tree.root tree.size name.now slot) }
-    ensures none { IfNone result
-        (IsNotAt (current_words (R.memory region.now)) tree.root tree.size name.now slot) }
+    ensures some { IfSome result (IsEntryAt (words_in R.memory region.now) tree.root tree.size name.now slot) }
+    ensures none { IfNone result (IsNotAt (words_in R.memory region.now) tree.root tree.size name.now slot) }
 {
     if slot >= tree.size / ENTRY_SIZE {
         return None;

@@ -10,7 +10,7 @@ ghost use Rattle.bp_layout.specs.Tree.{IsSound};
 ghost use Rattle.bp_layout.specs.Words.{Image};
 ghost use Rattle.bp_limits.specs.Limits.{entry_size};
 ghost use Rattle.bp_limits.specs.CallLimits.{max_name};
-ghost use Rattle.pm_region.specs.Memory.{current_words};
+ghost use Rattle.pm_region.specs.Memory.{words_in};
 
 use crate::entry::{find_at, live_entry};
 use crate::hashing::hash_of;
@@ -69,12 +69,11 @@ impl Index {
 
     /// Adds the entry in a slot, empty or not.
     fn scan<R: Region>(&mut self, region: &R, tree: Tree, slot: u32) -> bool
-        requires sound { IsSound (current_words (R.memory region.now)) tree.root tree.size }
+        requires sound { IsSound (words_in R.memory region.now) tree.root tree.size }
         requires live { slot < tree.size / entry_size }
         requires room { slot < length self.old.empties }
-        ensures here { OnTrue result (IsIndexed (current_words (R.memory region.now)) tree.root slot self.new) }
-        ensures others { OnTrue result
-            (KeepsIndexed (current_words (R.memory region.now)) tree.root slot self.old self.new) }
+        ensures here { OnTrue result (IsIndexed (words_in R.memory region.now) tree.root slot self.new) }
+        ensures others { OnTrue result (KeepsIndexed (words_in R.memory region.now) tree.root slot self.old self.new) }
         ensures room { OnTrue result (length self.new.empties ≡ length self.old.empties) }
     {
         match live_entry(region, tree, slot as u64) {
@@ -89,8 +88,8 @@ impl Index {
     /// Makes the index of a directory, by one pass over its entries. Returns `None` if allocation fails, if two names
     /// have one hash, if a name is longer than allowed, or if the number of slots exceeds 32 bits.
     pub fn of<R: Region>(alloc: Global, region: &R, tree: Tree) -> Option<Index>
-        requires { IsSound (current_words (R.memory region.now)) tree.root tree.size }
-        ensures { IfSome result (IsIndexOf (current_words (R.memory region.now)) tree.root tree.size) }
+        requires { IsSound (words_in R.memory region.now) tree.root tree.size }
+        ensures { IfSome result (IsIndexOf (words_in R.memory region.now) tree.root tree.size) }
     {
         let slots = tree.size / ENTRY_SIZE;
         if slots > u32::MAX as u64 {
@@ -110,13 +109,12 @@ impl Index {
 
     /// Returns what [`bp_dirs::find_entry`] returns, after a look at one entry at most.
     pub fn find_entry<R: Region>(&self, region: &R, tree: Tree, name: &[u8]) -> Option<Found>
-        requires sound { IsSound (current_words (R.memory region.now)) tree.root tree.size }
+        requires sound { IsSound (words_in R.memory region.now) tree.root tree.size }
         requires short { length name.now ≤ max_name }
-        requires right { IsIndexOf (current_words (R.memory region.now)) tree.root tree.size self.now }
-        ensures slot { found_slot result ≡
-            slot_named_in (current_words (R.memory region.now)) tree.root tree.size name.now }
+        requires right { IsIndexOf (words_in R.memory region.now) tree.root tree.size self.now }
+        ensures slot { found_slot result ≡ slot_named_in (words_in R.memory region.now) tree.root tree.size name.now }
         ensures inumber { IfSome result
-            (λ found. found.inumber ≡ inumber_in (current_words (R.memory region.now)) tree.root found.slot) }
+            (λ found. found.inumber ≡ inumber_in (words_in R.memory region.now) tree.root found.slot) }
     {
         match self.slots.get(&hash_of(name)) {
             Some(slot) => find_at(region, tree, *slot as u64, name),
@@ -127,10 +125,10 @@ impl Index {
     /// Returns what [`bp_dirs::free_slot`] returns. Slots below it that turn out not to be empty are never looked at
     /// again.
     pub fn free_slot<R: Region>(&mut self, region: &R, tree: Tree) -> Option<u64>
-        requires sound { IsSound (current_words (R.memory region.now)) tree.root tree.size }
-        requires right { IsIndexOf (current_words (R.memory region.now)) tree.root tree.size self.old }
-        ensures slot { result ≡ empty_slot_in (current_words (R.memory region.now)) tree.root tree.size }
-        ensures right { IsIndexOf (current_words (R.memory region.now)) tree.root tree.size self.new }
+        requires sound { IsSound (words_in R.memory region.now) tree.root tree.size }
+        requires right { IsIndexOf (words_in R.memory region.now) tree.root tree.size self.old }
+        ensures slot { result ≡ empty_slot_in (words_in R.memory region.now) tree.root tree.size }
+        ensures right { IsIndexOf (words_in R.memory region.now) tree.root tree.size self.new }
     {
         while let Some(slot) = self.empties.take() {
             if slot as u64 >= tree.size / ENTRY_SIZE {
@@ -146,13 +144,12 @@ impl Index {
 
     /// Returns what [`bp_dirs::find_or_free`] returns.
     pub fn find_or_free<R: Region>(&mut self, region: &R, tree: Tree, name: &[u8]) -> Spot
-        requires sound { IsSound (current_words (R.memory region.now)) tree.root tree.size }
+        requires sound { IsSound (words_in R.memory region.now) tree.root tree.size }
         requires short { length name.now ≤ max_name }
-        requires right { IsIndexOf (current_words (R.memory region.now)) tree.root tree.size self.old }
-        ensures named { named_slot result ≡
-            slot_named_in (current_words (R.memory region.now)) tree.root tree.size name.now }
-        ensures free { FreeIs result (empty_slot_in (current_words (R.memory region.now)) tree.root tree.size) }
-        ensures right { IsIndexOf (current_words (R.memory region.now)) tree.root tree.size self.new }
+        requires right { IsIndexOf (words_in R.memory region.now) tree.root tree.size self.old }
+        ensures named { named_slot result ≡ slot_named_in (words_in R.memory region.now) tree.root tree.size name.now }
+        ensures free { FreeIs result (empty_slot_in (words_in R.memory region.now) tree.root tree.size) }
+        ensures right { IsIndexOf (words_in R.memory region.now) tree.root tree.size self.new }
     {
         match self.find_entry(region, tree, name) {
             Some(found) => Spot::Named(found.slot),

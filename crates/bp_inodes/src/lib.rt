@@ -17,7 +17,7 @@ ghost use Rattle.bp_layout.specs.WellFormed.{IsWellFormed};
 ghost use Rattle.bp_inodes.specs.Filled.{FillsInode, HasInodeAt};
 ghost use Rattle.bp_tree.specs.Within.{IsWithin};
 ghost use Rattle.pm_epochs.specs.May.{AnyAt};
-ghost use Rattle.pm_region.specs.Memory.{current_words, room_in};
+ghost use Rattle.pm_region.specs.Memory.{words_in, room_in};
 ghost use Rattle.pm_region.specs.Safe.{AddsMay};
 
 use bp_layout::{Inode, Kind};
@@ -30,9 +30,9 @@ use pm_region::Region;
 
 /// Returns the tree of the inode file: words 2 and 3 of the superblock are its root word and its size.
 pub fn inode_file<R: Region>(region: &R) -> Tree
-    requires { 4 ≤ length (current_words (R.memory region.now)) }
-    ensures root { result.root ≡ root_of (current_words (R.memory region.now)) 0 }
-    ensures size { result.size ≡ size_of (current_words (R.memory region.now)) 0 }
+    requires { 4 ≤ length (words_in R.memory region.now) }
+    ensures root { result.root ≡ root_of (words_in R.memory region.now) 0 }
+    ensures size { result.size ≡ size_of (words_in R.memory region.now) 0 }
 {
     Tree {
         root: region.load(SUPER_ROOT),
@@ -42,15 +42,14 @@ pub fn inode_file<R: Region>(region: &R) -> Tree
 
 /// Returns inode number `i`.
 pub fn get<R: Region>(region: &R, i: u32) -> Inode
-    requires sound { let words = current_words (R.memory region.now) in
-        IsSound words (root_of words 0) (size_of words 0) }
+    requires sound { let words = words_in R.memory region.now in IsSound words (root_of words 0) (size_of words 0) }
     requires some { 1 ≤ i }
-    requires there { i < inode_count (current_words (R.memory region.now)) }
-    requires least { 1 ≤ kind_of (current_words (R.memory region.now)) i }
-    requires most { kind_of (current_words (R.memory region.now)) i ≤ 2 }
-    ensures kind { kind_word result.kind ≡ kind_of (current_words (R.memory region.now)) i }
-    ensures root { result.root ≡ root_of (current_words (R.memory region.now)) i }
-    ensures size { result.size ≡ size_of (current_words (R.memory region.now)) i }
+    requires there { i < inode_count (words_in R.memory region.now) }
+    requires least { 1 ≤ kind_of (words_in R.memory region.now) i }
+    requires most { kind_of (words_in R.memory region.now) i ≤ 2 }
+    ensures kind { kind_word result.kind ≡ kind_of (words_in R.memory region.now) i }
+    ensures root { result.root ≡ root_of (words_in R.memory region.now) i }
+    ensures size { result.size ≡ size_of (words_in R.memory region.now) i }
 {
     let inodes = inode_file(region);
     let block = leaf_block(region, inodes, (i / BLOCK_INODES) as u64);
@@ -63,14 +62,12 @@ pub fn get<R: Region>(region: &R, i: u32) -> Inode
 
 /// Returns the place in the region of a word of an inode.
 pub fn place<R: Region>(region: &R, i: u32, field: u64) -> u64
-    requires sound { let words = current_words (R.memory region.now) in
-        IsSound words (root_of words 0) (size_of words 0) }
-    requires full { let words = current_words (R.memory region.now) in
-        IsFull words (root_of words 0) (size_of words 0) }
-    requires there { i < inode_count (current_words (R.memory region.now)) }
+    requires sound { let words = words_in R.memory region.now in IsSound words (root_of words 0) (size_of words 0) }
+    requires full { let words = words_in R.memory region.now in IsFull words (root_of words 0) (size_of words 0) }
+    requires there { i < inode_count (words_in R.memory region.now) }
     requires field { field < inode_words }
-    ensures place { ContentStandsAt (current_words (R.memory region.now)) 0 (inode_words * i + field) result }
-    ensures in_range { result < length (current_words (R.memory region.now)) }
+    ensures place { ContentStandsAt (words_in R.memory region.now) 0 (inode_words * i + field) result }
+    ensures in_range { result < length (words_in R.memory region.now) }
 {
     content_place(region, inode_file(region), INODE_WORDS * i as u64 + field)
 }
@@ -80,7 +77,7 @@ fn put<R: Region>(region: &mut R, place: u64, kind: Kind)
     requires in_range { place + 3 ≤ length (R.memory region.old).base }
     requires room { 3 ≤ room_in (R.memory region.old) }
     ensures stores { AddsMay (AnyAt (IsWithin place 3)) 0 3 (R.memory region.old) (R.memory region.new) }
-    ensures inode { HasInodeAt (current_words (R.memory region.new)) place (kind_word kind) }
+    ensures inode { HasInodeAt (words_in R.memory region.new) place (kind_word kind) }
 {
     // Word numbers have 32 bits, so the last place fits.
     let _words = region.words();
@@ -91,8 +88,8 @@ fn put<R: Region>(region: &mut R, place: u64, kind: Kind)
 
 /// Makes an unreachable inode a file or a directory without bytes, by stores to its words only.
 pub fn fill<R: Region>(region: &mut R, i: u32, kind: Kind)
-    requires well_formed { IsWellFormed (current_words (R.memory region.old)) }
-    requires free { IsFreeInode (current_words (R.memory region.old)) i }
+    requires well_formed { IsWellFormed (words_in R.memory region.old) }
+    requires free { IsFreeInode (words_in R.memory region.old) i }
     requires room { 3 ≤ room_in (R.memory region.old) }
     ensures { FillsInode (R.memory region.old) (R.memory region.new) i (kind_word kind) }
 {
@@ -102,11 +99,11 @@ pub fn fill<R: Region>(region: &mut R, i: u32, kind: Kind)
 
 /// Returns the tree of an inode.
 pub fn tree_of<R: Region>(region: &R, i: u32) -> Tree
-    requires well_formed { IsWellFormed (current_words (R.memory region.now)) }
-    requires reached { IsReached (current_words (R.memory region.now)) i }
+    requires well_formed { IsWellFormed (words_in R.memory region.now) }
+    requires reached { IsReached (words_in R.memory region.now) i }
     requires some { 1 ≤ i }
-    ensures root { result.root ≡ root_of (current_words (R.memory region.now)) i }
-    ensures size { result.size ≡ size_of (current_words (R.memory region.now)) i }
+    ensures root { result.root ≡ root_of (words_in R.memory region.now) i }
+    ensures size { result.size ≡ size_of (words_in R.memory region.now) i }
 {
     let inode = get(region, i);
     Tree::of(&inode)
@@ -114,8 +111,8 @@ pub fn tree_of<R: Region>(region: &R, i: u32) -> Tree
 
 /// Returns the path of the root word of an inode.
 pub fn root_path<R: Region>(region: &R, i: u32) -> Slots
-    requires { 4 ≤ length (current_words (R.memory region.now)) }
-    ensures { result.items ≡ inode_path (height_of (root_of (current_words (R.memory region.now)) 0)) i 1 }
+    requires { 4 ≤ length (words_in R.memory region.now) }
+    ensures { result.items ≡ inode_path (height_of (root_of (words_in R.memory region.now) 0)) i 1 }
 {
     word_path(
         inode_file(region),
@@ -125,8 +122,8 @@ pub fn root_path<R: Region>(region: &R, i: u32) -> Slots
 
 /// Returns the path of the size word of an inode.
 pub fn size_path<R: Region>(region: &R, i: u32) -> Slots
-    requires { 4 ≤ length (current_words (R.memory region.now)) }
-    ensures { result.items ≡ inode_path (height_of (root_of (current_words (R.memory region.now)) 0)) i 2 }
+    requires { 4 ≤ length (words_in R.memory region.now) }
+    ensures { result.items ≡ inode_path (height_of (root_of (words_in R.memory region.now) 0)) i 2 }
 {
     word_path(
         inode_file(region),

@@ -11,7 +11,7 @@ ghost use Rattle.bp_layout.specs.Lookup.{lookup};
 ghost use Rattle.bp_layout.specs.Paths.{is_name};
 ghost use Rattle.bp_layout.specs.Reached.{IsReached};
 ghost use Rattle.bp_layout.specs.WellFormed.{IsWellFormed};
-ghost use Rattle.pm_region.specs.Memory.{current_words};
+ghost use Rattle.pm_region.specs.Memory.{words_in};
 ghost use Rattle.bp_path.specs.Names.{path_parts};
 ghost use Rattle.bp_path.specs.Walk.{walk_from};
 ghost use Rattle.bp_path.specs.FoundEntries.{FailsAt, FindsParent, IsEntryOf, WalksToParent, walked_of};
@@ -57,19 +57,19 @@ fn step<R: Region, F: Finder>(
     name: &[u8],
     finder: &mut F,
 ) -> Result<FoundEntry, WalkFault>
-    requires well { IsWellFormed (current_words (R.memory region.now)) }
-    requires reached { IsReached (current_words (R.memory region.now)) dir }
+    requires well { IsWellFormed (words_in R.memory region.now) }
+    requires reached { IsReached (words_in R.memory region.now) dir }
     requires some { 1 ≤ dir }
     requires short { length name.now ≤ max_name }
-    requires right { F.right finder.old (current_words (R.memory region.now)) }
-    ensures kind { IfOk result (λ entry. IsDirectory (current_words (R.memory region.now)) dir) }
+    requires right { F.right finder.old (words_in R.memory region.now) }
+    ensures kind { IfOk result (λ entry. IsDirectory (words_in R.memory region.now) dir) }
     ensures dir { IfOk result (λ entry. entry.dir ≡ dir) }
-    ensures slot { let words = current_words (R.memory region.now) in
+    ensures slot { let words = words_in R.memory region.now in
         IfOk result (λ entry. slot_named words dir name.now ≡ Some entry.slot) }
-    ensures inumber { let words = current_words (R.memory region.now) in
+    ensures inumber { let words = words_in R.memory region.now in
         IfOk result (λ entry. inumber_at words dir entry.slot ≡ entry.inumber) }
-    ensures fault { IfErr result (FailsAt (current_words (R.memory region.now)) dir name.now) }
-    ensures right { F.right finder.new (current_words (R.memory region.now)) }
+    ensures fault { IfErr result (FailsAt (words_in R.memory region.now) dir name.now) }
+    ensures right { F.right finder.new (words_in R.memory region.now) }
     ensures references { F.same_references finder.old finder.new }
 {
     let inode = get(region, dir);
@@ -93,17 +93,17 @@ fn walk_names<R: Region, F: Finder>(
     text: &[u8],
     finder: &mut F,
 ) -> Result<FoundEntry, WalkFault>
-    requires well { IsWellFormed (current_words (R.memory region.now)) }
+    requires well { IsWellFormed (words_in R.memory region.now) }
     requires names { list_all is_name (path_parts text.now) ≡ true }
-    requires right { F.right finder.old (current_words (R.memory region.now)) }
-    ensures walked { let words = current_words (R.memory region.now) in
+    requires right { F.right finder.old (words_in R.memory region.now) }
+    ensures walked { let words = words_in R.memory region.now in
         walked_of result ≡ walk_from words root_inumber (path_parts text.now) }
-    ensures lookup { let words = current_words (R.memory region.now) in
+    ensures lookup { let words = words_in R.memory region.now in
         IfOk result (λ entry. lookup words (path_parts text.now) ≡ Some entry.inumber) }
-    ensures entry { IfOk result (λ entry. IsEntryOf (current_words (R.memory region.now)) (path_parts text.now) entry) }
-    ensures reached { IfOk result (λ entry. IsReached (current_words (R.memory region.now)) entry.inumber) }
+    ensures entry { IfOk result (λ entry. IsEntryOf (words_in R.memory region.now) (path_parts text.now) entry) }
+    ensures reached { IfOk result (λ entry. IsReached (words_in R.memory region.now) entry.inumber) }
     ensures some { IfOk result (λ entry. 1 ≤ entry.inumber) }
-    ensures right { F.right finder.new (current_words (R.memory region.now)) }
+    ensures right { F.right finder.new (words_in R.memory region.now) }
     ensures references { F.same_references finder.old finder.new }
 {
     let mut entry = FoundEntry {
@@ -129,12 +129,12 @@ fn walk_names<R: Region, F: Finder>(
 /// - `NotDir`: the name is searched for in a file.
 /// - `NotFound`: the directory does not have it.
 pub fn walk<R: Region>(region: &R, path: &Path<'_>) -> Result<FoundEntry, WalkFault>
-    requires { IsWellFormed (current_words (R.memory region.now)) }
-    ensures walked { walked_of result ≡ walk_from (current_words (R.memory region.now)) root_inumber path.now }
-    ensures lookup { let words = current_words (R.memory region.now) in
+    requires { IsWellFormed (words_in R.memory region.now) }
+    ensures walked { walked_of result ≡ walk_from (words_in R.memory region.now) root_inumber path.now }
+    ensures lookup { let words = words_in R.memory region.now in
         IfOk result (λ entry. lookup words path.now ≡ Some entry.inumber) }
-    ensures entry { IfOk result (λ entry. IsEntryOf (current_words (R.memory region.now)) path.now entry) }
-    ensures reached { IfOk result (λ entry. IsReached (current_words (R.memory region.now)) entry.inumber) }
+    ensures entry { IfOk result (λ entry. IsEntryOf (words_in R.memory region.now) path.now entry) }
+    ensures reached { IfOk result (λ entry. IsReached (words_in R.memory region.now) entry.inumber) }
     ensures some { IfOk result (λ entry. 1 ≤ entry.inumber) }
 {
     walk_by(region, path, &mut Scan)
@@ -150,15 +150,15 @@ pub fn walk_by<R: Region, F: Finder>(
     path: &Path<'_>,
     finder: &mut F,
 ) -> Result<FoundEntry, WalkFault>
-    requires well { IsWellFormed (current_words (R.memory region.now)) }
-    requires right { F.right finder.old (current_words (R.memory region.now)) }
-    ensures walked { walked_of result ≡ walk_from (current_words (R.memory region.now)) root_inumber path.now }
-    ensures lookup { let words = current_words (R.memory region.now) in
+    requires well { IsWellFormed (words_in R.memory region.now) }
+    requires right { F.right finder.old (words_in R.memory region.now) }
+    ensures walked { walked_of result ≡ walk_from (words_in R.memory region.now) root_inumber path.now }
+    ensures lookup { let words = words_in R.memory region.now in
         IfOk result (λ entry. lookup words path.now ≡ Some entry.inumber) }
-    ensures entry { IfOk result (λ entry. IsEntryOf (current_words (R.memory region.now)) path.now entry) }
-    ensures reached { IfOk result (λ entry. IsReached (current_words (R.memory region.now)) entry.inumber) }
+    ensures entry { IfOk result (λ entry. IsEntryOf (words_in R.memory region.now) path.now entry) }
+    ensures reached { IfOk result (λ entry. IsReached (words_in R.memory region.now) entry.inumber) }
     ensures some { IfOk result (λ entry. 1 ≤ entry.inumber) }
-    ensures right { F.right finder.new (current_words (R.memory region.now)) }
+    ensures right { F.right finder.new (words_in R.memory region.now) }
     ensures references { F.same_references finder.old finder.new }
 {
     walk_names(region, path.text(), finder)
@@ -175,15 +175,15 @@ pub fn walk_with<R: Region, H: Hints>(
     path: &Path<'_>,
     hints: &mut H,
 ) -> Result<FoundEntry, WalkFault>
-    requires well { IsWellFormed (current_words (R.memory region.now)) }
-    requires right { AreRight (current_words (R.memory region.now)) (H.known hints.old) }
-    ensures walked { walked_of result ≡ walk_from (current_words (R.memory region.now)) root_inumber path.now }
-    ensures lookup { let words = current_words (R.memory region.now) in
+    requires well { IsWellFormed (words_in R.memory region.now) }
+    requires right { AreRight (words_in R.memory region.now) (H.known hints.old) }
+    ensures walked { walked_of result ≡ walk_from (words_in R.memory region.now) root_inumber path.now }
+    ensures lookup { let words = words_in R.memory region.now in
         IfOk result (λ entry. lookup words path.now ≡ Some entry.inumber) }
-    ensures entry { IfOk result (λ entry. IsEntryOf (current_words (R.memory region.now)) path.now entry) }
-    ensures reached { IfOk result (λ entry. IsReached (current_words (R.memory region.now)) entry.inumber) }
+    ensures entry { IfOk result (λ entry. IsEntryOf (words_in R.memory region.now) path.now entry) }
+    ensures reached { IfOk result (λ entry. IsReached (words_in R.memory region.now) entry.inumber) }
     ensures some { IfOk result (λ entry. 1 ≤ entry.inumber) }
-    ensures right { AreRight (current_words (R.memory region.now)) (H.known hints.new) }
+    ensures right { AreRight (words_in R.memory region.now) (H.known hints.new) }
 {
     let mut finder = Hinted { hints };
     walk_by(region, path, &mut finder)
@@ -196,12 +196,12 @@ pub fn walk_with<R: Region, H: Hints>(
 /// - Those of a walk to the parent.
 /// - `NotDir`: the parent is a file.
 pub fn walk_parent<R: Region>(region: &R, path: &Path<'_>) -> Result<u32, WalkFault>
-    requires well { IsWellFormed (current_words (R.memory region.now)) }
+    requires well { IsWellFormed (words_in R.memory region.now) }
     requires below { path.now ≢ [] }
-    ensures walked { WalksToParent (current_words (R.memory region.now)) path.now result }
-    ensures lookup { FindsParent (current_words (R.memory region.now)) path.now result }
-    ensures kind { IfOk result (λ dir. IsDirectory (current_words (R.memory region.now)) dir) }
-    ensures reached { IfOk result (λ dir. IsReached (current_words (R.memory region.now)) dir) }
+    ensures walked { WalksToParent (words_in R.memory region.now) path.now result }
+    ensures lookup { FindsParent (words_in R.memory region.now) path.now result }
+    ensures kind { IfOk result (λ dir. IsDirectory (words_in R.memory region.now) dir) }
+    ensures reached { IfOk result (λ dir. IsReached (words_in R.memory region.now) dir) }
     ensures some { IfOk result (λ dir. 1 ≤ dir) }
 {
     walk_parent_by(region, path, &mut Scan)
@@ -217,15 +217,15 @@ pub fn walk_parent_by<R: Region, F: Finder>(
     path: &Path<'_>,
     finder: &mut F,
 ) -> Result<u32, WalkFault>
-    requires well { IsWellFormed (current_words (R.memory region.now)) }
+    requires well { IsWellFormed (words_in R.memory region.now) }
     requires below { path.now ≢ [] }
-    requires right { F.right finder.old (current_words (R.memory region.now)) }
-    ensures walked { WalksToParent (current_words (R.memory region.now)) path.now result }
-    ensures lookup { FindsParent (current_words (R.memory region.now)) path.now result }
-    ensures kind { IfOk result (λ dir. IsDirectory (current_words (R.memory region.now)) dir) }
-    ensures reached { IfOk result (λ dir. IsReached (current_words (R.memory region.now)) dir) }
+    requires right { F.right finder.old (words_in R.memory region.now) }
+    ensures walked { WalksToParent (words_in R.memory region.now) path.now result }
+    ensures lookup { FindsParent (words_in R.memory region.now) path.now result }
+    ensures kind { IfOk result (λ dir. IsDirectory (words_in R.memory region.now) dir) }
+    ensures reached { IfOk result (λ dir. IsReached (words_in R.memory region.now) dir) }
     ensures some { IfOk result (λ dir. 1 ≤ dir) }
-    ensures right { F.right finder.new (current_words (R.memory region.now)) }
+    ensures right { F.right finder.new (words_in R.memory region.now) }
     ensures references { F.same_references finder.old finder.new }
 {
     let (parent, _) = split_last(path.text());
@@ -247,15 +247,15 @@ pub fn walk_parent_with<R: Region, H: Hints>(
     path: &Path<'_>,
     hints: &mut H,
 ) -> Result<u32, WalkFault>
-    requires well { IsWellFormed (current_words (R.memory region.now)) }
+    requires well { IsWellFormed (words_in R.memory region.now) }
     requires below { path.now ≢ [] }
-    requires right { AreRight (current_words (R.memory region.now)) (H.known hints.old) }
-    ensures walked { WalksToParent (current_words (R.memory region.now)) path.now result }
-    ensures lookup { FindsParent (current_words (R.memory region.now)) path.now result }
-    ensures kind { IfOk result (λ dir. IsDirectory (current_words (R.memory region.now)) dir) }
-    ensures reached { IfOk result (λ dir. IsReached (current_words (R.memory region.now)) dir) }
+    requires right { AreRight (words_in R.memory region.now) (H.known hints.old) }
+    ensures walked { WalksToParent (words_in R.memory region.now) path.now result }
+    ensures lookup { FindsParent (words_in R.memory region.now) path.now result }
+    ensures kind { IfOk result (λ dir. IsDirectory (words_in R.memory region.now) dir) }
+    ensures reached { IfOk result (λ dir. IsReached (words_in R.memory region.now) dir) }
     ensures some { IfOk result (λ dir. 1 ≤ dir) }
-    ensures right { AreRight (current_words (R.memory region.now)) (H.known hints.new) }
+    ensures right { AreRight (words_in R.memory region.now) (H.known hints.new) }
 {
     let mut finder = Hinted { hints };
     walk_parent_by(region, path, &mut finder)

@@ -4,13 +4,14 @@ ghost use Rattle.std.specs.Prelude.{◌≡◌, ◌≢◌, None};
 ghost use Rattle.bp_calls.specs.Commits.{CommitsChange, CommitsOrLacksSpace};
 ghost use Rattle.bp_calls.specs.Space.{HasRoomWhereFree};
 ghost use Rattle.bp_calls.specs.ThawedFor.{AreThawedFor};
+ghost use Rattle.bp_calls.specs.Mounted.{image_in, IsExactIn};
 ghost use Rattle.bp_cow.specs.Found.{AreWaysIn};
 ghost use Rattle.bp_layout.specs.Directory.{empty_slot};
 ghost use Rattle.bp_rename.specs.CanRename.{CanRename, change_across, change_of};
 ghost use Rattle.bp_rename.specs.Planned.{AreWordsBehind, TouchesBehind};
 ghost use Rattle.bp_rename.specs.RenamesEntry.{RenamesEntry};
-ghost use Rattle.bp_shapes.specs.Sets.{IsExact, kept_of};
-ghost use Rattle.pm_region.specs.Memory.{current_words};
+ghost use Rattle.bp_shapes.specs.Sets.{kept_of};
+ghost use Rattle.pm_region.specs.Memory.{words_in};
 
 use crate::moving::Move;
 use crate::needing::ready_ways;
@@ -28,8 +29,8 @@ use pm_region::Region;
 /// Returns the touched words: the size of the new directory, which will include one more entry, and the inode number
 /// of the entry that moves.
 fn words_behind<R: Region>(region: &R, to_move: &Move<'_>) -> [(Slots, u64); 2]
-    requires can { CanRename (current_words (R.memory region.now)) to_move.now }
-    ensures { AreWordsBehind (current_words (R.memory region.now)) to_move.now result }
+    requires can { CanRename (words_in R.memory region.now) to_move.now }
+    ensures { AreWordsBehind (words_in R.memory region.now) to_move.now result }
 {
     let target = tree_of(region, to_move.to_dir);
     let sized = size_path(region, to_move.to_dir);
@@ -46,14 +47,14 @@ fn move_behind<R: Region>(
     touched: &Touched<'_>,
     found: &FoundWays,
 )
-    requires can { CanRename (current_words (R.memory parts.old.region)) to_move.now }
+    requires can { CanRename (image_in R.memory parts.old) to_move.now }
     requires new { to_move.now.to_slot ≡ None }
     requires other { to_move.now.from_dir ≢ to_move.now.to_dir }
-    requires none { empty_slot (current_words (R.memory parts.old.region)) to_move.now.to_dir ≡ None }
-    requires exact { IsExact (current_words (R.memory parts.old.region)) parts.old }
+    requires none { empty_slot (image_in R.memory parts.old) to_move.now.to_dir ≡ None }
+    requires exact { IsExactIn R.memory parts.old }
     requires thawed { AreThawedFor R.memory parts.old (change_across to_move.now) }
-    requires touches { TouchesBehind (current_words (R.memory parts.old.region)) to_move.now touched.now }
-    requires found { AreWaysIn (current_words (R.memory parts.old.region)) touched.now found.now }
+    requires touches { TouchesBehind (image_in R.memory parts.old) to_move.now touched.now }
+    requires found { AreWaysIn (image_in R.memory parts.old) touched.now found.now }
     ensures { CommitsChange R.memory parts.old parts.new (change_across to_move.now) (RenamesEntry to_move.now) }
 {
     let source = tree_of(&parts.region, to_move.from_dir);
@@ -72,11 +73,11 @@ pub(crate) fn rename_behind<R: Region>(
     parts: &mut Parts<R>,
     to_move: &Move<'_>,
 ) -> Result<(), NoSpace>
-    requires can { CanRename (current_words (R.memory parts.old.region)) to_move.now }
+    requires can { CanRename (image_in R.memory parts.old) to_move.now }
     requires new { to_move.now.to_slot ≡ None }
     requires other { to_move.now.from_dir ≢ to_move.now.to_dir }
-    requires none { empty_slot (current_words (R.memory parts.old.region)) to_move.now.to_dir ≡ None }
-    requires exact { IsExact (current_words (R.memory parts.old.region)) parts.old }
+    requires none { empty_slot (image_in R.memory parts.old) to_move.now.to_dir ≡ None }
+    requires exact { IsExactIn R.memory parts.old }
     requires room { HasRoomWhereFree (R.memory parts.old.region) (kept_of parts.old) parts.old.blocks (change_of to_move.now) }
     ensures { CommitsOrLacksSpace R.memory parts.old parts.new result (change_of to_move.now) (RenamesEntry to_move.now) }
 {

@@ -2,14 +2,15 @@
 
 ghost use Rattle.std.specs.Prelude.{◌≡◌, ◌^◌, ◌<◌, ◌∷◌, [], None, true, IfErr, IfOk, OnErr};
 ghost use Rattle.bp_calls.specs.Space.{HasRoomWhereFree, LacksSpace};
+ghost use Rattle.bp_calls.specs.Mounted.{image_in, IsExactIn};
 ghost use Rattle.bp_layout.specs.Directory.{empty_slot};
 ghost use Rattle.bp_layout.specs.Need.{need};
 ghost use Rattle.bp_rename.specs.CanRename.{CanRename, IsSlotAcross, change_across, change_of};
 ghost use Rattle.bp_rename.specs.Planned.{IsPlanned, IsReadyToRename, Needs};
 ghost use Rattle.bp_layout.specs.Thaw.{cover_now, targets, thawed};
-ghost use Rattle.bp_shapes.specs.Sets.{IsExact, kept_of};
+ghost use Rattle.bp_shapes.specs.Sets.{kept_of};
 ghost use Rattle.bp_thaw.specs.Thaws.{paths_in};
-ghost use Rattle.pm_region.specs.Memory.{current_words};
+ghost use Rattle.pm_region.specs.Memory.{words_in};
 
 use crate::moving::Move;
 use bp_calls::{Targets, entry_path, push_end, thaw_before};
@@ -21,10 +22,10 @@ use pm_region::Region;
 
 /// Adds the words near which a name is stored in another directory, given the least empty slot of that directory.
 fn push_new<R: Region>(near: &mut Targets, region: &R, to_move: &Move<'_>, empty: Option<u64>)
-    requires can { CanRename (current_words (R.memory region.now)) to_move.now }
-    requires slot { empty ≡ empty_slot (current_words (R.memory region.now)) to_move.now.to_dir }
-    requires cover { paths_in near.old ≡ cover_now (current_words (R.memory region.now)) (change_across to_move.now) ∷ [] }
-    ensures { paths_in near.new ≡ targets (current_words (R.memory region.now)) (change_across to_move.now) }
+    requires can { CanRename (words_in R.memory region.now) to_move.now }
+    requires slot { empty ≡ empty_slot (words_in R.memory region.now) to_move.now.to_dir }
+    requires cover { paths_in near.old ≡ cover_now (words_in R.memory region.now) (change_across to_move.now) ∷ [] }
+    ensures { paths_in near.new ≡ targets (words_in R.memory region.now) (change_across to_move.now) }
 {
     match empty {
         Some(slot) => near.push(entry_path(region, to_move.to_dir, slot)),
@@ -43,10 +44,10 @@ fn targets_of<R: Region>(
     empty: Option<u64>,
     touched: &Touched<'_>,
 ) -> Targets
-    requires can { CanRename (current_words (R.memory region.now)) to_move.now }
-    requires empty { IsSlotAcross (current_words (R.memory region.now)) to_move.now empty }
-    requires planned { IsPlanned (current_words (R.memory region.now)) to_move.now touched.now }
-    ensures { paths_in result ≡ targets (current_words (R.memory region.now)) (change_of to_move.now) }
+    requires can { CanRename (words_in R.memory region.now) to_move.now }
+    requires empty { IsSlotAcross (words_in R.memory region.now) to_move.now empty }
+    requires planned { IsPlanned (words_in R.memory region.now) to_move.now touched.now }
+    ensures { paths_in result ≡ targets (words_in R.memory region.now) (change_of to_move.now) }
 {
     let mut targets = Targets::new();
     targets.push(cover(region, touched));
@@ -67,12 +68,11 @@ fn is_clear<R: Region>(
     empty: Option<u64>,
     touched: &Touched<'_>,
 ) -> bool
-    requires can { CanRename (current_words (R.memory parts.now.region)) to_move.now }
-    requires empty { IsSlotAcross (current_words (R.memory parts.now.region)) to_move.now empty }
-    requires exact { IsExact (current_words (R.memory parts.now.region)) parts.now }
-    requires planned { IsPlanned (current_words (R.memory parts.now.region)) to_move.now touched.now }
-    ensures { result ≡ true →
-        thawed (current_words (R.memory parts.now.region)) (kept_of parts.now) (change_of to_move.now) ≡ [] }
+    requires can { CanRename (image_in R.memory parts.now) to_move.now }
+    requires empty { IsSlotAcross (image_in R.memory parts.now) to_move.now empty }
+    requires exact { IsExactIn R.memory parts.now }
+    requires planned { IsPlanned (image_in R.memory parts.now) to_move.now touched.now }
+    ensures { result ≡ true → thawed (image_in R.memory parts.now) (kept_of parts.now) (change_of to_move.now) ≡ [] }
 {
     if parts.frozen.count() == 0 {
         return true;
@@ -96,15 +96,15 @@ fn thaw_ways<R: Region>(
     touched: &Touched<'_>,
     more: u32,
 ) -> Result<FoundWays, NoSpace>
-    requires can { CanRename (current_words (R.memory parts.old.region)) to_move.now }
-    requires empty { IsSlotAcross (current_words (R.memory parts.old.region)) to_move.now empty }
-    requires exact { IsExact (current_words (R.memory parts.old.region)) parts.old }
-    requires planned { IsPlanned (current_words (R.memory parts.old.region)) to_move.now touched.now }
-    requires need { more ≡ need (current_words (R.memory parts.old.region)) (change_of to_move.now) }
+    requires can { CanRename (image_in R.memory parts.old) to_move.now }
+    requires empty { IsSlotAcross (image_in R.memory parts.old) to_move.now empty }
+    requires exact { IsExactIn R.memory parts.old }
+    requires planned { IsPlanned (image_in R.memory parts.old) to_move.now touched.now }
+    requires need { more ≡ need (image_in R.memory parts.old) (change_of to_move.now) }
     requires few { more < 2 ^ 31 }
     requires room { HasRoomWhereFree (R.memory parts.old.region) (kept_of parts.old) parts.old.blocks (change_of to_move.now) }
     ensures ready { IfOk result (λ found. IsReadyToRename R.memory to_move.now touched.now parts.old parts.new found) }
-    ensures refused { IfErr result (LacksSpace (current_words (R.memory parts.old.region)) (kept_of parts.old)
+    ensures refused { IfErr result (LacksSpace (image_in R.memory parts.old) (kept_of parts.old)
         (change_of to_move.now)) }
     ensures same { OnErr result (parts.new ≡ parts.old) }
 {
@@ -132,14 +132,14 @@ pub(crate) fn ready_ways<R: Region>(
     touched: &Touched<'_>,
     besides: u32,
 ) -> Result<FoundWays, NoSpace>
-    requires can { CanRename (current_words (R.memory parts.old.region)) to_move.now }
-    requires empty { IsSlotAcross (current_words (R.memory parts.old.region)) to_move.now empty }
-    requires exact { IsExact (current_words (R.memory parts.old.region)) parts.old }
-    requires planned { IsPlanned (current_words (R.memory parts.old.region)) to_move.now touched.now }
-    requires needs { Needs (current_words (R.memory parts.old.region)) to_move.now touched.now besides }
+    requires can { CanRename (image_in R.memory parts.old) to_move.now }
+    requires empty { IsSlotAcross (image_in R.memory parts.old) to_move.now empty }
+    requires exact { IsExactIn R.memory parts.old }
+    requires planned { IsPlanned (image_in R.memory parts.old) to_move.now touched.now }
+    requires needs { Needs (image_in R.memory parts.old) to_move.now touched.now besides }
     requires room { HasRoomWhereFree (R.memory parts.old.region) (kept_of parts.old) parts.old.blocks (change_of to_move.now) }
     ensures ready { IfOk result (λ found. IsReadyToRename R.memory to_move.now touched.now parts.old parts.new found) }
-    ensures refused { IfErr result (LacksSpace (current_words (R.memory parts.old.region)) (kept_of parts.old)
+    ensures refused { IfErr result (LacksSpace (image_in R.memory parts.old) (kept_of parts.old)
         (change_of to_move.now)) }
     ensures same { OnErr result (parts.new ≡ parts.old) }
 {

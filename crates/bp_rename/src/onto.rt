@@ -4,12 +4,13 @@ ghost use Rattle.std.specs.Prelude.{◌≡◌, Some};
 ghost use Rattle.bp_calls.specs.Commits.{CommitsChange, CommitsOrLacksSpace};
 ghost use Rattle.bp_calls.specs.Space.{HasRoomWhereFree};
 ghost use Rattle.bp_calls.specs.ThawedFor.{AreThawedFor};
+ghost use Rattle.bp_calls.specs.Mounted.{image_in, IsExactIn};
 ghost use Rattle.bp_cow.specs.Found.{AreWaysIn};
 ghost use Rattle.bp_rename.specs.CanRename.{CanRename, change_of, change_onto};
 ghost use Rattle.bp_rename.specs.Planned.{AreWordsOnto, TouchesOnto};
 ghost use Rattle.bp_rename.specs.RenamesEntry.{MovesOnto, RenamesEntry};
-ghost use Rattle.bp_shapes.specs.Sets.{IsExact, kept_of};
-ghost use Rattle.pm_region.specs.Memory.{current_words};
+ghost use Rattle.bp_shapes.specs.Sets.{kept_of};
+ghost use Rattle.pm_region.specs.Memory.{words_in};
 
 use crate::moving::Move;
 use crate::needing::ready_ways;
@@ -25,9 +26,9 @@ use pm_region::Region;
 /// Returns the touched words: the inode number of the entry that moves, and that of the entry in a slot of the new
 /// directory.
 fn words_onto<R: Region>(region: &R, to_move: &Move<'_>, slot: u64) -> [(Slots, u64); 2]
-    requires can { CanRename (current_words (R.memory region.now)) to_move.now }
+    requires can { CanRename (words_in R.memory region.now) to_move.now }
     requires onto { to_move.now.to_slot ≡ Some slot }
-    ensures { AreWordsOnto (current_words (R.memory region.now)) to_move.now slot result }
+    ensures { AreWordsOnto (words_in R.memory region.now) to_move.now slot result }
 {
     let source = tree_of(region, to_move.from_dir);
     let inode = inumber(region, source, to_move.from_slot);
@@ -46,12 +47,12 @@ fn move_onto<R: Region>(
     touched: &Touched<'_>,
     found: &FoundWays,
 )
-    requires can { CanRename (current_words (R.memory parts.old.region)) to_move.now }
+    requires can { CanRename (image_in R.memory parts.old) to_move.now }
     requires onto { to_move.now.to_slot ≡ Some slot }
-    requires exact { IsExact (current_words (R.memory parts.old.region)) parts.old }
+    requires exact { IsExactIn R.memory parts.old }
     requires thawed { AreThawedFor R.memory parts.old (change_onto to_move.now slot) }
-    requires touches { TouchesOnto (current_words (R.memory parts.old.region)) to_move.now slot touched.now }
-    requires found { AreWaysIn (current_words (R.memory parts.old.region)) touched.now found.now }
+    requires touches { TouchesOnto (image_in R.memory parts.old) to_move.now slot touched.now }
+    requires found { AreWaysIn (image_in R.memory parts.old) touched.now found.now }
     ensures { CommitsChange R.memory parts.old parts.new (change_onto to_move.now slot) (MovesOnto to_move.now slot) }
 {
     let target = tree_of(&parts.region, to_move.to_dir);
@@ -82,9 +83,9 @@ pub(crate) fn rename_onto<R: Region>(
     to_move: &Move<'_>,
     slot: u64,
 ) -> Result<(), NoSpace>
-    requires can { CanRename (current_words (R.memory parts.old.region)) to_move.now }
+    requires can { CanRename (image_in R.memory parts.old) to_move.now }
     requires onto { to_move.now.to_slot ≡ Some slot }
-    requires exact { IsExact (current_words (R.memory parts.old.region)) parts.old }
+    requires exact { IsExactIn R.memory parts.old }
     requires room { HasRoomWhereFree (R.memory parts.old.region) (kept_of parts.old) parts.old.blocks (change_of to_move.now) }
     ensures { CommitsOrLacksSpace R.memory parts.old parts.new result (change_of to_move.now) (RenamesEntry to_move.now) }
 {

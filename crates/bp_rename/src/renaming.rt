@@ -2,10 +2,10 @@
 
 ghost use Rattle.bp_calls.specs.Commits.{CommitsOrLacksSpace};
 ghost use Rattle.bp_calls.specs.Space.{HasRoomWhereFree};
+ghost use Rattle.bp_calls.specs.Mounted.{image_in, IsExactIn};
 ghost use Rattle.bp_rename.specs.CanRename.{CanRename, IsSlotAcross, change_of};
 ghost use Rattle.bp_rename.specs.RenamesEntry.{RenamesEntry};
-ghost use Rattle.bp_shapes.specs.Sets.{IsExact, kept_of};
-ghost use Rattle.pm_region.specs.Memory.{current_words};
+ghost use Rattle.bp_shapes.specs.Sets.{kept_of};
 
 use crate::across::rename_into;
 use crate::behind::rename_behind;
@@ -32,9 +32,9 @@ pub fn rename<R: Region>(
     to_move: &Move<'_>,
     empty: Option<u64>,
 ) -> Result<(), NoSpace>
-    requires can { CanRename (current_words (R.memory parts.old.region)) to_move.now }
-    requires empty { IsSlotAcross (current_words (R.memory parts.old.region)) to_move.now empty }
-    requires exact { IsExact (current_words (R.memory parts.old.region)) parts.old }
+    requires can { CanRename (image_in R.memory parts.old) to_move.now }
+    requires empty { IsSlotAcross (image_in R.memory parts.old) to_move.now empty }
+    requires exact { IsExactIn R.memory parts.old }
     requires room { HasRoomWhereFree (R.memory parts.old.region) (kept_of parts.old) parts.old.blocks (change_of to_move.now) }
     ensures { CommitsOrLacksSpace R.memory parts.old parts.new result (change_of to_move.now) (RenamesEntry to_move.now) }
 {

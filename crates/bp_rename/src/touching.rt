@@ -5,7 +5,7 @@ ghost use Rattle.bp_layout.specs.Inode.{size_of};
 ghost use Rattle.bp_layout.specs.Reached.{IsReached};
 ghost use Rattle.bp_layout.specs.WellFormed.{IsWellFormed};
 ghost use Rattle.bp_rename.specs.TouchesTwo.{AnyTree, IsSizedTree, ListsTrees, OtherTree};
-ghost use Rattle.pm_region.specs.Memory.{current_words};
+ghost use Rattle.pm_region.specs.Memory.{words_in};
 
 use bp_cow::{Touched, TreeSize};
 use bp_inodes::{inode_file, root_path, tree_of};
@@ -14,11 +14,11 @@ use pm_region::Region;
 
 /// Returns the tree of a directory that has entries, with its size.
 fn size_of_directory<R: Region>(region: &R, dir: u32) -> TreeSize
-    requires well_formed { IsWellFormed (current_words (R.memory region.now)) }
-    requires reached { IsReached (current_words (R.memory region.now)) dir }
+    requires well_formed { IsWellFormed (words_in R.memory region.now) }
+    requires reached { IsReached (words_in R.memory region.now) dir }
     requires some { 1 ≤ dir }
-    requires entries { 0 < size_of (current_words (R.memory region.now)) dir }
-    ensures { IsSizedTree (current_words (R.memory region.now)) dir result }
+    requires entries { 0 < size_of (words_in R.memory region.now) dir }
+    ensures { IsSizedTree (words_in R.memory region.now) dir result }
 {
     let tree = tree_of(region, dir);
     TreeSize {
@@ -30,8 +30,8 @@ fn size_of_directory<R: Region>(region: &R, dir: u32) -> TreeSize
 
 /// Returns the inode file, with its size.
 fn size_of_inodes<R: Region>(region: &R) -> TreeSize
-    requires { IsWellFormed (current_words (R.memory region.now)) }
-    ensures { IsSizedTree (current_words (R.memory region.now)) 0 result }
+    requires { IsWellFormed (words_in R.memory region.now) }
+    ensures { IsSizedTree (words_in R.memory region.now) 0 result }
 {
     let tree = inode_file(region);
     TreeSize {
@@ -43,25 +43,25 @@ fn size_of_inodes<R: Region>(region: &R) -> TreeSize
 
 /// Returns the trees on the paths to words of a directory.
 pub(crate) fn trees_of_one<R: Region>(region: &R, dir: u32) -> [TreeSize; 2]
-    requires well_formed { IsWellFormed (current_words (R.memory region.now)) }
-    requires reached { IsReached (current_words (R.memory region.now)) dir }
+    requires well_formed { IsWellFormed (words_in R.memory region.now) }
+    requires reached { IsReached (words_in R.memory region.now) dir }
     requires some { 1 ≤ dir }
-    requires entries { 0 < size_of (current_words (R.memory region.now)) dir }
-    ensures { (j : ℕ) → 1 ≤ j → dir ≢ j → ListsTrees (current_words (R.memory region.now)) (OtherTree j) result }
+    requires entries { 0 < size_of (words_in R.memory region.now) dir }
+    ensures { (j : ℕ) → 1 ≤ j → dir ≢ j → ListsTrees (words_in R.memory region.now) (OtherTree j) result }
 {
     [size_of_directory(region, dir), size_of_inodes(region)]
 }
 
 /// Returns the trees on the paths to words of two directories.
 pub(crate) fn trees_of_both<R: Region>(region: &R, first: u32, second: u32) -> [TreeSize; 3]
-    requires well_formed { IsWellFormed (current_words (R.memory region.now)) }
-    requires first_reached { IsReached (current_words (R.memory region.now)) first }
+    requires well_formed { IsWellFormed (words_in R.memory region.now) }
+    requires first_reached { IsReached (words_in R.memory region.now) first }
     requires first_some { 1 ≤ first }
-    requires first_entries { 0 < size_of (current_words (R.memory region.now)) first }
-    requires second_reached { IsReached (current_words (R.memory region.now)) second }
+    requires first_entries { 0 < size_of (words_in R.memory region.now) first }
+    requires second_reached { IsReached (words_in R.memory region.now) second }
     requires second_some { 1 ≤ second }
-    requires second_entries { 0 < size_of (current_words (R.memory region.now)) second }
-    ensures { ListsTrees (current_words (R.memory region.now)) AnyTree result }
+    requires second_entries { 0 < size_of (words_in R.memory region.now) second }
+    ensures { ListsTrees (words_in R.memory region.now) AnyTree result }
 {
     [
         size_of_directory(region, first),

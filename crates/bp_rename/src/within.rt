@@ -3,12 +3,13 @@
 ghost use Rattle.std.specs.Prelude.{◌≡◌, ◌≤◌, None, length};
 ghost use Rattle.bp_calls.specs.Commits.{CommitsOrLacksSpace};
 ghost use Rattle.bp_calls.specs.Space.{HasRoomWhereFree};
+ghost use Rattle.bp_calls.specs.Mounted.{image_in, IsExactIn};
 ghost use Rattle.bp_limits.specs.CallLimits.{max_name};
 ghost use Rattle.bp_rename.specs.CanRename.{CanRename, change_of};
 ghost use Rattle.bp_rename.specs.RenamesEntry.{RenamesEntry};
 ghost use Rattle.bp_rename.specs.Respelled.{IsNameRun, IsRespelled, respelled_byte};
-ghost use Rattle.bp_shapes.specs.Sets.{IsExact, kept_of};
-ghost use Rattle.pm_region.specs.Memory.{current_words};
+ghost use Rattle.bp_shapes.specs.Sets.{kept_of};
+ghost use Rattle.pm_region.specs.Memory.{words_in};
 
 use crate::moving::Move;
 use crate::needing::ready_ways;
@@ -49,9 +50,9 @@ fn respelled(name: &[u8]) -> [u8; MAX_NAME + 8]
 /// Returns the run of the words that change: that of the length of the name, and those of the name up to the end of
 /// its last word.
 fn name_run<'a, R: Region>(region: &R, to_move: &Move<'_>, bytes: &'a [u8; MAX_NAME + 8]) -> Run<'a>
-    requires can { CanRename (current_words (R.memory region.now)) to_move.now }
+    requires can { CanRename (words_in R.memory region.now) to_move.now }
     requires bytes { IsRespelled to_move.now.name.now bytes.now }
-    ensures { IsNameRun (current_words (R.memory region.now)) to_move.now.from_dir to_move.now.from_slot
+    ensures { IsNameRun (words_in R.memory region.now) to_move.now.from_dir to_move.now.from_slot
         to_move.now.name.now result }
 {
     let tree = tree_of(region, to_move.from_dir);
@@ -73,10 +74,10 @@ pub(crate) fn rename_within<R: Region>(
     parts: &mut Parts<R>,
     to_move: &Move<'_>,
 ) -> Result<(), NoSpace>
-    requires can { CanRename (current_words (R.memory parts.old.region)) to_move.now }
+    requires can { CanRename (image_in R.memory parts.old) to_move.now }
     requires new { to_move.now.to_slot ≡ None }
     requires here { to_move.now.from_dir ≡ to_move.now.to_dir }
-    requires exact { IsExact (current_words (R.memory parts.old.region)) parts.old }
+    requires exact { IsExactIn R.memory parts.old }
     requires room { HasRoomWhereFree (R.memory parts.old.region) (kept_of parts.old) parts.old.blocks (change_of to_move.now) }
     ensures { CommitsOrLacksSpace R.memory parts.old parts.new result (change_of to_move.now) (RenamesEntry to_move.now) }
 {

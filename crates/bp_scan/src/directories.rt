@@ -11,7 +11,7 @@ ghost use Rattle.bp_scan.specs.Reading.{IsReading, IsAtHand, IsInside, steps};
 ghost use Rattle.bp_scan.specs.Room.{HasScanMemory};
 ghost use Rattle.bp_scan.specs.Misspelled.{FailsNames};
 ghost use Rattle.bp_spelling.specs.Names.{AreNames, AreNumbers, entry_place_in};
-ghost use Rattle.pm_region.specs.Memory.{current_words};
+ghost use Rattle.pm_region.specs.Memory.{words_in};
 
 use crate::trees::enter;
 use crate::work::{Scan, make_numbers, make_room};
@@ -44,11 +44,11 @@ pub(crate) struct Slot {
 
 /// Returns a check that fails at an entry of a directory. The place is that of the entry's first word.
 fn entry_fault<R: Region>(region: &R, directory: Directory, slot: u64, check: Check) -> CheckFault
-    requires sound { IsSound (current_words (R.memory region.now)) directory.tree.root directory.tree.size }
-    requires full { IsFull (current_words (R.memory region.now)) directory.tree.root directory.tree.size }
+    requires sound { IsSound (words_in R.memory region.now) directory.tree.root directory.tree.size }
+    requires full { IsFull (words_in R.memory region.now) directory.tree.root directory.tree.size }
     requires live { slot < directory.tree.size / entry_size }
     ensures check { result.check ≡ check }
-    ensures place { result.place ≡ entry_place_in (current_words (R.memory region.now)) directory.tree.root slot }
+    ensures place { result.place ≡ entry_place_in (words_in R.memory region.now) directory.tree.root slot }
 {
     CheckFault {
         check,
@@ -63,16 +63,16 @@ fn read_again<R: Region>(
     slot: Slot,
     work: &mut Scan,
 ) -> Result<(), CheckFault>
-    requires inside { IsInside (current_words (R.memory region.now)) work.old directory slot.number }
+    requires inside { IsInside (words_in R.memory region.now) work.old directory slot.number }
     requires live { slot.number < directory.tree.size / entry_size }
-    requires named { slot.named ≡ inumber_in (current_words (R.memory region.now)) directory.tree.root slot.number }
+    requires named { slot.named ≡ inumber_in (words_in R.memory region.now) directory.tree.root slot.number }
     requires some { slot.named ≢ 0 }
-    requires there { slot.named < inode_count (current_words (R.memory region.now)) }
+    requires there { slot.named < inode_count (words_in R.memory region.now) }
     requires entered { has work.old.inodes slot.named ≡ false }
-    ensures inside { OnOk result (IsInside (current_words (R.memory region.now)) work.new directory (slot.number + 1)) }
+    ensures inside { OnOk result (IsInside (words_in R.memory region.now) work.new directory (slot.number + 1)) }
     ensures steps { OnOk result (steps work.new ≤ steps work.old) }
-    ensures fault { IfErr result (λ f. Fails (current_words (R.memory region.now)) f.check f.place) }
-    ensures room { HasScanMemory (current_words (R.memory region.now)) work.new }
+    ensures fault { IfErr result (λ f. Fails (words_in R.memory region.now) f.check f.place) }
+    ensures room { HasScanMemory (words_in R.memory region.now) work.new }
 {
     match get(region, slot.named).kind {
         Kind::File => {
@@ -91,15 +91,15 @@ fn read_named<R: Region>(
     slot: Slot,
     work: &mut Scan,
 ) -> Result<(), CheckFault>
-    requires inside { IsInside (current_words (R.memory region.now)) work.old directory slot.number }
+    requires inside { IsInside (words_in R.memory region.now) work.old directory slot.number }
     requires live { slot.number < directory.tree.size / entry_size }
-    requires named { slot.named ≡ inumber_in (current_words (R.memory region.now)) directory.tree.root slot.number }
+    requires named { slot.named ≡ inumber_in (words_in R.memory region.now) directory.tree.root slot.number }
     requires some { slot.named ≢ 0 }
-    requires there { slot.named < inode_count (current_words (R.memory region.now)) }
-    ensures inside { OnOk result (IsInside (current_words (R.memory region.now)) work.new directory (slot.number + 1)) }
+    requires there { slot.named < inode_count (words_in R.memory region.now) }
+    ensures inside { OnOk result (IsInside (words_in R.memory region.now) work.new directory (slot.number + 1)) }
     ensures steps { OnOk result (steps work.new ≤ steps work.old) }
-    ensures fault { IfErr result (λ f. Fails (current_words (R.memory region.now)) f.check f.place) }
-    ensures room { HasScanMemory (current_words (R.memory region.now)) work.new }
+    ensures fault { IfErr result (λ f. Fails (words_in R.memory region.now) f.check f.place) }
+    ensures room { HasScanMemory (words_in R.memory region.now) work.new }
 {
     if !work.inodes.is_free(slot.named) {
         return read_again(region, directory, slot, work);
@@ -116,12 +116,12 @@ fn read_entry<R: Region>(
     number: u64,
     work: &mut Scan,
 ) -> Result<(), CheckFault>
-    requires inside { IsInside (current_words (R.memory region.now)) work.old directory number }
+    requires inside { IsInside (words_in R.memory region.now) work.old directory number }
     requires live { number < directory.tree.size / entry_size }
-    ensures inside { OnOk result (IsInside (current_words (R.memory region.now)) work.new directory (number + 1)) }
+    ensures inside { OnOk result (IsInside (words_in R.memory region.now) work.new directory (number + 1)) }
     ensures steps { OnOk result (steps work.new ≤ steps work.old) }
-    ensures fault { IfErr result (λ f. Fails (current_words (R.memory region.now)) f.check f.place) }
-    ensures room { HasScanMemory (current_words (R.memory region.now)) work.new }
+    ensures fault { IfErr result (λ f. Fails (words_in R.memory region.now) f.check f.place) }
+    ensures room { HasScanMemory (words_in R.memory region.now) work.new }
 {
     let named = work.numbers[number as usize];
     if named == 0 {
@@ -139,12 +139,12 @@ fn read_entries<R: Region>(
     directory: Directory,
     work: &mut Scan,
 ) -> Result<(), CheckFault>
-    requires { IsInside (current_words (R.memory region.now)) work.old directory 0 }
-    ensures inside { let words = current_words (R.memory region.now) in
+    requires { IsInside (words_in R.memory region.now) work.old directory 0 }
+    ensures inside { let words = words_in R.memory region.now in
         OnOk result (IsInside words work.new directory (directory.tree.size / entry_size)) }
     ensures steps { OnOk result (steps work.new ≤ steps work.old) }
-    ensures fault { IfErr result (λ f. Fails (current_words (R.memory region.now)) f.check f.place) }
-    ensures room { HasScanMemory (current_words (R.memory region.now)) work.new }
+    ensures fault { IfErr result (λ f. Fails (words_in R.memory region.now) f.check f.place) }
+    ensures room { HasScanMemory (words_in R.memory region.now) work.new }
 {
     for slot in 0..directory.tree.size / ENTRY_SIZE {
         read_entry(region, directory, slot, work)?;
@@ -160,15 +160,15 @@ fn read_names<R: Region>(
     entries: &mut Vec<Spelled>,
     numbers: &mut Vec<u32>,
 ) -> Result<(), CheckFault>
-    requires sound { IsSound (current_words (R.memory region.now)) tree.root tree.size }
-    requires full { IsFull (current_words (R.memory region.now)) tree.root tree.size }
-    requires most { length (current_words (R.memory region.now)) ≤ block_words * max_blocks }
+    requires sound { IsSound (words_in R.memory region.now) tree.root tree.size }
+    requires full { IsFull (words_in R.memory region.now) tree.root tree.size }
+    requires most { length (words_in R.memory region.now) ≤ block_words * max_blocks }
     requires room { tree.size / entry_size ≤ vec_capacity entries.old }
     requires number_room { tree.size / entry_size ≤ vec_capacity numbers.old }
-    ensures ok { OnOk result (AreNames (current_words (R.memory region.now)) tree.root tree.size) }
-    ensures err { let words = current_words (R.memory region.now) in
+    ensures ok { OnOk result (AreNames (words_in R.memory region.now) tree.root tree.size) }
+    ensures err { let words = words_in R.memory region.now in
         IfErr result (λ f. FailsNames words tree.root tree.size f.check f.place) }
-    ensures numbers { let words = current_words (R.memory region.now) in
+    ensures numbers { let words = words_in R.memory region.now in
         OnOk result (AreNumbers words tree.root (tree.size / entry_size) numbers.new.items) }
     ensures few { OnOk result (tree.size / entry_size ≤ vec_len numbers.new) }
     ensures room { vec_capacity entries.old ≤ vec_capacity entries.new }
@@ -195,11 +195,11 @@ pub(crate) fn read_directory<R: Region>(
     inode: u32,
     work: &mut Scan,
 ) -> Result<(), CheckFault>
-    requires { IsAtHand (current_words (R.memory region.now)) work.old inode 0 }
-    ensures done { OnOk result (IsReading (current_words (R.memory region.now)) work.new 0 0) }
+    requires { IsAtHand (words_in R.memory region.now) work.old inode 0 }
+    ensures done { OnOk result (IsReading (words_in R.memory region.now) work.new 0 0) }
     ensures steps { OnOk result (steps work.new ≤ steps work.old) }
-    ensures fault { IfErr result (λ f. Fails (current_words (R.memory region.now)) f.check f.place) }
-    ensures room { HasScanMemory (current_words (R.memory region.now)) work.new }
+    ensures fault { IfErr result (λ f. Fails (words_in R.memory region.now) f.check f.place) }
+    ensures room { HasScanMemory (words_in R.memory region.now) work.new }
 {
     let words = get(region, inode);
     let tree = Tree::of(&words);

@@ -11,7 +11,7 @@ ghost use Rattle.bp_scan.specs.Reading.{IsReading, IsUnread};
 ghost use Rattle.bp_scan.specs.Room.{HasScanMemory};
 ghost use Rattle.bp_scan.specs.Scanned.{AreOthersLive};
 ghost use Rattle.bp_scan.specs.Totals.{HasTreeTotals};
-ghost use Rattle.pm_region.specs.Memory.{current_words};
+ghost use Rattle.pm_region.specs.Memory.{words_in};
 ghost use Rattle.bp_layout.specs.Thaw.{none_kept};
 
 use crate::directories::read_directory;
@@ -25,11 +25,11 @@ use pm_region::Region;
 
 /// Enters the inode file and the root directory, which is then to be read.
 fn start<R: Region>(region: &R, work: &mut Scan) -> Result<(), CheckFault>
-    requires formatted { IsFormatted (current_words (R.memory region.now)) }
-    requires unread { IsUnread (current_words (R.memory region.now)) work.old }
-    ensures started { OnOk result (IsReading (current_words (R.memory region.now)) work.new 0 0) }
-    ensures fault { IfErr result (λ f. Fails (current_words (R.memory region.now)) f.check f.place) }
-    ensures room { HasScanMemory (current_words (R.memory region.now)) work.new }
+    requires formatted { IsFormatted (words_in R.memory region.now) }
+    requires unread { IsUnread (words_in R.memory region.now) work.old }
+    ensures started { OnOk result (IsReading (words_in R.memory region.now) work.new 0 0) }
+    ensures fault { IfErr result (λ f. Fails (words_in R.memory region.now) f.check f.place) }
+    ensures room { HasScanMemory (words_in R.memory region.now) work.new }
 {
     let room = work.blocks.room();
     work.blocks.fill(1, room as usize);
@@ -41,11 +41,11 @@ fn start<R: Region>(region: &R, work: &mut Scan) -> Result<(), CheckFault>
 
 /// Reads the directories that are to be read, and those that they lead to.
 fn read_directories<R: Region>(region: &R, work: &mut Scan) -> Result<(), CheckFault>
-    requires { IsReading (current_words (R.memory region.now)) work.old 0 0 }
-    ensures reading { OnOk result (IsReading (current_words (R.memory region.now)) work.new 0 0) }
+    requires { IsReading (words_in R.memory region.now) work.old 0 0 }
+    ensures reading { OnOk result (IsReading (words_in R.memory region.now) work.new 0 0) }
     ensures none_left { OnOk result ((i : ℕ) → has work.new.todo i ≡ false) }
-    ensures fault { IfErr result (λ f. Fails (current_words (R.memory region.now)) f.check f.place) }
-    ensures room { HasScanMemory (current_words (R.memory region.now)) work.new }
+    ensures fault { IfErr result (λ f. Fails (words_in R.memory region.now) f.check f.place) }
+    ensures room { HasScanMemory (words_in R.memory region.now) work.new }
 {
     while let Some(inode) = work.todo.take() {
         read_directory(region, inode, work)?;
@@ -57,16 +57,16 @@ fn read_directories<R: Region>(region: &R, work: &mut Scan) -> Result<(), CheckF
 /// the two sets, counts the links of the inodes, and returns the totals. It returns an error exactly if a check fails;
 /// sets and counts have no defined contents then.
 pub(crate) fn read_trees<R: Region>(region: &R, work: &mut Scan) -> Result<Totals, CheckFault>
-    requires formatted { IsFormatted (current_words (R.memory region.now)) }
-    requires unread { IsUnread (current_words (R.memory region.now)) work.old }
-    ensures well_formed { OnOk result (IsWellFormed (current_words (R.memory region.now))) }
-    ensures blocks { OnOk result (AreFreeBlocks (current_words (R.memory region.now)) none_kept (has work.new.blocks)) }
-    ensures others { OnOk result (AreOthersLive (current_words (R.memory region.now)) (has work.new.blocks)) }
-    ensures inodes { OnOk result (AreFreeInodes (current_words (R.memory region.now)) (has work.new.inodes)) }
-    ensures counts { OnOk result (AreCounts (current_words (R.memory region.now)) work.new.counts) }
-    ensures totals { IfOk result (HasTreeTotals (current_words (R.memory region.now))) }
-    ensures fault { IfErr result (λ f. Fails (current_words (R.memory region.now)) f.check f.place) }
-    ensures room { HasScanMemory (current_words (R.memory region.now)) work.new }
+    requires formatted { IsFormatted (words_in R.memory region.now) }
+    requires unread { IsUnread (words_in R.memory region.now) work.old }
+    ensures well_formed { OnOk result (IsWellFormed (words_in R.memory region.now)) }
+    ensures blocks { OnOk result (AreFreeBlocks (words_in R.memory region.now) none_kept (has work.new.blocks)) }
+    ensures others { OnOk result (AreOthersLive (words_in R.memory region.now) (has work.new.blocks)) }
+    ensures inodes { OnOk result (AreFreeInodes (words_in R.memory region.now) (has work.new.inodes)) }
+    ensures counts { OnOk result (AreCounts (words_in R.memory region.now) work.new.counts) }
+    ensures totals { IfOk result (HasTreeTotals (words_in R.memory region.now)) }
+    ensures fault { IfErr result (λ f. Fails (words_in R.memory region.now) f.check f.place) }
+    ensures room { HasScanMemory (words_in R.memory region.now) work.new }
 {
     start(region, work)?;
     read_directories(region, work)?;

@@ -12,7 +12,7 @@ ghost use Rattle.bp_scan.specs.Faults.{IsTreeFault};
 ghost use Rattle.bp_scan.specs.Room.{HasScanMemory};
 ghost use Rattle.bp_scan.specs.Scanned.{AreOthersLive};
 ghost use Rattle.bp_scan.specs.Totals.{HasTreeTotals};
-ghost use Rattle.pm_region.specs.Memory.{current_words};
+ghost use Rattle.pm_region.specs.Memory.{words_in};
 ghost use Rattle.bp_layout.specs.Thaw.{none_kept};
 
 use crate::fault::MountFault;
@@ -30,11 +30,11 @@ use std::mem;
 
 /// Returns the fields of the superblock of an image.
 fn read_superblock<R: Region>(region: &R) -> Super
-    requires { block_words ≤ length (current_words (R.memory region.now)) }
-    ensures magic { result.magic ≡ word (current_words (R.memory region.now)) super_magic }
-    ensures blocks { result.blocks ≡ word (current_words (R.memory region.now)) super_blocks }
-    ensures root { result.root ≡ word (current_words (R.memory region.now)) super_root }
-    ensures size { result.size ≡ word (current_words (R.memory region.now)) super_size }
+    requires { block_words ≤ length (words_in R.memory region.now) }
+    ensures magic { result.magic ≡ word (words_in R.memory region.now) super_magic }
+    ensures blocks { result.blocks ≡ word (words_in R.memory region.now) super_blocks }
+    ensures root { result.root ≡ word (words_in R.memory region.now) super_root }
+    ensures size { result.size ≡ word (words_in R.memory region.now) super_size }
 {
     Super::read(&[
         region.load(SUPER_MAGIC),
@@ -52,9 +52,9 @@ fn read_superblock<R: Region>(region: &R) -> Super
 /// - `NotFormatted`: word 0 is the magic number of no version. It is returned in exactly this case.
 /// - `BadSize`: word 0 is right, and word 1 is not the number of blocks. It is returned in exactly this case.
 fn check_superblock<R: Region>(region: &R) -> Result<(), MountFault>
-    requires sized { IsSized (current_words (R.memory region.now)) }
-    ensures formatted { OnOk result (IsFormatted (current_words (R.memory region.now))) }
-    ensures fault { IfErr result (IsTreeFault (current_words (R.memory region.now))) }
+    requires sized { IsSized (words_in R.memory region.now) }
+    ensures formatted { OnOk result (IsFormatted (words_in R.memory region.now)) }
+    ensures fault { IfErr result (IsTreeFault (words_in R.memory region.now)) }
 {
     let superblock = read_superblock(region);
     let mark = Version::at(superblock.magic).magic();
@@ -73,19 +73,19 @@ fn check_superblock<R: Region>(region: &R) -> Result<(), MountFault>
 
 /// Does what [`scan`] does, with the two sets and the counts in the work.
 fn scan_with<R: Region>(region: &R, work: &mut Scan) -> Result<Totals, MountFault>
-    requires sized { IsSized (current_words (R.memory region.now)) }
-    requires room { HasScanMemory (current_words (R.memory region.now)) work.old }
-    ensures well_formed { IsOk result ↔ IsWellFormed (current_words (R.memory region.now)) }
-    ensures blocks { OnOk result (AreFreeBlocks (current_words (R.memory region.now)) none_kept (has work.new.blocks)) }
-    ensures others { OnOk result (AreOthersLive (current_words (R.memory region.now)) (has work.new.blocks)) }
-    ensures inodes { OnOk result (AreFreeInodes (current_words (R.memory region.now)) (has work.new.inodes)) }
-    ensures counts { OnOk result (AreCounts (current_words (R.memory region.now)) work.new.counts) }
-    ensures totals { IfOk result (HasTreeTotals (current_words (R.memory region.now))) }
-    ensures fault { IfErr result (IsTreeFault (current_words (R.memory region.now))) }
+    requires sized { IsSized (words_in R.memory region.now) }
+    requires room { HasScanMemory (words_in R.memory region.now) work.old }
+    ensures well_formed { IsOk result ↔ IsWellFormed (words_in R.memory region.now) }
+    ensures blocks { OnOk result (AreFreeBlocks (words_in R.memory region.now) none_kept (has work.new.blocks)) }
+    ensures others { OnOk result (AreOthersLive (words_in R.memory region.now) (has work.new.blocks)) }
+    ensures inodes { OnOk result (AreFreeInodes (words_in R.memory region.now) (has work.new.inodes)) }
+    ensures counts { OnOk result (AreCounts (words_in R.memory region.now) work.new.counts) }
+    ensures totals { IfOk result (HasTreeTotals (words_in R.memory region.now)) }
+    ensures fault { IfErr result (IsTreeFault (words_in R.memory region.now)) }
     ensures no_blocks { OnErr result (work.new.blocks ≡ empty (length work.old.blocks)) }
     ensures no_inodes { OnErr result (work.new.inodes ≡ empty (length work.old.inodes)) }
     ensures no_counts { OnErr result (work.new.counts ≡ replicate (length work.old.counts) 0) }
-    ensures room { HasScanMemory (current_words (R.memory region.now)) work.new }
+    ensures room { HasScanMemory (words_in R.memory region.now) work.new }
 {
     work.clear();
     check_superblock(region)?;
@@ -123,18 +123,18 @@ pub fn scan<R: Region>(
     pending: &mut Pending,
     counts: &mut Counts,
 ) -> Result<Totals, MountFault>
-    requires sized { IsSized (current_words (R.memory region.now)) }
-    requires blocks { length blocks.old ≡ block_count (current_words (R.memory region.now)) }
-    requires inodes { length inodes.old ≡ block_inodes * block_count (current_words (R.memory region.now)) }
-    requires pending { pending.old ≡ block_inodes * block_count (current_words (R.memory region.now)) }
-    requires counts { length counts.old ≡ block_inodes * block_count (current_words (R.memory region.now)) }
-    ensures well_formed { IsOk result ↔ IsWellFormed (current_words (R.memory region.now)) }
-    ensures blocks { OnOk result (AreFreeBlocks (current_words (R.memory region.now)) none_kept (has blocks.new)) }
-    ensures others { OnOk result (AreOthersLive (current_words (R.memory region.now)) (has blocks.new)) }
-    ensures inodes { OnOk result (AreFreeInodes (current_words (R.memory region.now)) (has inodes.new)) }
-    ensures counts { OnOk result (AreCounts (current_words (R.memory region.now)) counts.new) }
-    ensures totals { IfOk result (HasTreeTotals (current_words (R.memory region.now))) }
-    ensures fault { IfErr result (IsTreeFault (current_words (R.memory region.now))) }
+    requires sized { IsSized (words_in R.memory region.now) }
+    requires blocks { length blocks.old ≡ block_count (words_in R.memory region.now) }
+    requires inodes { length inodes.old ≡ block_inodes * block_count (words_in R.memory region.now) }
+    requires pending { pending.old ≡ block_inodes * block_count (words_in R.memory region.now) }
+    requires counts { length counts.old ≡ block_inodes * block_count (words_in R.memory region.now) }
+    ensures well_formed { IsOk result ↔ IsWellFormed (words_in R.memory region.now) }
+    ensures blocks { OnOk result (AreFreeBlocks (words_in R.memory region.now) none_kept (has blocks.new)) }
+    ensures others { OnOk result (AreOthersLive (words_in R.memory region.now) (has blocks.new)) }
+    ensures inodes { OnOk result (AreFreeInodes (words_in R.memory region.now) (has inodes.new)) }
+    ensures counts { OnOk result (AreCounts (words_in R.memory region.now) counts.new) }
+    ensures totals { IfOk result (HasTreeTotals (words_in R.memory region.now)) }
+    ensures fault { IfErr result (IsTreeFault (words_in R.memory region.now)) }
     ensures no_blocks { OnErr result (blocks.new ≡ empty (length blocks.old)) }
     ensures no_inodes { OnErr result (inodes.new ≡ empty (length inodes.old)) }
     ensures no_counts { OnErr result (counts.new ≡ replicate (length counts.old) 0) }

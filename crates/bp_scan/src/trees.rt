@@ -11,7 +11,7 @@ ghost use Rattle.bp_scan.specs.Inodes.{AreWords, IsRightInode, IsWrong, EntersIn
 ghost use Rattle.bp_scan.specs.Reading.{HasWholeInodes, HasInodeFile};
 ghost use Rattle.bp_scan.specs.Room.{HasScanMemory};
 ghost use Rattle.bp_scan.specs.Scanned.{HasAllBlocks};
-ghost use Rattle.pm_region.specs.Memory.{current_words};
+ghost use Rattle.pm_region.specs.Memory.{words_in};
 
 use crate::totalling::count_inode;
 use crate::work::Scan;
@@ -38,11 +38,11 @@ struct InodeWords {
 
 /// Enters the inode file: takes its blocks out of the set of all blocks except the first.
 pub(crate) fn enter_inode_file<R: Region>(region: &R, blocks: &mut Blocks) -> Result<(), CheckFault>
-    requires formatted { IsFormatted (current_words (R.memory region.now)) }
-    requires all { HasAllBlocks (current_words (R.memory region.now)) blocks.old }
-    ensures ready { OnOk result (HasWholeInodes (current_words (R.memory region.now))) }
-    ensures entered { OnOk result (HasInodeFile (current_words (R.memory region.now)) blocks.old blocks.new) }
-    ensures fault { IfErr result (λ f. Fails (current_words (R.memory region.now)) f.check f.place) }
+    requires formatted { IsFormatted (words_in R.memory region.now) }
+    requires all { HasAllBlocks (words_in R.memory region.now) blocks.old }
+    ensures ready { OnOk result (HasWholeInodes (words_in R.memory region.now)) }
+    ensures entered { OnOk result (HasInodeFile (words_in R.memory region.now) blocks.old blocks.new) }
+    ensures fault { IfErr result (λ f. Fails (words_in R.memory region.now) f.check f.place) }
     ensures room { length blocks.new ≡ length blocks.old }
 {
     let file = inode_file(region);
@@ -57,14 +57,12 @@ pub(crate) fn enter_inode_file<R: Region>(region: &R, blocks: &mut Blocks) -> Re
 
 /// Reads the words of an inode.
 fn load_inode<R: Region>(region: &R, inode: u32) -> InodeWords
-    requires formatted { IsFormatted (current_words (R.memory region.now)) }
-    requires sound { let words = current_words (R.memory region.now) in
-        IsSound words (root_of words 0) (size_of words 0) }
-    requires full { let words = current_words (R.memory region.now) in
-        IsFull words (root_of words 0) (size_of words 0) }
+    requires formatted { IsFormatted (words_in R.memory region.now) }
+    requires sound { let words = words_in R.memory region.now in IsSound words (root_of words 0) (size_of words 0) }
+    requires full { let words = words_in R.memory region.now in IsFull words (root_of words 0) (size_of words 0) }
     requires some { 1 ≤ inode }
-    requires there { inode < inode_count (current_words (R.memory region.now)) }
-    ensures { AreWords (current_words (R.memory region.now)) inode result }
+    requires there { inode < inode_count (words_in R.memory region.now) }
+    ensures { AreWords (words_in R.memory region.now) inode result }
 {
     let place = place(region, inode, 0);
     InodeWords {
@@ -100,22 +98,20 @@ fn check_words(inode: u32, words: InodeWords) -> Result<(), CheckFault>
 /// Enters the tree of an inode: takes its blocks out of the set, counts the inode, and, if it is a directory, adds it
 /// to those to be read.
 pub(crate) fn enter<R: Region>(region: &R, inode: u32, work: &mut Scan) -> Result<(), CheckFault>
-    requires formatted { IsFormatted (current_words (R.memory region.now)) }
-    requires sound { let words = current_words (R.memory region.now) in
-        IsSound words (root_of words 0) (size_of words 0) }
-    requires full { let words = current_words (R.memory region.now) in
-        IsFull words (root_of words 0) (size_of words 0) }
+    requires formatted { IsFormatted (words_in R.memory region.now) }
+    requires sound { let words = words_in R.memory region.now in IsSound words (root_of words 0) (size_of words 0) }
+    requires full { let words = words_in R.memory region.now in IsFull words (root_of words 0) (size_of words 0) }
     requires some { 1 ≤ inode }
-    requires there { inode < inode_count (current_words (R.memory region.now)) }
-    requires room { HasScanMemory (current_words (R.memory region.now)) work.old }
+    requires there { inode < inode_count (words_in R.memory region.now) }
+    requires room { HasScanMemory (words_in R.memory region.now) work.old }
     requires not_first { has work.old.blocks 0 ≡ false }
     requires new { has work.old.todo inode ≡ false }
     requires todo { inode < length work.old.todo }
     requires few { IsCountable work.old.totals }
-    ensures ok { OnOk result (EntersInode (current_words (R.memory region.now)) inode work.old work.new) }
-    ensures err { let words = current_words (R.memory region.now) in
+    ensures ok { OnOk result (EntersInode (words_in R.memory region.now) inode work.old work.new) }
+    ensures err { let words = words_in R.memory region.now in
         IfErr result (λ f. FailsInode words inode work.old.blocks f.check f.place) }
-    ensures room { HasScanMemory (current_words (R.memory region.now)) work.new }
+    ensures room { HasScanMemory (words_in R.memory region.now) work.new }
 {
     let words = load_inode(region, inode);
     check_words(inode, words)?;

@@ -13,7 +13,7 @@ ghost use Rattle.bp_limits.specs.Limits.{block_inodes};
 ghost use Rattle.bp_scan.specs.Faults.{IsFault, of_second};
 ghost use Rattle.bp_scan.specs.Others.{HasOthers, Loses};
 ghost use Rattle.bp_scan.specs.Totals.{HasTotals};
-ghost use Rattle.pm_region.specs.Memory.{current_words};
+ghost use Rattle.pm_region.specs.Memory.{words_in};
 
 use crate::fault::MountFault;
 use crate::pending::Pending;
@@ -27,8 +27,8 @@ use pm_region::Region;
 
 /// Returns whether an image has a second tree.
 pub fn has_second<R: Region>(region: &R) -> bool
-    requires { IsSized (current_words (R.memory region.now)) }
-    ensures { result ≡ has_snapshot (current_words (R.memory region.now)) }
+    requires { IsSized (words_in R.memory region.now) }
+    ensures { result ≡ has_snapshot (words_in R.memory region.now) }
 {
     match version(region) {
         Version::One => false,
@@ -98,16 +98,16 @@ fn scan_second<R: Region>(
     pending: &mut Pending,
     counts: &mut Counts,
 ) -> Result<(), MountFault>
-    requires sized { IsSized (current_words (R.memory region.now)) }
-    requires there { has_snapshot (current_words (R.memory region.now)) ≡ true }
-    requires blocks { length blocks.old ≡ block_count (current_words (R.memory region.now)) }
-    requires inodes { length inodes.old ≡ block_inodes * block_count (current_words (R.memory region.now)) }
-    requires frozen { length frozen.old ≡ block_count (current_words (R.memory region.now)) }
-    requires pending { pending.old ≡ block_inodes * block_count (current_words (R.memory region.now)) }
-    requires counts { length counts.old ≡ block_inodes * block_count (current_words (R.memory region.now)) }
-    ensures well_formed { OnOk result (IsWellFormed (snapshot_of (current_words (R.memory region.now)))) }
-    ensures frozen { OnOk result (AreFrozen (current_words (R.memory region.now)) (has frozen.new)) }
-    ensures fault { IfErr result (IsFault (current_words (R.memory region.now))) }
+    requires sized { IsSized (words_in R.memory region.now) }
+    requires there { has_snapshot (words_in R.memory region.now) ≡ true }
+    requires blocks { length blocks.old ≡ block_count (words_in R.memory region.now) }
+    requires inodes { length inodes.old ≡ block_inodes * block_count (words_in R.memory region.now) }
+    requires frozen { length frozen.old ≡ block_count (words_in R.memory region.now) }
+    requires pending { pending.old ≡ block_inodes * block_count (words_in R.memory region.now) }
+    requires counts { length counts.old ≡ block_inodes * block_count (words_in R.memory region.now) }
+    ensures well_formed { OnOk result (IsWellFormed (snapshot_of (words_in R.memory region.now))) }
+    ensures frozen { OnOk result (AreFrozen (words_in R.memory region.now) (has frozen.new)) }
+    ensures fault { IfErr result (IsFault (words_in R.memory region.now)) }
     ensures no_blocks { OnErr result (blocks.new ≡ empty (length blocks.old)) }
     ensures no_inodes { OnErr result (inodes.new ≡ empty (length inodes.old)) }
     ensures no_frozen { OnErr result (frozen.new ≡ empty (length frozen.old)) }
@@ -140,16 +140,16 @@ fn find_frozen<R: Region>(
     pending: &mut Pending,
     counts: &mut Counts,
 ) -> Result<(), MountFault>
-    requires sized { IsSized (current_words (R.memory region.now)) }
-    requires blocks { length blocks.old ≡ block_count (current_words (R.memory region.now)) }
-    requires inodes { length inodes.old ≡ block_inodes * block_count (current_words (R.memory region.now)) }
-    requires frozen { length frozen.old ≡ block_count (current_words (R.memory region.now)) }
-    requires pending { pending.old ≡ block_inodes * block_count (current_words (R.memory region.now)) }
-    requires counts { length counts.old ≡ block_inodes * block_count (current_words (R.memory region.now)) }
-    ensures well_formed { let words = current_words (R.memory region.now) in
+    requires sized { IsSized (words_in R.memory region.now) }
+    requires blocks { length blocks.old ≡ block_count (words_in R.memory region.now) }
+    requires inodes { length inodes.old ≡ block_inodes * block_count (words_in R.memory region.now) }
+    requires frozen { length frozen.old ≡ block_count (words_in R.memory region.now) }
+    requires pending { pending.old ≡ block_inodes * block_count (words_in R.memory region.now) }
+    requires counts { length counts.old ≡ block_inodes * block_count (words_in R.memory region.now) }
+    ensures well_formed { let words = words_in R.memory region.now in
         OnOk result (has_snapshot words ≡ true → IsWellFormed (snapshot_of words)) }
-    ensures frozen { OnOk result (AreFrozen (current_words (R.memory region.now)) (has frozen.new)) }
-    ensures fault { IfErr result (IsFault (current_words (R.memory region.now))) }
+    ensures frozen { OnOk result (AreFrozen (words_in R.memory region.now) (has frozen.new)) }
+    ensures fault { IfErr result (IsFault (words_in R.memory region.now)) }
     ensures no_blocks { OnErr result (blocks.new ≡ empty (length blocks.old)) }
     ensures no_inodes { OnErr result (inodes.new ≡ empty (length inodes.old)) }
     ensures no_frozen { OnErr result (frozen.new ≡ empty (length frozen.old)) }
@@ -188,20 +188,20 @@ pub fn scan_whole<R: Region>(
     pending: &mut Pending,
     counts: &mut Counts,
 ) -> Result<Totals, MountFault>
-    requires sized { IsSized (current_words (R.memory region.now)) }
-    requires blocks { length blocks.old ≡ block_count (current_words (R.memory region.now)) }
-    requires inodes { length inodes.old ≡ block_inodes * block_count (current_words (R.memory region.now)) }
-    requires frozen { length frozen.old ≡ block_count (current_words (R.memory region.now)) }
-    requires pending { pending.old ≡ block_inodes * block_count (current_words (R.memory region.now)) }
-    requires counts { length counts.old ≡ block_inodes * block_count (current_words (R.memory region.now)) }
-    ensures well_formed { IsOk result ↔ IsFileSystem (current_words (R.memory region.now)) }
-    ensures frozen { OnOk result (AreFrozen (current_words (R.memory region.now)) (has frozen.new)) }
-    ensures blocks { let words = current_words (R.memory region.now) in
+    requires sized { IsSized (words_in R.memory region.now) }
+    requires blocks { length blocks.old ≡ block_count (words_in R.memory region.now) }
+    requires inodes { length inodes.old ≡ block_inodes * block_count (words_in R.memory region.now) }
+    requires frozen { length frozen.old ≡ block_count (words_in R.memory region.now) }
+    requires pending { pending.old ≡ block_inodes * block_count (words_in R.memory region.now) }
+    requires counts { length counts.old ≡ block_inodes * block_count (words_in R.memory region.now) }
+    ensures well_formed { IsOk result ↔ IsFileSystem (words_in R.memory region.now) }
+    ensures frozen { OnOk result (AreFrozen (words_in R.memory region.now) (has frozen.new)) }
+    ensures blocks { let words = words_in R.memory region.now in
         OnOk result (AreFreeBlocks words (has frozen.new) (has blocks.new)) }
-    ensures inodes { OnOk result (AreFreeInodes (current_words (R.memory region.now)) (has inodes.new)) }
-    ensures counts { OnOk result (AreCounts (current_words (R.memory region.now)) counts.new) }
-    ensures totals { IfOk result (HasTotals (current_words (R.memory region.now))) }
-    ensures fault { IfErr result (IsFault (current_words (R.memory region.now))) }
+    ensures inodes { OnOk result (AreFreeInodes (words_in R.memory region.now) (has inodes.new)) }
+    ensures counts { OnOk result (AreCounts (words_in R.memory region.now) counts.new) }
+    ensures totals { IfOk result (HasTotals (words_in R.memory region.now)) }
+    ensures fault { IfErr result (IsFault (words_in R.memory region.now)) }
     ensures no_blocks { OnErr result (blocks.new ≡ empty (length blocks.old)) }
     ensures no_inodes { OnErr result (inodes.new ≡ empty (length inodes.old)) }
     ensures no_frozen { OnErr result (frozen.new ≡ empty (length frozen.old)) }

@@ -2,7 +2,7 @@
 
 ghost use Rattle.std.specs.Prelude.{◌≡◌, ◌<◌, ◌≤◌, length, slice_index};
 ghost use Rattle.bp_layout.specs.Trees.{snapshot_of};
-ghost use Rattle.pm_region.specs.Memory.{current_words};
+ghost use Rattle.pm_region.specs.Memory.{words_in};
 
 use bp_limits::{SUPER_ROOT, SUPER_SECOND_ROOT, SUPER_SECOND_SIZE, SUPER_SIZE};
 use pm_epochs::{BadChoice, Choice, Event, EventKind, Kept, kept_calls};
@@ -21,7 +21,7 @@ impl<'a, R: Region> SecondTree<'a, R> {
     /// Returns a word as the processor sees it.
     fn load(&self, word: u64) -> u64
         requires { word < length (R.memory self.now.region.now).base }
-        ensures { result ≡ slice_index (snapshot_of (current_words (R.memory self.now.region.now))) word }
+        ensures { result ≡ slice_index (snapshot_of (words_in R.memory self.now.region.now)) word }
     {
         match word {
             SUPER_ROOT => self.region.load(SUPER_SECOND_ROOT),

@@ -4,7 +4,7 @@ ghost use Rattle.std.specs.Prelude.{◌≡◌, ◌≤◌, ◌<◌, ◌^◌, ◌+
 ghost use Rattle.bp_io.specs.Files.{blocks_of};
 ghost use Rattle.bp_limits.specs.Limits.{block_size, block_words};
 ghost use Rattle.bp_layout.specs.Bytes.{image_bytes};
-ghost use Rattle.pm_region.specs.Memory.{current_words};
+ghost use Rattle.pm_region.specs.Memory.{words_in};
 
 use bp_limits::BLOCK_WORDS;
 use pm_region::{HEAD_WORDS, Region};
@@ -29,7 +29,7 @@ fn encode(words: &[u64], into: &mut [u8])
 /// Reads the words of a region's head one by one.
 fn head_words<R: Region>(region: &R) -> [u64; HEAD]
     requires { HEAD ≤ length (R.memory region.now).base }
-    ensures { result ≡ take HEAD (current_words (R.memory region.now)) }
+    ensures { result ≡ take HEAD (words_in R.memory region.now) }
 {
     let mut words = [0; HEAD];
     for k in 0..HEAD {
@@ -44,7 +44,7 @@ fn read_front<R: Region>(region: &R, into: &mut [u8])
     requires whole { length into.old % 8 ≡ 0 }
     requires inside { length into.old / 8 ≤ length (R.memory region.now).base }
     requires fits { length into.old / 8 < 2 ^ 32 }
-    ensures { into.new ≡ image_bytes (take (length into.old / 8) (current_words (R.memory region.now))) }
+    ensures { into.new ≡ image_bytes (take (length into.old / 8) (words_in R.memory region.now)) }
 {
     let count = into.len() / 8;
     let (head, rest) = into.split_at_mut(8 * HEAD);
@@ -57,8 +57,7 @@ pub fn read_blocks<R: Region>(region: &R, first: u32, into: &mut [u8])
     requires whole { length into.old % block_size ≡ 0 }
     requires inside { block_words * first + length into.old / 8 ≤ length (R.memory region.now).base }
     requires fits { block_words * first + length into.old / 8 < 2 ^ 32 }
-    ensures { into.new
-        ≡ blocks_of (image_bytes (current_words (R.memory region.now))) first (length into.old / block_size) }
+    ensures { into.new ≡ blocks_of (image_bytes (words_in R.memory region.now)) first (length into.old / block_size) }
 {
     if into.is_empty() {
         return;

@@ -8,7 +8,7 @@ ghost use Rattle.bp_session.specs.Changed.{AreMarked, AreUnmarked, MarksChanges,
 ghost use Rattle.bp_session.specs.Files.{CanSave, StaysTold};
 ghost use Rattle.bp_session.specs.Saving.{KeepsUnmarked, SavesMarked, SavesPartly, SavesWords, SavesWordsPartly};
 ghost use Rattle.pm_epochs.specs.Log.{stores};
-ghost use Rattle.pm_region.specs.Memory.{current_words, drained};
+ghost use Rattle.pm_region.specs.Memory.{words_in, current_words, drained};
 
 use crate::blocks::{RUN_BLOCKS, read_blocks};
 use bp_io::{BLOCK, Failed, Files};
@@ -98,7 +98,7 @@ fn mark_words(marks: &mut [bool], first: u64, count: usize)
 /// Marks the blocks to which a store of the log went, from at most `most` rows of stores. Returns false if the log
 /// has more.
 fn mark_rows<R: Region>(region: &R, marks: &mut [bool], most: usize) -> bool
-    ensures marks { result ≡ true → MarksChanges marks.new (R.memory region.now).base (current_words (R.memory region.now)) }
+    ensures marks { result ≡ true → MarksChanges marks.new (R.memory region.now).base (words_in R.memory region.now) }
     ensures more { (i : ℕ) → is_marked marks.old i ≡ true → is_marked marks.new i ≡ true }
     ensures some { result ≡ false → stores (R.memory region.now).events ≢ [] }
     ensures none { stores (R.memory region.now).events ≡ [] → marks.new ≡ marks.old }
@@ -132,7 +132,7 @@ fn mark_rows<R: Region>(region: &R, marks: &mut [bool], most: usize) -> bool
 /// function of its own, so that a line that drains nothing only asks for the log's room.
 #[inline(never)]
 fn mark_stored<R: Region>(region: &R, marks: &mut [bool])
-    ensures marks { MarksChanges marks.new (R.memory region.now).base (current_words (R.memory region.now)) }
+    ensures marks { MarksChanges marks.new (R.memory region.now).base (words_in R.memory region.now) }
     ensures more { (i : ℕ) → is_marked marks.old i ≡ true → is_marked marks.new i ≡ true }
     ensures none { stores (R.memory region.now).events ≡ [] → marks.new ≡ marks.old }
     ensures size { length marks.new ≡ length marks.old }
@@ -179,8 +179,8 @@ fn write_changed<R: Region, F: Files>(
     files: &mut F,
 ) -> Result<(), Failed>
     requires { CanSave (R.memory region.now).base (F.view files.old) }
-    ensures saved { OnOk result (SavesMarked marks.now (current_words (R.memory region.now)) (F.view files.old) (F.view files.new)) }
-    ensures partly { OnErr result (SavesPartly (current_words (R.memory region.now)) (F.view files.old) (F.view files.new)) }
+    ensures saved { OnOk result (SavesMarked marks.now (words_in R.memory region.now) (F.view files.old) (F.view files.new)) }
+    ensures partly { OnErr result (SavesPartly (words_in R.memory region.now) (F.view files.old) (F.view files.new)) }
     ensures kept { AreUnmarked marks.now → length (R.memory region.now).base ≤ block_words * length marks.now →
         F.view files.new ≡ F.view files.old }
     ensures told { StaysTold (F.view files.old) (F.view files.new) }
@@ -220,8 +220,8 @@ fn flush<F: Files>(files: &mut F) -> Result<(), Failed>
 /// Writes each marked block to the attached file, in order, and flushes the file.
 fn save<R: Region, F: Files>(region: &R, marks: &[bool], files: &mut F) -> Result<(), Failed>
     requires { CanSave (R.memory region.now).base (F.view files.old) }
-    ensures saved { OnOk result (SavesMarked marks.now (current_words (R.memory region.now)) (F.view files.old) (F.view files.new)) }
-    ensures partly { OnErr result (SavesPartly (current_words (R.memory region.now)) (F.view files.old) (F.view files.new)) }
+    ensures saved { OnOk result (SavesMarked marks.now (words_in R.memory region.now) (F.view files.old) (F.view files.new)) }
+    ensures partly { OnErr result (SavesPartly (words_in R.memory region.now) (F.view files.old) (F.view files.new)) }
     ensures kept { AreUnmarked marks.now → length (R.memory region.now).base ≤ block_words * length marks.now →
         KeepsFiles (F.view files.old) (F.view files.new) }
     ensures flushed { OnOk result ((F.view files.new).is_flushed ≡ true) }

@@ -8,7 +8,7 @@ ghost use Rattle.bp_io.specs.Views.{HasBytes};
 ghost use Rattle.bp_shell.specs.Answering.{EndsUnread};
 ghost use Rattle.bp_shell.specs.Formatting.{LeavesPartly, OnlyMakes, new_image};
 ghost use Rattle.bp_shell.specs.Running.{FormatOutcome};
-ghost use Rattle.pm_region.specs.Memory.{current_words};
+ghost use Rattle.pm_region.specs.Memory.{words_in};
 ghost use Rattle.std.specs.Prelude.{◌%◌, ◌*◌, ◌/◌, ◌≡◌, ◌≤◌, [], true, IfOk, OnErr, OnOk, length, replicate};
 
 use crate::printing::print;
@@ -42,7 +42,7 @@ fn empty_front(alloc: Global) -> Result<ListRegion, AllocError>
 fn encode<R: Region>(alloc: Global, region: &R) -> Result<Vec<u8>, AllocError>
     requires whole { length (R.memory region.now).base % block_words ≡ 0 }
     requires most { length (R.memory region.now).base ≤ block_words * MAX_FILE_BLOCKS }
-    ensures { IfOk result (λ bytes. bytes.items ≡ image_bytes (current_words (R.memory region.now))) }
+    ensures { IfOk result (λ bytes. bytes.items ≡ image_bytes (words_in R.memory region.now)) }
 {
     let mut bytes = vec![in alloc; 0u8; 8 * region.words() as usize]?;
     read_blocks(region, 0, &mut bytes);

@@ -7,7 +7,7 @@ ghost use Rattle.bp_spelling.specs.Hashes.{IsSpelled, places_of};
 ghost use Rattle.bp_spelling.specs.Names.{AreNames, AreNumbers, AreWrong};
 ghost use Rattle.bp_spelling.specs.Places.{HaveOwnNames};
 ghost use Rattle.bp_spelling.specs.Tables.{IsPresent, IsTableError};
-ghost use Rattle.pm_region.specs.Memory.{current_words};
+ghost use Rattle.pm_region.specs.Memory.{words_in};
 
 use crate::doubles::find_double;
 use crate::entry::Spelled;
@@ -21,12 +21,12 @@ use pm_region::Region;
 /// most half full. If there is no room for it, the result is `Crowded`.
 fn try_table<R: Region>(region: &R, entries: &mut [Spelled], count: usize) -> Result<(), TableError>
     requires count { count ≤ length entries.old }
-    requires spelled { All (IsSpelled (current_words (R.memory region.now))) (take count entries.old) }
+    requires spelled { All (IsSpelled (words_in R.memory region.now)) (take count entries.old) }
     requires present { All IsPresent (take count entries.old) }
     ensures same { take count entries.new ≡ take count entries.old }
-    ensures ok { let words = current_words (R.memory region.now) in
+    ensures ok { let words = words_in R.memory region.now in
         OnOk result (HaveOwnNames words (places_of (take count entries.old))) }
-    ensures err { let words = current_words (R.memory region.now) in
+    ensures err { let words = words_in R.memory region.now in
         IfErr result (IsTableError words (places_of (take count entries.old))) }
     ensures room { length entries.new ≡ length entries.old }
 {
@@ -56,15 +56,15 @@ pub fn check_names<R: Region>(
     entries: &mut [Spelled],
     numbers: &mut [u32],
 ) -> Result<(), NameFault>
-    requires sound { IsSound (current_words (R.memory region.now)) tree.root tree.size }
-    requires full { IsFull (current_words (R.memory region.now)) tree.root tree.size }
-    requires most { length (current_words (R.memory region.now)) ≤ block_words * max_blocks }
+    requires sound { IsSound (words_in R.memory region.now) tree.root tree.size }
+    requires full { IsFull (words_in R.memory region.now) tree.root tree.size }
+    requires most { length (words_in R.memory region.now) ≤ block_words * max_blocks }
     requires room { tree.size / entry_size ≤ length entries.old }
     requires number_room { tree.size / entry_size ≤ length numbers.old }
-    ensures ok { OnOk result (AreNames (current_words (R.memory region.now)) tree.root tree.size) }
-    ensures numbers { let words = current_words (R.memory region.now) in
+    ensures ok { OnOk result (AreNames (words_in R.memory region.now) tree.root tree.size) }
+    ensures numbers { let words = words_in R.memory region.now in
         OnOk result (AreNumbers words tree.root (tree.size / entry_size) numbers.new) }
-    ensures err { IfErr result (AreWrong (current_words (R.memory region.now)) tree.root tree.size) }
+    ensures err { IfErr result (AreWrong (words_in R.memory region.now) tree.root tree.size) }
     ensures room { length entries.new ≡ length entries.old }
     ensures number_room { length numbers.new ≡ length numbers.old }
 {

@@ -5,7 +5,7 @@ ghost use Rattle.std.specs.List.Sorted.{IsSortedBy};
 ghost use Rattle.bp_layout.specs.Words.{word};
 ghost use Rattle.bp_spelling.specs.Hashes.{IsSpelled, places_of, spelled_cmp, spelled_lt};
 ghost use Rattle.bp_spelling.specs.Places.{rest_cmp, name_cmp, FindsDouble};
-ghost use Rattle.pm_region.specs.Memory.{current_words};
+ghost use Rattle.pm_region.specs.Memory.{words_in};
 
 use crate::entry::Spelled;
 use crate::name_words::{compare_words, word_at};
@@ -16,9 +16,9 @@ use std::cmp::Ordering;
 fn compare_bytes<R: Region>(region: &R, a: u64, b: u64, count: u64) -> Ordering
     requires a_low { a < 2 ^ 37 }
     requires b_low { b < 2 ^ 37 }
-    requires first { word (current_words (R.memory region.now)) (a + 1) ≡ count }
-    requires second { word (current_words (R.memory region.now)) (b + 1) ≡ count }
-    ensures { result ≡ rest_cmp (current_words (R.memory region.now)) a b 1 }
+    requires first { word (words_in R.memory region.now) (a + 1) ≡ count }
+    requires second { word (words_in R.memory region.now) (b + 1) ≡ count }
+    ensures { result ≡ rest_cmp (words_in R.memory region.now) a b 1 }
 {
     for part in 1..31u64 {
         let x = word_at(region, a + 1 + part);
@@ -35,7 +35,7 @@ fn compare_bytes<R: Region>(region: &R, a: u64, b: u64, count: u64) -> Ordering
 fn compare_names<R: Region>(region: &R, a: u64, b: u64) -> Ordering
     requires a_low { a < 2 ^ 37 }
     requires b_low { b < 2 ^ 37 }
-    ensures { result ≡ name_cmp (current_words (R.memory region.now)) a b }
+    ensures { result ≡ name_cmp (words_in R.memory region.now) a b }
 {
     let count = word_at(region, a + 1);
     let other = word_at(region, b + 1);
@@ -50,7 +50,7 @@ fn compare_names<R: Region>(region: &R, a: u64, b: u64) -> Ordering
 
 /// Compares two entries by the hashes of their names, and by the names only if these are equal.
 pub(crate) fn compare_entries<R: Region>(region: &R, a: Spelled, b: Spelled) -> Ordering
-    ensures { result ≡ spelled_cmp (current_words (R.memory region.now)) a b }
+    ensures { result ≡ spelled_cmp (words_in R.memory region.now) a b }
 {
     match a.hash.cmp(&b.hash) {
         Ordering::Equal => compare_names(region, a.place(), b.place()),
@@ -60,7 +60,7 @@ pub(crate) fn compare_entries<R: Region>(region: &R, a: Spelled, b: Spelled) -> 
 
 fn sort_by_name<R: Region>(region: &R, entries: &mut [Spelled])
     ensures same { IsPermutation entries.old entries.new }
-    ensures sorted { IsSortedBy (spelled_lt (current_words (R.memory region.now))) entries.new }
+    ensures sorted { IsSortedBy (spelled_lt (words_in R.memory region.now)) entries.new }
 {
     entries.sort_unstable_by(|a, b| compare_entries(region, *a, *b));
 }
@@ -68,9 +68,9 @@ fn sort_by_name<R: Region>(region: &R, entries: &mut [Spelled])
 /// Returns the place of an entry that has the name of another one. It sorts the entries by their hashes, then by their
 /// names.
 pub(crate) fn find_double<R: Region>(region: &R, entries: &mut [Spelled]) -> Option<u64>
-    requires { All (IsSpelled (current_words (R.memory region.now))) entries.old }
+    requires { All (IsSpelled (words_in R.memory region.now)) entries.old }
     ensures same { IsPermutation entries.old entries.new }
-    ensures double { FindsDouble result (current_words (R.memory region.now)) (places_of entries.new) }
+    ensures double { FindsDouble result (words_in R.memory region.now) (places_of entries.new) }
 {
     sort_by_name(region, entries);
     for i in 1..entries.len() {

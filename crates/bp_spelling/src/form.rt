@@ -6,7 +6,7 @@ ghost use Rattle.bp_layout.specs.Words.{byte_of};
 ghost use Rattle.bp_limits.specs.Limits.{entry_words};
 ghost use Rattle.bp_limits.specs.CallLimits.{max_name};
 ghost use Rattle.bp_spelling.specs.Places.{name_there, IsPlain, ArePlain, ArePlainBytes, IsDots};
-ghost use Rattle.pm_region.specs.Memory.{current_words};
+ghost use Rattle.pm_region.specs.Memory.{words_in};
 
 use bp_limits::MAX_NAME;
 use pm_region::{HEAD_WORDS, Region};
@@ -51,8 +51,8 @@ fn are_plain_words(words: &[u64]) -> bool
 fn are_plain<R: Region>(region: &R, first: u64, count: u64) -> bool
     requires short { count ≤ max_name }
     requires behind_head { HEAD_WORDS ≤ first }
-    requires within { first + 30 ≤ length (current_words (R.memory region.now)) }
-    ensures { IsTrue result ↔ ArePlain (current_words (R.memory region.now)) first count }
+    requires within { first + 30 ≤ length (words_in R.memory region.now) }
+    ensures { IsTrue result ↔ ArePlain (words_in R.memory region.now) first count }
 {
     let _words = region.words();
     let words = region.load_words(first, 30);
@@ -78,8 +78,8 @@ fn is_dots(word: u64, count: u64) -> bool
 /// `..`.
 pub(crate) fn is_name<R: Region>(region: &R, place: u64) -> bool
     requires behind_head { HEAD_WORDS ≤ place }
-    requires within { place + entry_words ≤ length (current_words (R.memory region.now)) }
-    ensures { IsTrue result ↔ IsName (name_there (current_words (R.memory region.now)) place) }
+    requires within { place + entry_words ≤ length (words_in R.memory region.now) }
+    ensures { IsTrue result ↔ IsName (name_there (words_in R.memory region.now) place) }
 {
     let _words = region.words();
     let count = region.load(place + 1);

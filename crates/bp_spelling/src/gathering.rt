@@ -9,7 +9,7 @@ ghost use Rattle.bp_spelling.specs.Hashes.{IsSpelled, places_of};
 ghost use Rattle.bp_spelling.specs.Names.{AreNumbers};
 ghost use Rattle.bp_spelling.specs.Places.{used_places, HaveForms, IsMisspelled};
 ghost use Rattle.bp_spelling.specs.Tables.{IsPresent};
-ghost use Rattle.pm_region.specs.Memory.{current_words};
+ghost use Rattle.pm_region.specs.Memory.{words_in};
 
 use crate::entry::Spelled;
 use crate::form::is_name;
@@ -35,21 +35,21 @@ fn gather_leaf<R: Region>(
     before: usize,
     numbers: &mut [u32],
 ) -> Result<usize, u64>
-    requires sound { IsSound (current_words (R.memory region.now)) tree.root tree.size }
-    requires full { IsFull (current_words (R.memory region.now)) tree.root tree.size }
-    requires most { length (current_words (R.memory region.now)) ≤ block_words * max_blocks }
+    requires sound { IsSound (words_in R.memory region.now) tree.root tree.size }
+    requires full { IsFull (words_in R.memory region.now) tree.root tree.size }
+    requires most { length (words_in R.memory region.now) ≤ block_words * max_blocks }
     requires starts { first % block_entries ≡ 0 }
     requires live { first < tree.size / entry_size }
     requires room { tree.size / entry_size ≤ length entries.old }
     requires number_room { tree.size / entry_size ≤ length numbers.old }
-    requires numbers { AreNumbers (current_words (R.memory region.now)) tree.root first numbers.old }
-    requires before { let words = current_words (R.memory region.now) in
+    requires numbers { AreNumbers (words_in R.memory region.now) tree.root first numbers.old }
+    requires before { let words = words_in R.memory region.now in
         IsGathered words tree.root (tree.size / entry_size) first entries.old before }
     ensures gathered { IfOk result
-        (IsLeafGathered (current_words (R.memory region.now)) tree.root tree.size first entries.new) }
-    ensures numbers { let words = current_words (R.memory region.now) in
+        (IsLeafGathered (words_in R.memory region.now) tree.root tree.size first entries.new) }
+    ensures numbers { let words = words_in R.memory region.now in
         OnOk result (AreNumbers words tree.root (leaf_end tree.size first) numbers.new) }
-    ensures err { IfErr result (IsMisspelled (current_words (R.memory region.now)) tree.root tree.size) }
+    ensures err { IfErr result (IsMisspelled (words_in R.memory region.now) tree.root tree.size) }
     ensures room { length entries.new ≡ length entries.old }
     ensures number_room { length numbers.new ≡ length numbers.old }
 {
@@ -84,21 +84,21 @@ pub(crate) fn gather<R: Region>(
     entries: &mut [Spelled],
     numbers: &mut [u32],
 ) -> Result<usize, u64>
-    requires sound { IsSound (current_words (R.memory region.now)) tree.root tree.size }
-    requires full { IsFull (current_words (R.memory region.now)) tree.root tree.size }
-    requires most { length (current_words (R.memory region.now)) ≤ block_words * max_blocks }
+    requires sound { IsSound (words_in R.memory region.now) tree.root tree.size }
+    requires full { IsFull (words_in R.memory region.now) tree.root tree.size }
+    requires most { length (words_in R.memory region.now) ≤ block_words * max_blocks }
     requires room { tree.size / entry_size ≤ length entries.old }
     requires number_room { tree.size / entry_size ≤ length numbers.old }
     ensures places { IfOk result (λ count. places_of (take count entries.new) ≡
-        used_places (current_words (R.memory region.now)) tree.root (slots tree.size)) }
-    ensures hashes { let words = current_words (R.memory region.now) in
+        used_places (words_in R.memory region.now) tree.root (slots tree.size)) }
+    ensures hashes { let words = words_in R.memory region.now in
         IfOk result (λ count. All (IsSpelled words) (take count entries.new)) }
     ensures present { IfOk result (λ count. All IsPresent (take count entries.new)) }
     ensures count { IfOk result (λ count. count ≤ length entries.new) }
-    ensures forms { OnOk result (HaveForms (current_words (R.memory region.now)) tree.root tree.size) }
-    ensures numbers { let words = current_words (R.memory region.now) in
+    ensures forms { OnOk result (HaveForms (words_in R.memory region.now) tree.root tree.size) }
+    ensures numbers { let words = words_in R.memory region.now in
         OnOk result (AreNumbers words tree.root (tree.size / entry_size) numbers.new) }
-    ensures err { IfErr result (IsMisspelled (current_words (R.memory region.now)) tree.root tree.size) }
+    ensures err { IfErr result (IsMisspelled (words_in R.memory region.now) tree.root tree.size) }
     ensures room { length entries.new ≡ length entries.old }
     ensures number_room { length numbers.new ≡ length numbers.old }
 {

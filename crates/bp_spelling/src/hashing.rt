@@ -5,7 +5,7 @@ ghost use Rattle.bp_layout.specs.Words.{word};
 ghost use Rattle.bp_limits.specs.Limits.{entry_words};
 ghost use Rattle.bp_limits.specs.CallLimits.{max_name};
 ghost use Rattle.bp_spelling.specs.Hashes.{mixed, name_hash};
-ghost use Rattle.pm_region.specs.Memory.{current_words};
+ghost use Rattle.pm_region.specs.Memory.{words_in};
 
 use pm_region::{HEAD_WORDS, Region};
 use pm_words::low_bytes;
@@ -25,10 +25,10 @@ fn mix(state: u64, word: u64) -> u64
 /// Returns the hash of the name of the entry at a place: of its length, and of its words without the bytes past its
 /// end.
 pub(crate) fn hash_name<R: Region>(region: &R, place: u64) -> u32
-    requires short { word (current_words (R.memory region.now)) (place + 1) ≤ max_name }
+    requires short { word (words_in R.memory region.now) (place + 1) ≤ max_name }
     requires behind_head { HEAD_WORDS ≤ place }
-    requires within { place + entry_words ≤ length (current_words (R.memory region.now)) }
-    ensures { result ≡ name_hash (current_words (R.memory region.now)) place }
+    requires within { place + entry_words ≤ length (words_in R.memory region.now) }
+    ensures { result ≡ name_hash (words_in R.memory region.now) place }
 {
     let _words = region.words();
     let count = region.load(place + 1);

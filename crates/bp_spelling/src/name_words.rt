@@ -3,7 +3,7 @@
 ghost use Rattle.std.specs.Prelude.{◌≡◌, ◌%◌, ◌^◌, min};
 ghost use Rattle.std.specs.Ordering.{nat_cmp};
 ghost use Rattle.bp_layout.specs.Words.{word};
-ghost use Rattle.pm_region.specs.Memory.{current_words};
+ghost use Rattle.pm_region.specs.Memory.{words_in};
 
 use pm_region::Region;
 use pm_words::low_bytes;
@@ -11,7 +11,7 @@ use std::cmp::Ordering;
 
 /// Returns the word at a place; 0 past the end of the region.
 pub(crate) fn word_at<R: Region>(region: &R, place: u64) -> u64
-    ensures { result ≡ word (current_words (R.memory region.now)) place }
+    ensures { result ≡ word (words_in R.memory region.now) place }
 {
     if place < region.words() {
         region.load(place)

@@ -4,7 +4,7 @@ ghost use Rattle.std.specs.Prelude.{◌≡◌, ℕ, ◌+◌, ◌*◌, ◌<◌, �
 ghost use Rattle.bp_spelling.specs.Names.{in_32_bits};
 ghost use Rattle.bp_limits.specs.Limits.{entry_words, block_entries};
 ghost use Rattle.bp_layout.specs.Words.{word};
-ghost use Rattle.pm_region.specs.Memory.{current_words};
+ghost use Rattle.pm_region.specs.Memory.{words_in};
 
 use bp_limits::{BLOCK_ENTRIES, ENTRY_WORDS};
 use pm_region::Region;
@@ -14,9 +14,9 @@ use pm_region::Region;
 /// at once.
 pub fn named_in_row<R: Region>(region: &R, place: u64, count: u32) -> [u64; BLOCK_ENTRIES as usize]
     requires few { count ≤ block_entries }
-    requires within { place + entry_words * count ≤ length (current_words (R.memory region.now)) }
+    requires within { place + entry_words * count ≤ length (words_in R.memory region.now) }
     ensures { (k : ℕ) → k < count →
-        slice_index result k ≡ word (current_words (R.memory region.now)) (place + entry_words * k) }
+        slice_index result k ≡ word (words_in R.memory region.now) (place + entry_words * k) }
 {
     let _words = region.words();
     let mut named = [0; BLOCK_ENTRIES as usize];

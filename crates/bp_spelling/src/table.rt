@@ -4,7 +4,7 @@ ghost use Rattle.std.specs.Prelude.{◌≡◌, ◌<◌, length, All, OnOk, IfErr
 ghost use Rattle.bp_spelling.specs.Hashes.{IsSpelled, places_of};
 ghost use Rattle.bp_spelling.specs.Places.{HaveOwnNames};
 ghost use Rattle.bp_spelling.specs.Tables.{home, IsPresent, Puts, IsClash, IsTableError};
-ghost use Rattle.pm_region.specs.Memory.{current_words};
+ghost use Rattle.pm_region.specs.Memory.{words_in};
 
 use crate::doubles::compare_entries;
 use crate::entry::Spelled;
@@ -42,8 +42,8 @@ fn home_of(cells: usize, hash: u32) -> usize
 fn put<R: Region>(region: &R, table: &mut [Spelled], entry: Spelled) -> Result<(), Clash>
     requires room { 128 < length table.old }
     requires some { IsPresent entry }
-    ensures ok { OnOk result (Puts (current_words (R.memory region.now)) table.old table.new entry) }
-    ensures err { IfErr result (IsClash (current_words (R.memory region.now)) table.old entry) }
+    ensures ok { OnOk result (Puts (words_in R.memory region.now) table.old table.new entry) }
+    ensures err { IfErr result (IsClash (words_in R.memory region.now) table.old entry) }
     ensures room { length table.new ≡ length table.old }
 {
     let home = home_of(table.len(), entry.hash);
@@ -70,11 +70,11 @@ pub(crate) fn check_by_table<R: Region>(
     entries: &[Spelled],
     table: &mut [Spelled],
 ) -> Result<(), TableError>
-    requires spelled { All (IsSpelled (current_words (R.memory region.now))) entries.now }
+    requires spelled { All (IsSpelled (words_in R.memory region.now)) entries.now }
     requires present { All IsPresent entries.now }
     requires room { 128 < length table.old }
-    ensures ok { OnOk result (HaveOwnNames (current_words (R.memory region.now)) (places_of entries.now)) }
-    ensures err { IfErr result (IsTableError (current_words (R.memory region.now)) (places_of entries.now)) }
+    ensures ok { OnOk result (HaveOwnNames (words_in R.memory region.now) (places_of entries.now)) }
+    ensures err { IfErr result (IsTableError (words_in R.memory region.now) (places_of entries.now)) }
     ensures room { length table.new ≡ length table.old }
 {
     table.fill(Spelled::default());

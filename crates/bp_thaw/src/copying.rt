@@ -4,7 +4,7 @@ ghost use Rattle.std.specs.Prelude.{◌≡◌, ◌+◌, ◌*◌, ◌/◌, ◌<�
 ghost use Rattle.bp_free.specs.Set.{members};
 ghost use Rattle.bp_layout.specs.Members.{AreApart};
 ghost use Rattle.bp_layout.specs.Words.{word, block_count, block_of};
-ghost use Rattle.pm_region.specs.Memory.{current_words};
+ghost use Rattle.pm_region.specs.Memory.{words_in};
 ghost use Rattle.bp_cow.specs.Copies.{CanFillBlock, FillsBlock, pointing_to};
 ghost use Rattle.bp_thaw.specs.Copies.{AreTurned, blocks_of, places_of};
 ghost use Rattle.bp_thaw.specs.Steps.{CanFillCopies, FillsCopies, IsTurnedCopy, TakesAll};
@@ -55,13 +55,12 @@ fn turn_words(copies: &Copies, block: u32, words: &mut [u64; 512])
 /// Stores the words of a copy: those of its block, with the pointers set to the copies.
 fn fill_copy<R: Region>(region: &mut R, copies: &Copies, place: u64, copy: u32)
     requires apart { AreApart (places_of copies.now.items) }
-    requires place { place < length (current_words (R.memory region.old)) }
-    requires present { 0 < block_of (word (current_words (R.memory region.old)) place) }
-    requires block { block_of (word (current_words (R.memory region.old)) place) <
-        block_count (current_words (R.memory region.old)) }
+    requires place { place < length (words_in R.memory region.old) }
+    requires present { 0 < block_of (word (words_in R.memory region.old) place) }
+    requires block { block_of (word (words_in R.memory region.old) place) < block_count (words_in R.memory region.old) }
     requires copy { CanFillBlock copy (R.memory region.old) }
     ensures fills { FillsBlock copy (R.memory region.old) (R.memory region.new) }
-    ensures words { IsTurnedCopy copies.now.items (block_of (word (current_words (R.memory region.old)) place)) copy
+    ensures words { IsTurnedCopy copies.now.items (block_of (word (words_in R.memory region.old) place)) copy
         (R.memory region.old) (R.memory region.new) }
 {
     let _words = region.words();

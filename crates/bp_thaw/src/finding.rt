@@ -7,7 +7,7 @@ ghost use Rattle.bp_layout.specs.Members.{Has};
 ghost use Rattle.bp_layout.specs.WellFormed.{IsWellFormed};
 ghost use Rattle.bp_layout.specs.WordPaths.{WordPath};
 ghost use Rattle.bp_layout.specs.Words.{block_count};
-ghost use Rattle.pm_region.specs.Memory.{current_words};
+ghost use Rattle.pm_region.specs.Memory.{words_in};
 ghost use Rattle.bp_thaw.specs.Fronts.{FindsOn, IsWayIn, places_found};
 ghost use Rattle.bp_thaw.specs.Thaws.{paths_in};
 
@@ -48,11 +48,11 @@ fn add_place(places: &mut Places, place: u64)
 
 /// Adds the places of the pointers on a way that lead to kept blocks, unless they are in the list.
 fn find_on<R: Region>(region: &R, frozen: &Blocks, way: &Slots, places: &mut Places)
-    requires well_formed { IsWellFormed (current_words (R.memory region.now)) }
-    requires frozen { block_count (current_words (R.memory region.now)) ≤ length frozen.now }
-    requires way { IsWayIn (current_words (R.memory region.now)) way.now.items }
+    requires well_formed { IsWellFormed (words_in R.memory region.now) }
+    requires frozen { block_count (words_in R.memory region.now) ≤ length frozen.now }
+    requires way { IsWayIn (words_in R.memory region.now) way.now.items }
     requires room { length places.old.items + 12 ≤ 96 }
-    ensures places { FindsOn (current_words (R.memory region.now)) (has frozen.now) way.now.items
+    ensures places { FindsOn (words_in R.memory region.now) (has frozen.now) way.now.items
         places.old.items places.new.items }
     ensures few { length places.new.items ≤ length places.old.items + 12 }
 {
@@ -72,10 +72,10 @@ fn find_on<R: Region>(region: &R, frozen: &Blocks, way: &Slots, places: &mut Pla
 
 /// Returns the places of the pointers on the ways that lead to kept blocks, each once.
 pub(crate) fn find<R: Region>(region: &R, frozen: &Blocks, ways: &ArrayVec<Slots, 8>) -> Places
-    requires well_formed { IsWellFormed (current_words (R.memory region.now)) }
-    requires frozen { block_count (current_words (R.memory region.now)) ≤ length frozen.now }
-    requires ways { (way : WordPath) → Has (paths_in ways.now) way → IsWayIn (current_words (R.memory region.now)) way }
-    ensures { result.items ≡ places_found (current_words (R.memory region.now)) (has frozen.now) (paths_in ways.now) }
+    requires well_formed { IsWellFormed (words_in R.memory region.now) }
+    requires frozen { block_count (words_in R.memory region.now) ≤ length frozen.now }
+    requires ways { (way : WordPath) → Has (paths_in ways.now) way → IsWayIn (words_in R.memory region.now) way }
+    ensures { result.items ≡ places_found (words_in R.memory region.now) (has frozen.now) (paths_in ways.now) }
 {
     let mut places = Places::new();
     for i in 0..ways.len() {

@@ -3,7 +3,7 @@
 ghost use Rattle.std.specs.Prelude.{◌≡◌, ◌+◌, ◌/◌, ◌<◌, ◌≤◌, ◌++◌, ◌∷◌, [], length};
 ghost use Rattle.pm_epochs.specs.declared.event.Event.TheVariants.{Barrier};
 ghost use Rattle.pm_epochs.specs.May.{links_of};
-ghost use Rattle.pm_region.specs.Memory.{Adds, current_words, room_in};
+ghost use Rattle.pm_region.specs.Memory.{Adds, words_in, room_in};
 ghost use Rattle.bp_thaw.specs.Copies.{is_copied, links_among};
 ghost use Rattle.bp_thaw.specs.Steps.{ArePlacesOf};
 
@@ -17,8 +17,8 @@ pub(crate) type Links = ArrayVec<(u64, u64), 96>;
 
 /// Returns whether a block is copied.
 fn is_copied<R: Region>(region: &R, copies: &Copies, block: u64) -> bool
-    requires { ArePlacesOf (current_words (R.memory region.now)) copies.now.items }
-    ensures { result ≡ is_copied (current_words (R.memory region.now)) copies.now.items block }
+    requires { ArePlacesOf (words_in R.memory region.now) copies.now.items }
+    ensures { result ≡ is_copied (words_in R.memory region.now) copies.now.items block }
 {
     for i in 0..copies.len() {
         let (place, _) = copies[i];
@@ -31,8 +31,8 @@ fn is_copied<R: Region>(region: &R, copies: &Copies, block: u64) -> bool
 
 /// Returns the pointers to copies that are in blocks that are not copied.
 pub(crate) fn links_to<R: Region>(region: &R, copies: &Copies) -> Links
-    requires { ArePlacesOf (current_words (R.memory region.now)) copies.now.items }
-    ensures { result.items ≡ links_among (current_words (R.memory region.now)) copies.now.items copies.now.items }
+    requires { ArePlacesOf (words_in R.memory region.now) copies.now.items }
+    ensures { result.items ≡ links_among (words_in R.memory region.now) copies.now.items copies.now.items }
 {
     let mut links = Links::new();
     for i in 0..copies.len() {
@@ -46,7 +46,7 @@ pub(crate) fn links_to<R: Region>(region: &R, copies: &Copies) -> Links
 
 /// Stores these pointers, in an epoch of their own.
 pub(crate) fn store_links<R: Region>(region: &mut R, links: &Links)
-    requires places { ArePlacesOf (current_words (R.memory region.old)) links.now.items }
+    requires places { ArePlacesOf (words_in R.memory region.old) links.now.items }
     requires room { length links.now.items + 2 ≤ room_in (R.memory region.old) }
     ensures { Adds (R.memory region.old) (R.memory region.new) (Barrier ∷ links_of links.now.items ++ Barrier ∷ []) }
 {

@@ -2,11 +2,12 @@
 
 ghost use Rattle.std.specs.Prelude.{◌≡◌, ◌≤◌, length};
 ghost use Rattle.bp_free.specs.Set.{has};
+ghost use Rattle.bp_free.specs.Parts.{KeepsSets};
 ghost use Rattle.bp_layout.specs.Members.{Has};
 ghost use Rattle.bp_layout.specs.WellFormed.{IsWellFormed};
 ghost use Rattle.bp_layout.specs.WordPaths.{WordPath};
 ghost use Rattle.bp_layout.specs.Words.{block_count};
-ghost use Rattle.pm_region.specs.Memory.{current_words};
+ghost use Rattle.pm_region.specs.Memory.{words_in};
 ghost use Rattle.bp_layout.specs.Thaw.{thawed_on};
 ghost use Rattle.bp_thaw.specs.Fronts.{IsWayIn};
 ghost use Rattle.bp_thaw.specs.Thaws.{CanThaw, Thaws, paths_in};
@@ -21,11 +22,11 @@ use pm_region::Region;
 
 /// Returns how many blocks a thaw of the ways to some words copies.
 pub fn thaw_need<R: Region>(parts: &Parts<R>, targets: &ArrayVec<Slots, 8>) -> u32
-    requires well_formed { IsWellFormed (current_words (R.memory parts.now.region)) }
-    requires frozen { block_count (current_words (R.memory parts.now.region)) ≤ length parts.now.frozen }
+    requires well_formed { IsWellFormed (words_in R.memory parts.now.region) }
+    requires frozen { block_count (words_in R.memory parts.now.region) ≤ length parts.now.frozen }
     requires ways { (path : WordPath) → Has (paths_in targets.now) path →
-        IsWayIn (current_words (R.memory parts.now.region)) path }
-    ensures need { result ≡ length (thawed_on (current_words (R.memory parts.now.region)) (has parts.now.frozen)
+        IsWayIn (words_in R.memory parts.now.region) path }
+    ensures need { result ≡ length (thawed_on (words_in R.memory parts.now.region) (has parts.now.frozen)
         (paths_in targets.now)) }
     ensures few { result ≤ 96 }
 {
@@ -36,13 +37,10 @@ pub fn thaw_need<R: Region>(parts: &Parts<R>, targets: &ArrayVec<Slots, 8>) -> u
 /// the meaning of the image is unchanged.
 pub fn thaw<R: Region>(parts: &mut Parts<R>, targets: &ArrayVec<Slots, 8>)
     requires can { CanThaw (has parts.old.frozen) (paths_in targets.now) (R.memory parts.old.region) parts.old.blocks }
-    requires frozen { block_count (current_words (R.memory parts.old.region)) ≤ length parts.old.frozen }
+    requires frozen { block_count (words_in R.memory parts.old.region) ≤ length parts.old.frozen }
     ensures thaws { Thaws (has parts.old.frozen) (paths_in targets.now)
         (R.memory parts.old.region) (R.memory parts.new.region) parts.old.blocks parts.new.blocks }
-    ensures size { length parts.new.blocks ≡ length parts.old.blocks }
-    ensures inodes { parts.new.inodes ≡ parts.old.inodes }
-    ensures counts { parts.new.counts ≡ parts.old.counts }
-    ensures frozen { parts.new.frozen ≡ parts.old.frozen }
+    ensures keeps { KeepsSets parts.old parts.new }
 {
     let places = find(&parts.region, &parts.frozen, targets);
     if places.is_empty() {

@@ -5,7 +5,7 @@ ghost use Rattle.bp_free.specs.Set.{has};
 ghost use Rattle.bp_layout.specs.Thaw.{is_there_now, thawed_on};
 ghost use Rattle.bp_layout.specs.WellFormed.{IsWellFormed};
 ghost use Rattle.bp_layout.specs.Words.{block_count};
-ghost use Rattle.pm_region.specs.Memory.{current_words};
+ghost use Rattle.pm_region.specs.Memory.{words_in};
 ghost use Rattle.bp_thaw.specs.Fronts.{IsWayIn};
 
 use bp_free::Parts;
@@ -15,13 +15,13 @@ use pm_region::Region;
 
 /// Returns whether no kept block is on a way, all of whose pointers exist.
 pub fn is_clear<R: Region>(parts: &Parts<R>, way: &Slots) -> bool
-    requires well_formed { IsWellFormed (current_words (R.memory parts.now.region)) }
-    requires frozen { block_count (current_words (R.memory parts.now.region)) ≤ length parts.now.frozen }
-    requires way { IsWayIn (current_words (R.memory parts.now.region)) way.now.items }
+    requires well_formed { IsWellFormed (words_in R.memory parts.now.region) }
+    requires frozen { block_count (words_in R.memory parts.now.region) ≤ length parts.now.frozen }
+    requires way { IsWayIn (words_in R.memory parts.now.region) way.now.items }
     requires there { (depth : ℕ) → depth < length way.now.items →
-        is_there_now (current_words (R.memory parts.now.region)) (take depth way.now.items) ≡ true }
+        is_there_now (words_in R.memory parts.now.region) (take depth way.now.items) ≡ true }
     ensures { (result ≡ true) ↔
-        (thawed_on (current_words (R.memory parts.now.region)) (has parts.now.frozen) (way.now.items ∷ []) ≡ []) }
+        (thawed_on (words_in R.memory parts.now.region) (has parts.now.frozen) (way.now.items ∷ []) ≡ []) }
 {
     let mut place = SUPER_ROOT;
     for depth in 0..way.len() {

@@ -10,7 +10,7 @@ ghost use Rattle.bp_layout.specs.Tree.{IsSound};
 ghost use Rattle.bp_layout.specs.WellFormed.{IsWellFormed};
 ghost use Rattle.bp_layout.specs.Words.{height_of};
 ghost use Rattle.bp_limits.specs.Limits.{block_words};
-ghost use Rattle.pm_region.specs.Memory.{current_words};
+ghost use Rattle.pm_region.specs.Memory.{words_in};
 ghost use Rattle.bp_thaw.specs.Fronts.{IsWayIn};
 
 use bp_limits::{INODE_WORDS, SUPER_ROOT, SUPER_SIZE};
@@ -34,10 +34,10 @@ fn number(way: &Slots, from: usize, to: usize) -> u64
 
 /// Returns whether a node of a tree is live and neither the node nor one above it is null.
 fn is_present<R: Region>(region: &R, tree: Tree, level: u32, index: u64) -> bool
-    requires sound { IsSound (current_words (R.memory region.now)) tree.root tree.size }
+    requires sound { IsSound (words_in R.memory region.now) tree.root tree.size }
     requires some { 0 < tree.size }
     requires level { level ≤ height_of tree.root }
-    ensures { result ≡ is_present (current_words (R.memory region.now)) tree.root tree.size
+    ensures { result ≡ is_present (words_in R.memory region.now) tree.root tree.size
         (record { level = level; index = index }) }
 {
     index <= (tree.size - 1) / pm_words::span(level)
@@ -46,9 +46,9 @@ fn is_present<R: Region>(region: &R, tree: Tree, level: u32, index: u64) -> bool
 
 /// Returns the tree of the inode file.
 fn inode_file<R: Region>(region: &R) -> Tree
-    requires { IsWellFormed (current_words (R.memory region.now)) }
-    ensures root { result.root ≡ root_of (current_words (R.memory region.now)) 0 }
-    ensures size { result.size ≡ size_of (current_words (R.memory region.now)) 0 }
+    requires { IsWellFormed (words_in R.memory region.now) }
+    ensures root { result.root ≡ root_of (words_in R.memory region.now) 0 }
+    ensures size { result.size ≡ size_of (words_in R.memory region.now) 0 }
 {
     Tree {
         root: region.load(SUPER_ROOT),
@@ -58,14 +58,14 @@ fn inode_file<R: Region>(region: &R) -> Tree
 
 /// Returns the tree of an inode.
 fn tree_of<R: Region>(region: &R, file: Tree, inode: u64) -> Tree
-    requires well_formed { IsWellFormed (current_words (R.memory region.now)) }
-    requires file { (file.root ≡ root_of (current_words (R.memory region.now)) 0) ×
-        (file.size ≡ size_of (current_words (R.memory region.now)) 0) }
-    requires reached { IsReached (current_words (R.memory region.now)) inode }
+    requires well_formed { IsWellFormed (words_in R.memory region.now) }
+    requires file { (file.root ≡ root_of (words_in R.memory region.now) 0) ×
+        (file.size ≡ size_of (words_in R.memory region.now) 0) }
+    requires reached { IsReached (words_in R.memory region.now) inode }
     requires inode { inode ≢ 0 }
     requires few { inode < 2 ^ 61 }
-    ensures root { result.root ≡ root_of (current_words (R.memory region.now)) inode }
-    ensures size { result.size ≡ size_of (current_words (R.memory region.now)) inode }
+    ensures root { result.root ≡ root_of (words_in R.memory region.now) inode }
+    ensures size { result.size ≡ size_of (words_in R.memory region.now) inode }
 {
     let first = INODE_WORDS * inode;
     Tree {
@@ -77,10 +77,10 @@ fn tree_of<R: Region>(region: &R, file: Tree, inode: u64) -> Tree
 /// Returns whether the pointer after the first `depth` slots of a way exists: it is live, and no pointer on the way to
 /// the block to which it leads is null.
 pub(crate) fn is_there<R: Region>(region: &R, way: &Slots, depth: usize) -> bool
-    requires well_formed { IsWellFormed (current_words (R.memory region.now)) }
-    requires way { IsWayIn (current_words (R.memory region.now)) way.now.items }
+    requires well_formed { IsWellFormed (words_in R.memory region.now) }
+    requires way { IsWayIn (words_in R.memory region.now) way.now.items }
     requires depth { depth < length way.now.items }
-    ensures { result ≡ is_there_now (current_words (R.memory region.now)) (take depth way.now.items) }
+    ensures { result ≡ is_there_now (words_in R.memory region.now) (take depth way.now.items) }
 {
     let file = inode_file(region);
     let top = file.height() as usize;

@@ -1,7 +1,7 @@
 //! The number of blocks of a tree.
 
 ghost use Rattle.bp_layout.specs.Tree.{IsSound};
-ghost use Rattle.pm_region.specs.Memory.{current_words};
+ghost use Rattle.pm_region.specs.Memory.{words_in};
 ghost use Rattle.bp_tree.specs.Counts.{HasBlockCount};
 
 use crate::subtrees::{child, live_slots};
@@ -11,8 +11,8 @@ use pm_region::Region;
 /// Returns the number of blocks of a tree, which is the number of its present nodes: live ones without a null pointer
 /// on the way to them.
 pub fn count_live<R: Region>(region: &R, tree: Tree) -> u32
-    requires { IsSound (current_words (R.memory region.now)) tree.root tree.size }
-    ensures { HasBlockCount (current_words (R.memory region.now)) tree.root tree.size result }
+    requires { IsSound (words_in R.memory region.now) tree.root tree.size }
+    ensures { HasBlockCount (words_in R.memory region.now) tree.root tree.size result }
 {
     let _words = region.words();
     if tree.size == 0 || tree.block() == 0 {

@@ -2,7 +2,7 @@
 
 ghost use Rattle.std.specs.Prelude.{◌≡◌};
 ghost use Rattle.bp_layout.specs.Tree.{tree_word, IsLiveWord, IsSound};
-ghost use Rattle.pm_region.specs.Memory.{current_words};
+ghost use Rattle.pm_region.specs.Memory.{words_in};
 
 use crate::tree::{Tree, load_slot};
 use pm_region::Region;
@@ -10,9 +10,9 @@ use pm_words::{block_of, digit};
 
 /// Returns word number `index` at a depth of the tree. Only the root word is at depth 0.
 pub(crate) fn descend<R: Region>(region: &R, tree: Tree, depth: u32, index: u64) -> u64
-    requires sound { IsSound (current_words (R.memory region.now)) tree.root tree.size }
+    requires sound { IsSound (words_in R.memory region.now) tree.root tree.size }
     requires live { IsLiveWord tree.root tree.size depth index }
-    ensures { result ≡ tree_word (current_words (R.memory region.now)) tree.root depth index }
+    ensures { result ≡ tree_word (words_in R.memory region.now) tree.root depth index }
 {
     let mut word = tree.root;
     let mut levels = depth;

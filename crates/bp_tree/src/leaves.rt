@@ -4,7 +4,7 @@ ghost use Rattle.std.specs.Prelude.{◌≡◌, ◌-◌, ◌^◌, ◌<◌, ◌≤
 ghost use Rattle.bp_layout.specs.Tree.{IsSound};
 ghost use Rattle.bp_layout.specs.Words.{height_of};
 ghost use Rattle.bp_limits.specs.Limits.{block_words, max_height};
-ghost use Rattle.pm_region.specs.Memory.{current_words};
+ghost use Rattle.pm_region.specs.Memory.{words_in};
 ghost use Rattle.bp_tree.specs.Leaves.{HasNoLeafFrom, IsNextLeaf};
 
 use crate::subtrees::{child, live_slots};
@@ -27,9 +27,9 @@ fn leaves_below(tree: Tree) -> u64
 /// Returns the number of the first live leaf from `from` on that is not null and below no null pointer, or `None` if
 /// there is none. Follows live pointers only, and skips everything below a null pointer in one step.
 pub fn next_leaf<R: Region>(region: &R, tree: Tree, from: u64) -> Option<u64>
-    requires { IsSound (current_words (R.memory region.now)) tree.root tree.size }
-    ensures some { IfSome result (IsNextLeaf (current_words (R.memory region.now)) tree.root tree.size from) }
-    ensures none { IfNone result (HasNoLeafFrom (current_words (R.memory region.now)) tree.root tree.size from) }
+    requires { IsSound (words_in R.memory region.now) tree.root tree.size }
+    ensures some { IfSome result (IsNextLeaf (words_in R.memory region.now) tree.root tree.size from) }
+    ensures none { IfNone result (HasNoLeafFrom (words_in R.memory region.now) tree.root tree.size from) }
 {
     if tree.size == 0 {
         return None;

@@ -2,7 +2,7 @@
 
 ghost use Rattle.std.specs.Prelude.{IfSome, IfNone};
 ghost use Rattle.bp_layout.specs.Tree.{IsSound};
-ghost use Rattle.pm_region.specs.Memory.{current_words};
+ghost use Rattle.pm_region.specs.Memory.{words_in};
 ghost use Rattle.bp_tree.specs.Nulls.{HasNoNullLeaf, IsFirstNullLeaf};
 
 use crate::subtrees::{child, live_slots};
@@ -14,9 +14,9 @@ use pm_words::span;
 /// Returns the number of the first live leaf that is null, or `None` if there is none. Each leaf below a null pointer
 /// is null too. Follows live pointers only, and stops at the first null pointer.
 pub fn first_null<R: Region>(region: &R, tree: Tree) -> Option<u64>
-    requires { IsSound (current_words (R.memory region.now)) tree.root tree.size }
-    ensures some { IfSome result (IsFirstNullLeaf (current_words (R.memory region.now)) tree.root tree.size) }
-    ensures none { IfNone result (HasNoNullLeaf (current_words (R.memory region.now)) tree.root tree.size) }
+    requires { IsSound (words_in R.memory region.now) tree.root tree.size }
+    ensures some { IfSome result (IsFirstNullLeaf (words_in R.memory region.now) tree.root tree.size) }
+    ensures none { IfNone result (HasNoNullLeaf (words_in R.memory region.now) tree.root tree.size) }
 {
     if tree.size == 0 {
         return None;

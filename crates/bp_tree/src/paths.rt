@@ -5,7 +5,7 @@ ghost use Rattle.std.specs.List.{All};
 ghost use Rattle.bp_layout.specs.Words.{height_of};
 ghost use Rattle.bp_layout.specs.WordPaths.{digits, address, Exists};
 ghost use Rattle.bp_limits.specs.Limits.{block_words, super_root};
-ghost use Rattle.pm_region.specs.Memory.{current_words};
+ghost use Rattle.pm_region.specs.Memory.{words_in};
 ghost use Rattle.bp_tree.specs.Paths.{IsInRange};
 
 use crate::tree::Tree;
@@ -33,11 +33,11 @@ pub fn word_path(tree: Tree, offset: u64) -> Slots
 
 /// Returns the place in the region of the word that a path names.
 pub fn address<R: Region>(region: &R, path: &Slots) -> u64
-    requires exists { Exists (current_words (R.memory region.now)) path.now.items }
+    requires exists { Exists (words_in R.memory region.now) path.now.items }
     requires slots { All (λ slot. slot < block_words) path.now.items }
-    requires in_range { IsInRange (current_words (R.memory region.now)) path.now.items }
-    ensures address { result ≡ address (current_words (R.memory region.now)) path.now.items }
-    ensures in_range { let count = length (current_words (R.memory region.now)) in super_root < count → result < count }
+    requires in_range { IsInRange (words_in R.memory region.now) path.now.items }
+    ensures address { result ≡ address (words_in R.memory region.now) path.now.items }
+    ensures in_range { let count = length (words_in R.memory region.now) in super_root < count → result < count }
 {
     let _words = region.words();
     let mut place = SUPER_ROOT;

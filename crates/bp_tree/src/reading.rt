@@ -3,7 +3,7 @@
 ghost use Rattle.std.specs.Prelude.{◌≡◌, ℕ, ◌+◌, ◌-◌, ◌*◌, ◌/◌, ◌%◌, ◌<◌, ◌≤◌, IfNone, IfSome, length, take, drop, min};
 ghost use Rattle.bp_layout.specs.Tree.{IsSound, content_word};
 ghost use Rattle.bp_limits.specs.Limits.{block_size, block_words};
-ghost use Rattle.pm_region.specs.Memory.{current_words};
+ghost use Rattle.pm_region.specs.Memory.{words_in};
 ghost use Rattle.bp_tree.specs.Bytes.{stored_bytes, content_part};
 ghost use Rattle.bp_tree.specs.Leaves.{AreLeafWords};
 
@@ -14,9 +14,9 @@ use pm_region::{HEAD_WORDS, Region};
 /// Reads the bytes of a tree from `offset` on, as many as fit into `into` and are below the size, and returns their
 /// number. It is 0 from the size on. The rest of `into` does not change.
 pub fn read<R: Region>(region: &R, tree: Tree, offset: u64, into: &mut [u8]) -> usize
-    requires { IsSound (current_words (R.memory region.now)) tree.root tree.size }
+    requires { IsSound (words_in R.memory region.now) tree.root tree.size }
     ensures count { result ≡ min (length into.old) (tree.size - offset) }
-    ensures bytes { let words = current_words (R.memory region.now) in
+    ensures bytes { let words = words_in R.memory region.now in
         take result into.new ≡ content_part words tree.root offset result }
     ensures rest { drop result into.new ≡ drop result into.old }
 {
@@ -33,11 +33,11 @@ pub fn read<R: Region>(region: &R, tree: Tree, offset: u64, into: &mut [u8]) -> 
 
 /// Reads bytes of one leaf.
 fn read_leaf<R: Region>(region: &R, tree: Tree, offset: u64, into: &mut [u8])
-    requires sound { IsSound (current_words (R.memory region.now)) tree.root tree.size }
+    requires sound { IsSound (words_in R.memory region.now) tree.root tree.size }
     requires some { 0 < length into.old }
     requires live { offset + length into.old ≤ tree.size }
     requires within { offset % block_size + length into.old ≤ block_size }
-    ensures { into.new ≡ content_part (current_words (R.memory region.now)) tree.root offset (length into.old) }
+    ensures { into.new ≡ content_part (words_in R.memory region.now) tree.root offset (length into.old) }
 {
     let _words = region.words();
     let leaf = leaf_block(region, tree, offset / BLOCK_SIZE);
@@ -52,8 +52,8 @@ fn read_leaf<R: Region>(region: &R, tree: Tree, offset: u64, into: &mut [u8])
 fn read_bytes<R: Region>(region: &R, place: u64, into: &mut [u8])
     requires some { 0 < length into.old }
     requires behind_first { block_size ≤ place }
-    requires in_range { place + length into.old ≤ 8 * length (current_words (R.memory region.now)) }
-    ensures { into.new ≡ stored_bytes (current_words (R.memory region.now)) place (length into.old) }
+    requires in_range { place + length into.old ≤ 8 * length (words_in R.memory region.now) }
+    ensures { into.new ≡ stored_bytes (words_in R.memory region.now) place (length into.old) }
 {
     let _words = region.words();
     let word = place / 8;
@@ -67,8 +67,8 @@ fn read_bytes<R: Region>(region: &R, place: u64, into: &mut [u8])
 /// Reads the bytes of the words from `word` on.
 fn read_words<R: Region>(region: &R, word: u64, into: &mut [u8])
     requires behind_head { HEAD_WORDS ≤ word }
-    requires in_range { 8 * word + length into.old ≤ 8 * length (current_words (R.memory region.now)) }
-    ensures { into.new ≡ stored_bytes (current_words (R.memory region.now)) (8 * word) (length into.old) }
+    requires in_range { 8 * word + length into.old ≤ 8 * length (words_in R.memory region.now) }
+    ensures { into.new ≡ stored_bytes (words_in R.memory region.now) (8 * word) (length into.old) }
 {
     let _words = region.words();
     unpack(region.load_words(word, into.len().div_ceil(8)), into);
@@ -127,9 +127,9 @@ pub fn unpack(words: &[u64], into: &mut [u8])
 
 /// Reads some of the bytes of a word.
 fn read_part<R: Region>(region: &R, word: u64, first: usize, into: &mut [u8])
-    requires word { word < length (current_words (R.memory region.now)) }
+    requires word { word < length (words_in R.memory region.now) }
     requires within { first + length into.old ≤ 8 }
-    ensures { into.new ≡ stored_bytes (current_words (R.memory region.now)) (8 * word + first) (length into.old) }
+    ensures { into.new ≡ stored_bytes (words_in R.memory region.now) (8 * word + first) (length into.old) }
 {
     let _words = region.words();
     let bytes = region.load(word).to_le_bytes();
@@ -139,13 +139,12 @@ fn read_part<R: Region>(region: &R, word: u64, first: usize, into: &mut [u8])
 /// Returns the content words `512 * leaf` to `512 * leaf + 511` in place, or `None` if the leaf is null, so that all
 /// are 0.
 pub fn leaf_words<R: Region>(region: &R, tree: Tree, leaf: u64) -> Option<&[u64]>
-    requires sound { IsSound (current_words (R.memory region.now)) tree.root tree.size }
+    requires sound { IsSound (words_in R.memory region.now) tree.root tree.size }
     requires live { block_size * leaf < tree.size }
     ensures len { IfSome result (λ words. length words.now ≡ block_words) }
-    ensures words { IfSome result
-        (λ words. AreLeafWords (current_words (R.memory region.now)) tree.root leaf words.now) }
+    ensures words { IfSome result (λ words. AreLeafWords (words_in R.memory region.now) tree.root leaf words.now) }
     ensures none { IfNone result ((i : ℕ) → i < block_words →
-        content_word (current_words (R.memory region.now)) tree.root (block_words * leaf + i) ≡ 0) }
+        content_word (words_in R.memory region.now) tree.root (block_words * leaf + i) ≡ 0) }
 {
     let _words = region.words();
     let block = leaf_block(region, tree, leaf);

@@ -5,7 +5,7 @@ ghost use Rattle.bp_layout.specs.Words.{block_of, height_of};
 ghost use Rattle.bp_layout.specs.Tree.{span, IsSound};
 ghost use Rattle.bp_layout.specs.Pieces.{piece, child};
 ghost use Rattle.bp_limits.specs.Limits.{max_height};
-ghost use Rattle.pm_region.specs.Memory.{current_words};
+ghost use Rattle.pm_region.specs.Memory.{words_in};
 
 use crate::tree::{Tree, load_slot};
 use pm_region::Region;
@@ -25,14 +25,14 @@ pub(crate) fn live_slots(tree: Tree) -> u64
 
 /// Returns the subtree in a live slot of a tree's top block, one level lower.
 pub fn child<R: Region>(region: &R, tree: Tree, slot: u64) -> Tree
-    requires sound { IsSound (current_words (R.memory region.now)) tree.root tree.size }
+    requires sound { IsSound (words_in R.memory region.now) tree.root tree.size }
     requires least { 1 ≤ height_of tree.root }
     requires present { block_of tree.root ≢ 0 }
     requires live { slot * span (height_of tree.root - 1) < tree.size }
-    ensures root { let words = current_words (R.memory region.now) in
+    ensures root { let words = words_in R.memory region.now in
         result.root ≡ child words (block_of tree.root) (height_of tree.root - 1) slot }
     ensures size { result.size ≡ piece tree.size (height_of tree.root - 1) slot }
-    ensures sound { IsSound (current_words (R.memory region.now)) result.root result.size }
+    ensures sound { IsSound (words_in R.memory region.now) result.root result.size }
     ensures lower { height_of result.root + 1 ≡ height_of tree.root }
 {
     let level = tree.height() - 1;

@@ -5,7 +5,7 @@ ghost use Rattle.bp_layout.specs.Words.{block_count, block_of, height_of, slot_w
 ghost use Rattle.bp_layout.specs.Tree.{node, content_word, covered, IsSound};
 ghost use Rattle.bp_limits.specs.Limits.{block_size, block_words};
 ghost use Rattle.bp_tree.specs.Leaves.{content_place};
-ghost use Rattle.pm_region.specs.Memory.{current_words};
+ghost use Rattle.pm_region.specs.Memory.{words_in};
 
 use crate::descent::descend;
 use bp_layout::Inode;
@@ -54,9 +54,9 @@ impl Tree {
 
 /// Returns the word in a slot of a block, and 0 for block 0, which represents no block.
 pub fn load_slot<R: Region>(region: &R, block: u64, slot: u64) -> u64
-    requires block { block < block_count (current_words (R.memory region.now)) }
+    requires block { block < block_count (words_in R.memory region.now) }
     requires slot { slot < block_words }
-    ensures { result ≡ slot_word (current_words (R.memory region.now)) block slot }
+    ensures { result ≡ slot_word (words_in R.memory region.now) block slot }
 {
     // Word numbers have 32 bits, so the place of a word fits.
     let _words = region.words();
@@ -69,11 +69,11 @@ pub fn load_slot<R: Region>(region: &R, block: u64, slot: u64) -> u64
 
 /// Returns block number `index` among those `level` levels above the leaves, 0 if it is null.
 pub fn node<R: Region>(region: &R, tree: Tree, level: u32, index: u64) -> u32
-    requires sound { IsSound (current_words (R.memory region.now)) tree.root tree.size }
+    requires sound { IsSound (words_in R.memory region.now) tree.root tree.size }
     requires level { level ≤ height_of tree.root }
     requires live { index * covered (suc level) < tree.size }
-    ensures node { result ≡ node (current_words (R.memory region.now)) tree.root (height_of tree.root - level) index }
-    ensures in_range { result < block_count (current_words (R.memory region.now)) }
+    ensures node { result ≡ node (words_in R.memory region.now) tree.root (height_of tree.root - level) index }
+    ensures in_range { result < block_count (words_in R.memory region.now) }
 {
     let _words = region.words();
     let depth = tree.height() - level;
@@ -82,31 +82,31 @@ pub fn node<R: Region>(region: &R, tree: Tree, level: u32, index: u64) -> u32
 
 /// Returns the block with the content words `512 * leaf` to `512 * leaf + 511`, 0 if it is null.
 pub fn leaf_block<R: Region>(region: &R, tree: Tree, leaf: u64) -> u64
-    requires sound { IsSound (current_words (R.memory region.now)) tree.root tree.size }
+    requires sound { IsSound (words_in R.memory region.now) tree.root tree.size }
     requires live { block_size * leaf < tree.size }
-    ensures node { result ≡ node (current_words (R.memory region.now)) tree.root (height_of tree.root) leaf }
-    ensures in_range { result < block_count (current_words (R.memory region.now)) }
+    ensures node { result ≡ node (words_in R.memory region.now) tree.root (height_of tree.root) leaf }
+    ensures in_range { result < block_count (words_in R.memory region.now) }
 {
     pm_words::block_of(descend(region, tree, tree.height(), leaf))
 }
 
 /// Returns content word number `index`: bytes `8 * index` to `8 * index + 7`, the lowest first.
 pub fn content_word<R: Region>(region: &R, tree: Tree, index: u64) -> u64
-    requires sound { IsSound (current_words (R.memory region.now)) tree.root tree.size }
+    requires sound { IsSound (words_in R.memory region.now) tree.root tree.size }
     requires live { 8 * index < tree.size }
-    ensures { result ≡ content_word (current_words (R.memory region.now)) tree.root index }
+    ensures { result ≡ content_word (words_in R.memory region.now) tree.root index }
 {
     descend(region, tree, tree.height() + 1, index)
 }
 
 /// Returns the place in the region of content word number `index`.
 pub fn content_place<R: Region>(region: &R, tree: Tree, index: u64) -> u64
-    requires sound { IsSound (current_words (R.memory region.now)) tree.root tree.size }
+    requires sound { IsSound (words_in R.memory region.now) tree.root tree.size }
     requires live { 8 * index < tree.size }
-    requires present { let words = current_words (R.memory region.now) in
+    requires present { let words = words_in R.memory region.now in
         node words tree.root (height_of tree.root) (index / block_words) ≢ 0 }
-    ensures place { result ≡ content_place (current_words (R.memory region.now)) tree.root index }
-    ensures in_range { result < length (current_words (R.memory region.now)) }
+    ensures place { result ≡ content_place (words_in R.memory region.now) tree.root index }
+    ensures in_range { result < length (words_in R.memory region.now) }
 {
     let _words = region.words();
     LEAF_WORDS * leaf_block(region, tree, index / LEAF_WORDS) + index % LEAF_WORDS

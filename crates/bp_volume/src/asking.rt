@@ -2,13 +2,13 @@
 
 ghost use Rattle.std.specs.Prelude.{◌≡◌, ◌≤◌, IfOk, OnErr, drop, length};
 ghost use Rattle.bp_cache.specs.Cache.{IsCacheOf};
-ghost use Rattle.bp_calls.specs.Mounted.{IsMounted};
+ghost use Rattle.bp_calls.specs.Mounted.{image_in, IsMountedIn};
 ghost use Rattle.bp_plain.specs.Calls.Call.{links, list, read, stat};
 ghost use Rattle.bp_layout.specs.WellFormed.{IsWellFormed};
 ghost use Rattle.bp_volume.specs.Seen.{links_answer, list_answer_of, read_answer_of, stat_answer_of};
 ghost use Rattle.bp_volume.specs.Step.{PathFinds};
 ghost use Rattle.bp_volume.specs.Told.{Tells};
-ghost use Rattle.pm_region.specs.Memory.{current_words};
+ghost use Rattle.pm_region.specs.Memory.{words_in};
 
 use crate::walking::{file_at, inode_at};
 use bp_cache::DirectoryCache;
@@ -27,10 +27,10 @@ pub(crate) fn stat_at<R: Region, F: Finder>(
     finder: &mut F,
     text: &[u8],
 ) -> Result<Stat, FsError>
-    requires well_formed { IsWellFormed (current_words (R.memory region.now)) }
-    requires right { F.right finder.old (current_words (R.memory region.now)) }
-    ensures told { Tells (current_words (R.memory region.now)) (stat text.now) (stat_answer_of result) }
-    ensures right { F.right finder.new (current_words (R.memory region.now)) }
+    requires well_formed { IsWellFormed (words_in R.memory region.now) }
+    requires right { F.right finder.old (words_in R.memory region.now) }
+    ensures told { Tells (words_in R.memory region.now) (stat text.now) (stat_answer_of result) }
+    ensures right { F.right finder.new (words_in R.memory region.now) }
 {
     let i = inode_at(region, finder, text)?;
     Ok(stat(region, i))
@@ -42,10 +42,10 @@ pub(crate) fn links_at<R: Region>(
     cache: &mut DirectoryCache,
     text: &[u8],
 ) -> Result<u32, FsError>
-    requires mounted { IsMounted (current_words (R.memory parts.now.region)) parts.now }
-    requires right { IsCacheOf (current_words (R.memory parts.now.region)) cache.old }
-    ensures told { Tells (current_words (R.memory parts.now.region)) (links text.now) (links_answer result) }
-    ensures right { IsCacheOf (current_words (R.memory parts.now.region)) cache.new }
+    requires mounted { IsMountedIn R.memory parts.now }
+    requires right { IsCacheOf (image_in R.memory parts.now) cache.old }
+    ensures told { Tells (image_in R.memory parts.now) (links text.now) (links_answer result) }
+    ensures right { IsCacheOf (image_in R.memory parts.now) cache.new }
 {
     let file = file_at(&parts.region, cache, text)?;
     Ok(links(parts, file.inumber))
@@ -60,9 +60,9 @@ fn no_memory(_: AllocError) -> FsError
 
 /// Returns the names in the directory at a path text, which has inode `i`.
 fn list_inode<R: Region>(alloc: Global, region: &R, text: &[u8], i: u32) -> Result<Listing, FsError>
-    requires well_formed { IsWellFormed (current_words (R.memory region.now)) }
-    requires at { PathFinds (current_words (R.memory region.now)) text.now i }
-    ensures { Tells (current_words (R.memory region.now)) (list text.now) (list_answer_of result) }
+    requires well_formed { IsWellFormed (words_in R.memory region.now) }
+    requires at { PathFinds (words_in R.memory region.now) text.now i }
+    ensures { Tells (words_in R.memory region.now) (list text.now) (list_answer_of result) }
 {
     match get(region, i).kind {
         Kind::File => Err(FsError::NotDir),
@@ -77,10 +77,10 @@ pub(crate) fn list_at<R: Region, F: Finder>(
     finder: &mut F,
     text: &[u8],
 ) -> Result<Listing, FsError>
-    requires well_formed { IsWellFormed (current_words (R.memory region.now)) }
-    requires right { F.right finder.old (current_words (R.memory region.now)) }
-    ensures told { Tells (current_words (R.memory region.now)) (list text.now) (list_answer_of result) }
-    ensures right { F.right finder.new (current_words (R.memory region.now)) }
+    requires well_formed { IsWellFormed (words_in R.memory region.now) }
+    requires right { F.right finder.old (words_in R.memory region.now) }
+    ensures told { Tells (words_in R.memory region.now) (list text.now) (list_answer_of result) }
+    ensures right { F.right finder.new (words_in R.memory region.now) }
 {
     let i = inode_at(region, finder, text)?;
     list_inode(alloc, region, text, i)
@@ -94,14 +94,14 @@ pub(crate) fn read_at<R: Region, F: Finder>(
     off: u64,
     into: &mut [u8],
 ) -> Result<usize, FsError>
-    requires well_formed { IsWellFormed (current_words (R.memory region.now)) }
-    requires right { F.right finder.old (current_words (R.memory region.now)) }
-    ensures told { Tells (current_words (R.memory region.now)) (read text.now off (length into.old))
+    requires well_formed { IsWellFormed (words_in R.memory region.now) }
+    requires right { F.right finder.old (words_in R.memory region.now) }
+    ensures told { Tells (words_in R.memory region.now) (read text.now off (length into.old))
         (read_answer_of result into.new) }
     ensures fits { IfOk result (λ count. count ≤ length into.new) }
     ensures rest { IfOk result (λ count. drop count into.new ≡ drop count into.old) }
     ensures unread { OnErr result (into.new ≡ into.old) }
-    ensures right { F.right finder.new (current_words (R.memory region.now)) }
+    ensures right { F.right finder.new (words_in R.memory region.now) }
 {
     let file = file_at(region, finder, text)?;
     Ok(read(region, file.inumber, off, into))

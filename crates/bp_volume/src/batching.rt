@@ -5,6 +5,7 @@ ghost use Rattle.std.specs.Prelude.{◌≡◌, ◌+◌, ◌≤◌, IfErr, IfOk, 
 ghost use Rattle.bp_cache.specs.Cache.{IsCacheOf};
 ghost use Rattle.bp_cache.specs.Changes.{KeepsAllNames};
 ghost use Rattle.bp_calls.specs.Overwritten.{patch_seen, patches_seen};
+ghost use Rattle.bp_calls.specs.Mounted.{image_in, IsExactIn};
 ghost use Rattle.bp_layout.specs.Inode.{IsFile, size_of};
 ghost use Rattle.bp_layout.specs.Paths.{parse};
 ghost use Rattle.bp_layout.specs.WellFormed.{IsWellFormed};
@@ -12,14 +13,13 @@ ghost use Rattle.bp_limits.specs.Limits.{max_pieces};
 ghost use Rattle.bp_limits.specs.CallLimits.{max_batch};
 ghost use Rattle.bp_plain.specs.Calls.Call.{batch};
 ghost use Rattle.bp_plain.specs.Seen.{LiesIn, piece_in, refusal_of, spanned};
-ghost use Rattle.bp_shapes.specs.Sets.{IsExact};
 ghost use Rattle.bp_stands.specs.Pieces.{ArePatches, PieceFinds, patch_of};
 ghost use Rattle.bp_volume.specs.Carried.{CarriesOut};
 ghost use Rattle.bp_volume.specs.Ready.{IsReady};
 ghost use Rattle.bp_volume.specs.Seen.{unit_answer};
 ghost use Rattle.bp_volume.specs.Step.{FindsFile, PathFinds};
 ghost use Rattle.bp_volume.specs.Told.{RefusesPiece, RefusesPieces, StopsAtFile};
-ghost use Rattle.pm_region.specs.Memory.{current_words};
+ghost use Rattle.pm_region.specs.Memory.{words_in};
 
 use crate::refusing::no_space;
 use crate::walking::{FoundFile, file_at};
@@ -87,17 +87,17 @@ fn file_for<'a, R: Region>(
     path: &'a [u8],
     last: &mut Option<Known<'a>>,
 ) -> Result<FoundFile, FsError>
-    requires well_formed { IsWellFormed (current_words (R.memory region.now)) }
-    requires right { IsCacheOf (current_words (R.memory region.now)) cache.old }
+    requires well_formed { IsWellFormed (words_in R.memory region.now) }
+    requires right { IsCacheOf (words_in R.memory region.now) cache.old }
     requires last { IfSome last.old (λ last.
-        FindsFile (current_words (R.memory region.now)) last.path.now last.file.inumber last.file.size) }
-    ensures found { IfOk result (λ file. PathFinds (current_words (R.memory region.now)) path.now file.inumber) }
-    ensures kind { IfOk result (λ file. IsFile (current_words (R.memory region.now)) file.inumber) }
-    ensures size { IfOk result (λ file. file.size ≡ size_of (current_words (R.memory region.now)) file.inumber) }
-    ensures refused { IfErr result (λ e. StopsAtFile (current_words (R.memory region.now)) path.now (refusal_of e)) }
+        FindsFile (words_in R.memory region.now) last.path.now last.file.inumber last.file.size) }
+    ensures found { IfOk result (λ file. PathFinds (words_in R.memory region.now) path.now file.inumber) }
+    ensures kind { IfOk result (λ file. IsFile (words_in R.memory region.now) file.inumber) }
+    ensures size { IfOk result (λ file. file.size ≡ size_of (words_in R.memory region.now) file.inumber) }
+    ensures refused { IfErr result (λ e. StopsAtFile (words_in R.memory region.now) path.now (refusal_of e)) }
     ensures last { IfSome last.new (λ last.
-        FindsFile (current_words (R.memory region.now)) last.path.now last.file.inumber last.file.size) }
-    ensures right { IsCacheOf (current_words (R.memory region.now)) cache.new }
+        FindsFile (words_in R.memory region.now) last.path.now last.file.inumber last.file.size) }
+    ensures right { IsCacheOf (words_in R.memory region.now) cache.new }
 {
     match &*last {
         Some(known) if known.path == path => Ok(known.file),
@@ -117,20 +117,20 @@ fn patch_for<'a, R: Region>(
     piece: &Piece,
     last: &mut Option<Known<'a>>,
 ) -> Result<Patch<'a>, FsError>
-    requires well_formed { IsWellFormed (current_words (R.memory region.now)) }
-    requires right { IsCacheOf (current_words (R.memory region.now)) cache.old }
+    requires well_formed { IsWellFormed (words_in R.memory region.now) }
+    requires right { IsCacheOf (words_in R.memory region.now) cache.old }
     requires lies { LiesIn text.now piece.now }
     requires path { is_none (parse (spanned text.now piece.now.path)) ≡ false }
     requires last { IfSome last.old (λ last.
-        FindsFile (current_words (R.memory region.now)) last.path.now last.file.inumber last.file.size) }
+        FindsFile (words_in R.memory region.now) last.path.now last.file.inumber last.file.size) }
     ensures found { IfOk result (λ patch.
-        PieceFinds (current_words (R.memory region.now)) (piece_in text.now piece.now) patch.inode) }
+        PieceFinds (words_in R.memory region.now) (piece_in text.now piece.now) patch.inode) }
     ensures patch { IfOk result (λ patch. patch_seen patch ≡ patch_of (piece_in text.now piece.now) patch.inode) }
     ensures refused { IfErr result (λ e.
-        RefusesPiece (current_words (R.memory region.now)) (piece_in text.now piece.now) (refusal_of e)) }
+        RefusesPiece (words_in R.memory region.now) (piece_in text.now piece.now) (refusal_of e)) }
     ensures last { IfSome last.new (λ last.
-        FindsFile (current_words (R.memory region.now)) last.path.now last.file.inumber last.file.size) }
-    ensures right { IsCacheOf (current_words (R.memory region.now)) cache.new }
+        FindsFile (words_in R.memory region.now) last.path.now last.file.inumber last.file.size) }
+    ensures right { IsCacheOf (words_in R.memory region.now) cache.new }
 {
     let file = file_for(region, cache, part_of(text, piece.path), last)?;
     let bytes = part_of(text, piece.bytes);
@@ -151,16 +151,16 @@ fn patches_for<'a, R: Region>(
     text: &'a [u8],
     pieces: &[Piece],
 ) -> Result<ArrayVec<Patch<'a>, 16>, FsError>
-    requires well_formed { IsWellFormed (current_words (R.memory region.now)) }
-    requires right { IsCacheOf (current_words (R.memory region.now)) cache.old }
+    requires well_formed { IsWellFormed (words_in R.memory region.now) }
+    requires right { IsCacheOf (words_in R.memory region.now) cache.old }
     requires few { length pieces.now ≤ max_pieces }
     requires lie { All (LiesIn text.now) pieces.now }
     requires paths { list_any (λ piece. is_none (parse piece.path)) (map (piece_in text.now) pieces.now) ≡ false }
-    ensures found { IfOk result (λ patches. ArePatches (current_words (R.memory region.now))
+    ensures found { IfOk result (λ patches. ArePatches (words_in R.memory region.now)
         (map (piece_in text.now) pieces.now) (patches_seen patches.items)) }
-    ensures refused { IfErr result (λ e. RefusesPieces (current_words (R.memory region.now))
+    ensures refused { IfErr result (λ e. RefusesPieces (words_in R.memory region.now)
         (map (piece_in text.now) pieces.now) (refusal_of e)) }
-    ensures right { IsCacheOf (current_words (R.memory region.now)) cache.new }
+    ensures right { IsCacheOf (words_in R.memory region.now) cache.new }
 {
     let mut patches = ArrayVec::new();
     let mut last = None;
@@ -185,13 +185,13 @@ fn batch_into<R: Region>(
     requires paths { list_any (λ piece. is_none (parse piece.path)) (map (piece_in text.now) pieces.now) ≡ false }
     requires total { total ≡ sum_by (λ piece. piece.bytes.len) pieces.now }
     requires short { total ≤ max_batch }
-    requires found { ArePatches (current_words (R.memory parts.old.region)) (map (piece_in text.now) pieces.now)
+    requires found { ArePatches (image_in R.memory parts.old) (map (piece_in text.now) pieces.now)
         (patches_seen patches.now) }
     ensures called { CarriesOut (R.memory parts.old.region) (batch (map (piece_in text.now) pieces.now))
         (unit_answer result) (R.memory parts.new.region) }
     ensures frozen { parts.new.frozen ≡ parts.old.frozen }
-    ensures exact { IsExact (current_words (R.memory parts.new.region)) parts.new }
-    ensures names { KeepsAllNames (current_words (R.memory parts.old.region)) (current_words (R.memory parts.new.region)) }
+    ensures exact { IsExactIn R.memory parts.new }
+    ensures names { KeepsAllNames (image_in R.memory parts.old) (image_in R.memory parts.new) }
 {
     if total == 0 {
         return Ok(());
@@ -207,14 +207,14 @@ pub(crate) fn batch_at<R: Region>(
     pieces: &[Piece],
 ) -> Result<(), FsError>
     requires ready { IsReady (R.memory parts.old.region) parts.old }
-    requires right { IsCacheOf (current_words (R.memory parts.old.region)) cache.old }
+    requires right { IsCacheOf (image_in R.memory parts.old) cache.old }
     requires few { length pieces.now ≤ max_pieces }
     requires lie { All (LiesIn text.now) pieces.now }
     ensures called { CarriesOut (R.memory parts.old.region) (batch (map (piece_in text.now) pieces.now))
         (unit_answer result) (R.memory parts.new.region) }
     ensures frozen { parts.new.frozen ≡ parts.old.frozen }
-    ensures exact { IsExact (current_words (R.memory parts.new.region)) parts.new }
-    ensures right { IsCacheOf (current_words (R.memory parts.new.region)) cache.new }
+    ensures exact { IsExactIn R.memory parts.new }
+    ensures right { IsCacheOf (image_in R.memory parts.new) cache.new }
 {
     // All texts must be paths before any file is looked up.
     if has_bad_path(text, pieces) {

@@ -3,12 +3,11 @@
 ghost use Rattle.std.specs.Prelude.{◌≡◌};
 ghost use Rattle.bp_cache.specs.Cache.{IsCacheOf};
 ghost use Rattle.bp_layout.specs.Directory.{empty_slot};
-ghost use Rattle.bp_shapes.specs.Sets.{IsExact};
 ghost use Rattle.bp_volume.specs.Carried.{CarriesOut, making};
 ghost use Rattle.bp_volume.specs.Ready.{IsReady};
 ghost use Rattle.bp_volume.specs.Seen.{unit_answer};
 ghost use Rattle.bp_volume.specs.Step.{FindsNew};
-ghost use Rattle.pm_region.specs.Memory.{current_words};
+ghost use Rattle.bp_calls.specs.Mounted.{image_in, IsExactIn};
 
 use crate::refusing::no_space;
 use crate::walking::{NewName, new_name, slot_for};
@@ -28,14 +27,14 @@ fn create_new<R: Region>(
     kind: Kind,
 ) -> Result<(), FsError>
     requires ready { IsReady (R.memory parts.old.region) parts.old }
-    requires new { FindsNew (current_words (R.memory parts.old.region)) text.now new.dir new.name.now }
-    requires slot { new.slot ≡ empty_slot (current_words (R.memory parts.old.region)) new.dir }
-    requires right { IsCacheOf (current_words (R.memory parts.old.region)) cache.old }
+    requires new { FindsNew (image_in R.memory parts.old) text.now new.dir new.name.now }
+    requires slot { new.slot ≡ empty_slot (image_in R.memory parts.old) new.dir }
+    requires right { IsCacheOf (image_in R.memory parts.old) cache.old }
     ensures called { CarriesOut (R.memory parts.old.region) (making kind text.now) (unit_answer result)
         (R.memory parts.new.region) }
     ensures frozen { parts.new.frozen ≡ parts.old.frozen }
-    ensures exact { IsExact (current_words (R.memory parts.new.region)) parts.new }
-    ensures right { IsCacheOf (current_words (R.memory parts.new.region)) cache.new }
+    ensures exact { IsExactIn R.memory parts.new }
+    ensures right { IsCacheOf (image_in R.memory parts.new) cache.new }
 {
     let slot = slot_for(&parts.region, new.dir, new.slot);
     create_in(parts, new.dir, new.slot, new.name, kind).map_err(no_space)?;
@@ -51,12 +50,12 @@ pub(crate) fn create_at<R: Region>(
     kind: Kind,
 ) -> Result<(), FsError>
     requires ready { IsReady (R.memory parts.old.region) parts.old }
-    requires right { IsCacheOf (current_words (R.memory parts.old.region)) cache.old }
+    requires right { IsCacheOf (image_in R.memory parts.old) cache.old }
     ensures called { CarriesOut (R.memory parts.old.region) (making kind text.now) (unit_answer result)
         (R.memory parts.new.region) }
     ensures frozen { parts.new.frozen ≡ parts.old.frozen }
-    ensures exact { IsExact (current_words (R.memory parts.new.region)) parts.new }
-    ensures right { IsCacheOf (current_words (R.memory parts.new.region)) cache.new }
+    ensures exact { IsExactIn R.memory parts.new }
+    ensures right { IsCacheOf (image_in R.memory parts.new) cache.new }
 {
     let new = new_name(&parts.region, cache, text)?;
     create_new(parts, cache, text, new, kind)

@@ -7,13 +7,13 @@ ghost use Rattle.bp_layout.specs.Inode.{IsFile};
 ghost use Rattle.bp_layout.specs.WellFormed.{IsWellFormed};
 ghost use Rattle.bp_plain.specs.Calls.Call.{link};
 ghost use Rattle.bp_plain.specs.Seen.{refusal_of};
-ghost use Rattle.bp_shapes.specs.Sets.{IsExact};
 ghost use Rattle.bp_volume.specs.Carried.{CarriesOut};
 ghost use Rattle.bp_volume.specs.Ready.{IsReady};
 ghost use Rattle.bp_volume.specs.Seen.{unit_answer};
 ghost use Rattle.bp_volume.specs.Step.{FindsNew, PathFinds};
 ghost use Rattle.bp_volume.specs.Told.{Refuses};
-ghost use Rattle.pm_region.specs.Memory.{current_words};
+ghost use Rattle.pm_region.specs.Memory.{words_in};
+ghost use Rattle.bp_calls.specs.Mounted.{image_in, IsExactIn};
 
 use crate::refusing::no_space;
 use crate::walking::{NewName, bad_path, file_at, new_on, slot_for};
@@ -40,17 +40,15 @@ fn link_ends<'a, R: Region>(
     from: &[u8],
     to: &'a [u8],
 ) -> Result<LinkEnds<'a>, FsError>
-    requires well_formed { IsWellFormed (current_words (R.memory region.now)) }
-    requires right { IsCacheOf (current_words (R.memory region.now)) cache.old }
-    ensures found { IfOk result (λ ends. PathFinds (current_words (R.memory region.now)) from.now ends.inode) }
-    ensures kind { IfOk result (λ ends. IsFile (current_words (R.memory region.now)) ends.inode) }
+    requires well_formed { IsWellFormed (words_in R.memory region.now) }
+    requires right { IsCacheOf (words_in R.memory region.now) cache.old }
+    ensures found { IfOk result (λ ends. PathFinds (words_in R.memory region.now) from.now ends.inode) }
+    ensures kind { IfOk result (λ ends. IsFile (words_in R.memory region.now) ends.inode) }
     ensures new { IfOk result
-        (λ ends. FindsNew (current_words (R.memory region.now)) to.now ends.name.dir ends.name.name.now) }
-    ensures slot { IfOk result
-        (λ ends. ends.name.slot ≡ empty_slot (current_words (R.memory region.now)) ends.name.dir) }
-    ensures refused { IfErr result
-        (λ e. Refuses (current_words (R.memory region.now)) (link from.now to.now) (refusal_of e)) }
-    ensures right { IsCacheOf (current_words (R.memory region.now)) cache.new }
+        (λ ends. FindsNew (words_in R.memory region.now) to.now ends.name.dir ends.name.name.now) }
+    ensures slot { IfOk result (λ ends. ends.name.slot ≡ empty_slot (words_in R.memory region.now) ends.name.dir) }
+    ensures refused { IfErr result (λ e. Refuses (words_in R.memory region.now) (link from.now to.now) (refusal_of e)) }
+    ensures right { IsCacheOf (words_in R.memory region.now) cache.new }
 {
     // Both texts must be paths before any file is looked up.
     let path = parse(to).map_err(bad_path)?;
@@ -71,16 +69,16 @@ fn link_found<R: Region>(
     ends: LinkEnds<'_>,
 ) -> Result<(), FsError>
     requires ready { IsReady (R.memory parts.old.region) parts.old }
-    requires at { PathFinds (current_words (R.memory parts.old.region)) from.now ends.inode }
-    requires kind { IsFile (current_words (R.memory parts.old.region)) ends.inode }
-    requires new { FindsNew (current_words (R.memory parts.old.region)) to.now ends.name.dir ends.name.name.now }
-    requires slot { ends.name.slot ≡ empty_slot (current_words (R.memory parts.old.region)) ends.name.dir }
-    requires right { IsCacheOf (current_words (R.memory parts.old.region)) cache.old }
+    requires at { PathFinds (image_in R.memory parts.old) from.now ends.inode }
+    requires kind { IsFile (image_in R.memory parts.old) ends.inode }
+    requires new { FindsNew (image_in R.memory parts.old) to.now ends.name.dir ends.name.name.now }
+    requires slot { ends.name.slot ≡ empty_slot (image_in R.memory parts.old) ends.name.dir }
+    requires right { IsCacheOf (image_in R.memory parts.old) cache.old }
     ensures called { CarriesOut (R.memory parts.old.region) (link from.now to.now) (unit_answer result)
         (R.memory parts.new.region) }
     ensures frozen { parts.new.frozen ≡ parts.old.frozen }
-    ensures exact { IsExact (current_words (R.memory parts.new.region)) parts.new }
-    ensures right { IsCacheOf (current_words (R.memory parts.new.region)) cache.new }
+    ensures exact { IsExactIn R.memory parts.new }
+    ensures right { IsCacheOf (image_in R.memory parts.new) cache.new }
 {
     let new = ends.name;
     let slot = slot_for(&parts.region, new.dir, new.slot);
@@ -97,12 +95,12 @@ pub(crate) fn link_at<R: Region>(
     to: &[u8],
 ) -> Result<(), FsError>
     requires ready { IsReady (R.memory parts.old.region) parts.old }
-    requires right { IsCacheOf (current_words (R.memory parts.old.region)) cache.old }
+    requires right { IsCacheOf (image_in R.memory parts.old) cache.old }
     ensures called { CarriesOut (R.memory parts.old.region) (link from.now to.now) (unit_answer result)
         (R.memory parts.new.region) }
     ensures frozen { parts.new.frozen ≡ parts.old.frozen }
-    ensures exact { IsExact (current_words (R.memory parts.new.region)) parts.new }
-    ensures right { IsCacheOf (current_words (R.memory parts.new.region)) cache.new }
+    ensures exact { IsExactIn R.memory parts.new }
+    ensures right { IsCacheOf (image_in R.memory parts.new) cache.new }
 {
     let ends = link_ends(&parts.region, cache, from, to)?;
     link_found(parts, cache, from, to, ends)

@@ -3,18 +3,18 @@
 ghost use Rattle.std.specs.Prelude.{◌≡◌, IfErr, IfOk, OnOk, Some};
 ghost use Rattle.bp_cache.specs.Cache.{IsCacheOf};
 ghost use Rattle.bp_calls.specs.Removed.{HasNoName};
+ghost use Rattle.bp_calls.specs.Mounted.{image_in, IsExactIn};
 ghost use Rattle.bp_layout.specs.Directory.{slot_named};
 ghost use Rattle.bp_layout.specs.Inode.{IsDirectory, IsFile};
 ghost use Rattle.bp_layout.specs.WellFormed.{IsWellFormed};
 ghost use Rattle.bp_plain.specs.Calls.Call.{rmdir, unlink};
 ghost use Rattle.bp_plain.specs.Seen.{refusal_of};
-ghost use Rattle.bp_shapes.specs.Sets.{IsExact};
 ghost use Rattle.bp_volume.specs.Carried.{CarriesOut};
 ghost use Rattle.bp_volume.specs.Ready.{IsReady};
 ghost use Rattle.bp_volume.specs.Seen.{unit_answer};
 ghost use Rattle.bp_volume.specs.Step.{FindsEntry};
 ghost use Rattle.bp_volume.specs.Told.{Refuses};
-ghost use Rattle.pm_region.specs.Memory.{current_words};
+ghost use Rattle.pm_region.specs.Memory.{words_in};
 
 use crate::refusing::no_space;
 use crate::walking::{NamedEntry, entry_at};
@@ -34,16 +34,15 @@ fn file_entry<'a, R: Region>(
     cache: &mut DirectoryCache,
     text: &'a [u8],
 ) -> Result<NamedEntry<'a>, FsError>
-    requires well_formed { IsWellFormed (current_words (R.memory region.now)) }
-    requires right { IsCacheOf (current_words (R.memory region.now)) cache.old }
+    requires well_formed { IsWellFormed (words_in R.memory region.now) }
+    requires right { IsCacheOf (words_in R.memory region.now) cache.old }
     ensures found { IfOk result
-        (λ entry. FindsEntry (current_words (R.memory region.now)) text.now entry.dir entry.slot entry.inumber) }
+        (λ entry. FindsEntry (words_in R.memory region.now) text.now entry.dir entry.slot entry.inumber) }
     ensures named { IfOk result
-        (λ entry. slot_named (current_words (R.memory region.now)) entry.dir entry.name.now ≡ Some entry.slot) }
-    ensures file { IfOk result (λ entry. IsFile (current_words (R.memory region.now)) entry.inumber) }
-    ensures refused { IfErr result
-        (λ e. Refuses (current_words (R.memory region.now)) (unlink text.now) (refusal_of e)) }
-    ensures right { IsCacheOf (current_words (R.memory region.now)) cache.new }
+        (λ entry. slot_named (words_in R.memory region.now) entry.dir entry.name.now ≡ Some entry.slot) }
+    ensures file { IfOk result (λ entry. IsFile (words_in R.memory region.now) entry.inumber) }
+    ensures refused { IfErr result (λ e. Refuses (words_in R.memory region.now) (unlink text.now) (refusal_of e)) }
+    ensures right { IsCacheOf (words_in R.memory region.now) cache.new }
 {
     let entry = entry_at(region, cache, text, FsError::IsDir)?;
     match get(region, entry.inumber).kind {
@@ -54,12 +53,11 @@ fn file_entry<'a, R: Region>(
 
 /// Refuses an entry that refers to a file, or to a directory that is not empty.
 fn without_names<R: Region>(region: &R, text: &[u8], entry: &NamedEntry<'_>) -> Result<(), FsError>
-    requires well_formed { IsWellFormed (current_words (R.memory region.now)) }
-    requires at { FindsEntry (current_words (R.memory region.now)) text.now entry.now.dir entry.now.slot entry.now.inumber }
-    ensures directory { OnOk result (IsDirectory (current_words (R.memory region.now)) entry.now.inumber) }
-    ensures empty { OnOk result (HasNoName (current_words (R.memory region.now)) entry.now.inumber) }
-    ensures refused { IfErr result
-        (λ e. Refuses (current_words (R.memory region.now)) (rmdir text.now) (refusal_of e)) }
+    requires well_formed { IsWellFormed (words_in R.memory region.now) }
+    requires at { FindsEntry (words_in R.memory region.now) text.now entry.now.dir entry.now.slot entry.now.inumber }
+    ensures directory { OnOk result (IsDirectory (words_in R.memory region.now) entry.now.inumber) }
+    ensures empty { OnOk result (HasNoName (words_in R.memory region.now) entry.now.inumber) }
+    ensures refused { IfErr result (λ e. Refuses (words_in R.memory region.now) (rmdir text.now) (refusal_of e)) }
 {
     let inode = get(region, entry.inumber);
     let tree = Tree::of(&inode);
@@ -81,17 +79,16 @@ fn empty_entry<'a, R: Region>(
     cache: &mut DirectoryCache,
     text: &'a [u8],
 ) -> Result<NamedEntry<'a>, FsError>
-    requires well_formed { IsWellFormed (current_words (R.memory region.now)) }
-    requires right { IsCacheOf (current_words (R.memory region.now)) cache.old }
+    requires well_formed { IsWellFormed (words_in R.memory region.now) }
+    requires right { IsCacheOf (words_in R.memory region.now) cache.old }
     ensures found { IfOk result
-        (λ entry. FindsEntry (current_words (R.memory region.now)) text.now entry.dir entry.slot entry.inumber) }
+        (λ entry. FindsEntry (words_in R.memory region.now) text.now entry.dir entry.slot entry.inumber) }
     ensures named { IfOk result
-        (λ entry. slot_named (current_words (R.memory region.now)) entry.dir entry.name.now ≡ Some entry.slot) }
-    ensures directory { IfOk result (λ entry. IsDirectory (current_words (R.memory region.now)) entry.inumber) }
-    ensures empty { IfOk result (λ entry. HasNoName (current_words (R.memory region.now)) entry.inumber) }
-    ensures refused { IfErr result
-        (λ e. Refuses (current_words (R.memory region.now)) (rmdir text.now) (refusal_of e)) }
-    ensures right { IsCacheOf (current_words (R.memory region.now)) cache.new }
+        (λ entry. slot_named (words_in R.memory region.now) entry.dir entry.name.now ≡ Some entry.slot) }
+    ensures directory { IfOk result (λ entry. IsDirectory (words_in R.memory region.now) entry.inumber) }
+    ensures empty { IfOk result (λ entry. HasNoName (words_in R.memory region.now) entry.inumber) }
+    ensures refused { IfErr result (λ e. Refuses (words_in R.memory region.now) (rmdir text.now) (refusal_of e)) }
+    ensures right { IsCacheOf (words_in R.memory region.now) cache.new }
 {
     let entry = entry_at(region, cache, text, FsError::IsRoot)?;
     without_names(region, text, &entry)?;
@@ -105,12 +102,12 @@ pub(crate) fn unlink_at<R: Region>(
     text: &[u8],
 ) -> Result<(), FsError>
     requires ready { IsReady (R.memory parts.old.region) parts.old }
-    requires right { IsCacheOf (current_words (R.memory parts.old.region)) cache.old }
+    requires right { IsCacheOf (image_in R.memory parts.old) cache.old }
     ensures called { CarriesOut (R.memory parts.old.region) (unlink text.now) (unit_answer result)
         (R.memory parts.new.region) }
     ensures frozen { parts.new.frozen ≡ parts.old.frozen }
-    ensures exact { IsExact (current_words (R.memory parts.new.region)) parts.new }
-    ensures right { IsCacheOf (current_words (R.memory parts.new.region)) cache.new }
+    ensures exact { IsExactIn R.memory parts.new }
+    ensures right { IsCacheOf (image_in R.memory parts.new) cache.new }
 {
     let file = file_entry(&parts.region, cache, text)?;
     remove(parts, file.dir, file.slot).map_err(no_space)?;
@@ -125,12 +122,12 @@ pub(crate) fn rmdir_at<R: Region>(
     text: &[u8],
 ) -> Result<(), FsError>
     requires ready { IsReady (R.memory parts.old.region) parts.old }
-    requires right { IsCacheOf (current_words (R.memory parts.old.region)) cache.old }
+    requires right { IsCacheOf (image_in R.memory parts.old) cache.old }
     ensures called { CarriesOut (R.memory parts.old.region) (rmdir text.now) (unit_answer result)
         (R.memory parts.new.region) }
     ensures frozen { parts.new.frozen ≡ parts.old.frozen }
-    ensures exact { IsExact (current_words (R.memory parts.new.region)) parts.new }
-    ensures right { IsCacheOf (current_words (R.memory parts.new.region)) cache.new }
+    ensures exact { IsExactIn R.memory parts.new }
+    ensures right { IsCacheOf (image_in R.memory parts.new) cache.new }
 {
     let empty = empty_entry(&parts.region, cache, text)?;
     remove(parts, empty.dir, empty.slot).map_err(no_space)?;

@@ -9,14 +9,14 @@ ghost use Rattle.bp_layout.specs.Words.{Image};
 ghost use Rattle.bp_path.specs.Names.{AreBeside};
 ghost use Rattle.bp_plain.specs.Calls.Call.{rename};
 ghost use Rattle.bp_plain.specs.Seen.{refusal_of};
-ghost use Rattle.bp_shapes.specs.Sets.{IsExact};
 ghost use Rattle.bp_volume.specs.Carried.{CarriesOut};
 ghost use Rattle.bp_volume.specs.Ready.{IsReady};
 ghost use Rattle.bp_volume.specs.Renaming.{Allows, AreRenameEnds, CanUnlinkThere, FindsEnds, IsMoveOf, IsNewName, IsTarget, MayMove, MovesName, are_same};
 ghost use Rattle.bp_volume.specs.Seen.{unit_answer};
 ghost use Rattle.bp_volume.specs.Step.{IsEntryOn};
 ghost use Rattle.bp_volume.specs.Told.{Refuses, RefusesRename};
-ghost use Rattle.pm_region.specs.Memory.{current_words};
+ghost use Rattle.pm_region.specs.Memory.{words_in};
+ghost use Rattle.bp_calls.specs.Mounted.{image_in, IsExactIn};
 
 use crate::refusing::no_space;
 use crate::walking::{
@@ -50,19 +50,18 @@ fn ends_beside<'a, R: Region>(
     from: &Path<'a>,
     to: &Path<'a>,
 ) -> Result<Ends<'a>, FsError>
-    requires well_formed { IsWellFormed (current_words (R.memory region.now)) }
+    requires well_formed { IsWellFormed (words_in R.memory region.now) }
     requires below { from.now ≢ [] }
     requires below_too { to.now ≢ [] }
     requires beside { AreBeside from.now to.now }
-    requires right { IsCacheOf (current_words (R.memory region.now)) cache.old }
+    requires right { IsCacheOf (words_in R.memory region.now) cache.old }
     ensures source { IfOk result
-        (λ ends. IsEntryOn (current_words (R.memory region.now)) from.now ends.source.dir ends.source.slot ends.source.inumber) }
+        (λ ends. IsEntryOn (words_in R.memory region.now) from.now ends.source.dir ends.source.slot ends.source.inumber) }
     ensures named { IfOk result
-        (λ ends. slot_named (current_words (R.memory region.now)) ends.source.dir ends.source.name.now ≡ Some ends.source.slot) }
-    ensures target { IfOk result (λ ends. IsTarget (current_words (R.memory region.now)) to.now ends.target) }
-    ensures refused { IfErr result
-        (λ e. RefusesRename (current_words (R.memory region.now)) from.now to.now (refusal_of e)) }
-    ensures right { IsCacheOf (current_words (R.memory region.now)) cache.new }
+        (λ ends. slot_named (words_in R.memory region.now) ends.source.dir ends.source.name.now ≡ Some ends.source.slot) }
+    ensures target { IfOk result (λ ends. IsTarget (words_in R.memory region.now) to.now ends.target) }
+    ensures refused { IfErr result (λ e. RefusesRename (words_in R.memory region.now) from.now to.now (refusal_of e)) }
+    ensures right { IsCacheOf (words_in R.memory region.now) cache.new }
 {
     let dir = walk_parent_by(region, from, cache).map_err(refused)?;
     let name = from.last();
@@ -92,18 +91,17 @@ fn found_ends<'a, R: Region>(
     from: &Path<'a>,
     to: &Path<'a>,
 ) -> Result<Ends<'a>, FsError>
-    requires well_formed { IsWellFormed (current_words (R.memory region.now)) }
+    requires well_formed { IsWellFormed (words_in R.memory region.now) }
     requires below { from.now ≢ [] }
     requires below_too { to.now ≢ [] }
-    requires right { IsCacheOf (current_words (R.memory region.now)) cache.old }
+    requires right { IsCacheOf (words_in R.memory region.now) cache.old }
     ensures source { IfOk result
-        (λ ends. IsEntryOn (current_words (R.memory region.now)) from.now ends.source.dir ends.source.slot ends.source.inumber) }
+        (λ ends. IsEntryOn (words_in R.memory region.now) from.now ends.source.dir ends.source.slot ends.source.inumber) }
     ensures named { IfOk result
-        (λ ends. slot_named (current_words (R.memory region.now)) ends.source.dir ends.source.name.now ≡ Some ends.source.slot) }
-    ensures target { IfOk result (λ ends. IsTarget (current_words (R.memory region.now)) to.now ends.target) }
-    ensures refused { IfErr result
-        (λ e. RefusesRename (current_words (R.memory region.now)) from.now to.now (refusal_of e)) }
-    ensures right { IsCacheOf (current_words (R.memory region.now)) cache.new }
+        (λ ends. slot_named (words_in R.memory region.now) ends.source.dir ends.source.name.now ≡ Some ends.source.slot) }
+    ensures target { IfOk result (λ ends. IsTarget (words_in R.memory region.now) to.now ends.target) }
+    ensures refused { IfErr result (λ e. RefusesRename (words_in R.memory region.now) from.now to.now (refusal_of e)) }
+    ensures right { IsCacheOf (words_in R.memory region.now) cache.new }
 {
     if from.is_beside(to) {
         return ends_beside(region, cache, from, to);
@@ -120,12 +118,11 @@ fn ends_on<'a, R: Region>(
     from: &Path<'a>,
     to: &Path<'a>,
 ) -> Result<Ends<'a>, FsError>
-    requires well_formed { IsWellFormed (current_words (R.memory region.now)) }
-    requires right { IsCacheOf (current_words (R.memory region.now)) cache.old }
-    ensures found { IfOk result (λ ends. AreRenameEnds (current_words (R.memory region.now)) from.now to.now ends) }
-    ensures refused { IfErr result
-        (λ e. RefusesRename (current_words (R.memory region.now)) from.now to.now (refusal_of e)) }
-    ensures right { IsCacheOf (current_words (R.memory region.now)) cache.new }
+    requires well_formed { IsWellFormed (words_in R.memory region.now) }
+    requires right { IsCacheOf (words_in R.memory region.now) cache.old }
+    ensures found { IfOk result (λ ends. AreRenameEnds (words_in R.memory region.now) from.now to.now ends) }
+    ensures refused { IfErr result (λ e. RefusesRename (words_in R.memory region.now) from.now to.now (refusal_of e)) }
+    ensures right { IsCacheOf (words_in R.memory region.now) cache.new }
 {
     if from.is_root() {
         return Err(FsError::IsRoot);
@@ -148,12 +145,12 @@ fn ends_at<'a, R: Region>(
     from: &'a [u8],
     to: &'a [u8],
 ) -> Result<Ends<'a>, FsError>
-    requires well_formed { IsWellFormed (current_words (R.memory region.now)) }
-    requires right { IsCacheOf (current_words (R.memory region.now)) cache.old }
-    ensures found { IfOk result (λ ends. FindsEnds (current_words (R.memory region.now)) from.now to.now ends) }
+    requires well_formed { IsWellFormed (words_in R.memory region.now) }
+    requires right { IsCacheOf (words_in R.memory region.now) cache.old }
+    ensures found { IfOk result (λ ends. FindsEnds (words_in R.memory region.now) from.now to.now ends) }
     ensures refused { IfErr result
-        (λ e. Refuses (current_words (R.memory region.now)) (rename from.now to.now) (refusal_of e)) }
-    ensures right { IsCacheOf (current_words (R.memory region.now)) cache.new }
+        (λ e. Refuses (words_in R.memory region.now) (rename from.now to.now) (refusal_of e)) }
+    ensures right { IsCacheOf (words_in R.memory region.now) cache.new }
 {
     let source = parse(from).map_err(bad_path)?;
     let target = parse(to).map_err(bad_path)?;
@@ -169,14 +166,14 @@ fn may_replace<R: Region>(
     ends: &Ends<'_>,
     there: FoundEntry,
 ) -> Result<(), FsError>
-    requires well_formed { IsWellFormed (current_words (R.memory region.now)) }
-    requires found { FindsEnds (current_words (R.memory region.now)) from.now to.now ends.now }
+    requires well_formed { IsWellFormed (words_in R.memory region.now) }
+    requires found { FindsEnds (words_in R.memory region.now) from.now to.now ends.now }
     requires there { ends.now.target.there ≡ Some there }
     requires other { are_same ends.now ≡ false }
-    ensures leaves { OnOk result (CanUnlinkThere (current_words (R.memory region.now)) ends.now there) }
-    ensures allowed { OnOk result (Allows (current_words (R.memory region.now)) (rename from.now to.now)) }
+    ensures leaves { OnOk result (CanUnlinkThere (words_in R.memory region.now) ends.now there) }
+    ensures allowed { OnOk result (Allows (words_in R.memory region.now) (rename from.now to.now)) }
     ensures refused { IfErr result
-        (λ e. Refuses (current_words (R.memory region.now)) (rename from.now to.now) (refusal_of e)) }
+        (λ e. Refuses (words_in R.memory region.now) (rename from.now to.now) (refusal_of e)) }
 {
     let source = get(region, ends.source.inumber);
     let target = get(region, there.inumber);
@@ -201,12 +198,12 @@ fn may_replace<R: Region>(
 
 /// Refuses a rename whose new name belongs to an entry that it may not replace.
 fn may_move<R: Region>(region: &R, from: &[u8], to: &[u8], ends: &Ends<'_>) -> Result<(), FsError>
-    requires well_formed { IsWellFormed (current_words (R.memory region.now)) }
-    requires found { FindsEnds (current_words (R.memory region.now)) from.now to.now ends.now }
+    requires well_formed { IsWellFormed (words_in R.memory region.now) }
+    requires found { FindsEnds (words_in R.memory region.now) from.now to.now ends.now }
     requires other { are_same ends.now ≡ false }
-    ensures may { OnOk result (MayMove (current_words (R.memory region.now)) from.now to.now ends.now) }
+    ensures may { OnOk result (MayMove (words_in R.memory region.now) from.now to.now ends.now) }
     ensures refused { IfErr result
-        (λ e. Refuses (current_words (R.memory region.now)) (rename from.now to.now) (refusal_of e)) }
+        (λ e. Refuses (words_in R.memory region.now) (rename from.now to.now) (refusal_of e)) }
 {
     match ends.target.there {
         Some(there) => may_replace(region, from, to, ends, there),
@@ -251,12 +248,12 @@ fn move_of<'a>(ends: &Ends<'a>) -> Move<'a>
 /// within its directory, it is the slot of the entry that moves; in another directory, the least empty slot, or the
 /// one after the last entry.
 fn target_at<'a, R: Region>(region: &R, ends: &Ends<'a>) -> NameAt<'a>
-    requires well_formed { IsWellFormed (current_words (R.memory region.now)) }
-    requires reached { IsReached (current_words (R.memory region.now)) ends.now.target.dir }
+    requires well_formed { IsWellFormed (words_in R.memory region.now) }
+    requires reached { IsReached (words_in R.memory region.now) ends.now.target.dir }
     requires inode { 1 ≤ ends.now.target.dir }
     requires empty { let target = ends.now.target in target.there ≡ None
-        → target.empty ≡ empty_slot (current_words (R.memory region.now)) target.dir }
-    ensures { IsNewName (current_words (R.memory region.now)) ends.now result }
+        → target.empty ≡ empty_slot (words_in R.memory region.now) target.dir }
+    ensures { IsNewName (words_in R.memory region.now) ends.now result }
 {
     let target = &ends.target;
     match target.there {
@@ -294,13 +291,13 @@ fn move_name<R: Region>(
     ends: &Ends<'_>,
 ) -> Result<(), FsError>
     requires ready { IsReady (R.memory parts.old.region) parts.old }
-    requires right { IsCacheOf (current_words (R.memory parts.old.region)) cache.old }
-    requires may { MayMove (current_words (R.memory parts.old.region)) from.now to.now ends.now }
+    requires right { IsCacheOf (image_in R.memory parts.old) cache.old }
+    requires may { MayMove (image_in R.memory parts.old) from.now to.now ends.now }
     ensures called { CarriesOut (R.memory parts.old.region) (rename from.now to.now) (unit_answer result)
         (R.memory parts.new.region) }
     ensures frozen { parts.new.frozen ≡ parts.old.frozen }
-    ensures exact { IsExact (current_words (R.memory parts.new.region)) parts.new }
-    ensures right { IsCacheOf (current_words (R.memory parts.new.region)) cache.new }
+    ensures exact { IsExactIn R.memory parts.new }
+    ensures right { IsCacheOf (image_in R.memory parts.new) cache.new }
 {
     let to_move = move_of(ends);
     let target = target_at(&parts.region, ends);
@@ -319,13 +316,13 @@ fn rename_found<R: Region>(
     ends: &Ends<'_>,
 ) -> Result<(), FsError>
     requires ready { IsReady (R.memory parts.old.region) parts.old }
-    requires right { IsCacheOf (current_words (R.memory parts.old.region)) cache.old }
-    requires found { FindsEnds (current_words (R.memory parts.old.region)) from.now to.now ends.now }
+    requires right { IsCacheOf (image_in R.memory parts.old) cache.old }
+    requires found { FindsEnds (image_in R.memory parts.old) from.now to.now ends.now }
     ensures called { CarriesOut (R.memory parts.old.region) (rename from.now to.now) (unit_answer result)
         (R.memory parts.new.region) }
     ensures frozen { parts.new.frozen ≡ parts.old.frozen }
-    ensures exact { IsExact (current_words (R.memory parts.new.region)) parts.new }
-    ensures right { IsCacheOf (current_words (R.memory parts.new.region)) cache.new }
+    ensures exact { IsExactIn R.memory parts.new }
+    ensures right { IsCacheOf (image_in R.memory parts.new) cache.new }
 {
     if are_same(ends) {
         return Ok(());
@@ -342,12 +339,12 @@ pub(crate) fn rename_at<R: Region>(
     to: &[u8],
 ) -> Result<(), FsError>
     requires ready { IsReady (R.memory parts.old.region) parts.old }
-    requires right { IsCacheOf (current_words (R.memory parts.old.region)) cache.old }
+    requires right { IsCacheOf (image_in R.memory parts.old) cache.old }
     ensures called { CarriesOut (R.memory parts.old.region) (rename from.now to.now) (unit_answer result)
         (R.memory parts.new.region) }
     ensures frozen { parts.new.frozen ≡ parts.old.frozen }
-    ensures exact { IsExact (current_words (R.memory parts.new.region)) parts.new }
-    ensures right { IsCacheOf (current_words (R.memory parts.new.region)) cache.new }
+    ensures exact { IsExactIn R.memory parts.new }
+    ensures right { IsCacheOf (image_in R.memory parts.new) cache.new }
 {
     let ends = ends_at(&parts.region, cache, from, to)?;
     rename_found(parts, cache, from, to, &ends)

@@ -6,8 +6,8 @@ ghost use Rattle.bp_layout.specs.Trees.{AreFrozen};
 ghost use Rattle.bp_layout.specs.Whole.{IsFileSystem};
 ghost use Rattle.bp_layout.specs.Words.{block_count};
 ghost use Rattle.bp_scan.specs.Totals.{HasTotals};
-ghost use Rattle.bp_shapes.specs.Sets.{IsExact, kept_of};
-ghost use Rattle.pm_region.specs.Memory.{current_words};
+ghost use Rattle.bp_shapes.specs.Sets.{kept_of};
+ghost use Rattle.bp_calls.specs.Mounted.{image_in, IsExactIn};
 
 use bp_free::Parts;
 use bp_scan::{Pending, Totals, scan_whole};
@@ -16,16 +16,16 @@ use pm_region::Region;
 /// Sets the sets and counts to those of the words, which are a file system, whatever they were before, and returns its
 /// totals. It allocates no memory: it uses that of the sets and of `pending`.
 pub(crate) fn rescan<R: Region>(parts: &mut Parts<R>, pending: &mut Pending) -> Totals
-    requires well_formed { IsFileSystem (current_words (R.memory parts.old.region)) }
-    requires blocks { length parts.old.blocks ≡ block_count (current_words (R.memory parts.old.region)) }
-    requires inodes { length parts.old.inodes ≡ block_inodes * block_count (current_words (R.memory parts.old.region)) }
-    requires counts { length parts.old.counts ≡ block_inodes * block_count (current_words (R.memory parts.old.region)) }
-    requires frozen { length parts.old.frozen ≡ block_count (current_words (R.memory parts.old.region)) }
-    requires pending { pending.old ≡ block_inodes * block_count (current_words (R.memory parts.old.region)) }
+    requires well_formed { IsFileSystem (image_in R.memory parts.old) }
+    requires blocks { length parts.old.blocks ≡ block_count (image_in R.memory parts.old) }
+    requires inodes { length parts.old.inodes ≡ block_inodes * block_count (image_in R.memory parts.old) }
+    requires counts { length parts.old.counts ≡ block_inodes * block_count (image_in R.memory parts.old) }
+    requires frozen { length parts.old.frozen ≡ block_count (image_in R.memory parts.old) }
+    requires pending { pending.old ≡ block_inodes * block_count (image_in R.memory parts.old) }
     ensures region { parts.new.region ≡ parts.old.region }
-    ensures exact { IsExact (current_words (R.memory parts.new.region)) parts.new }
-    ensures frozen { AreFrozen (current_words (R.memory parts.new.region)) (kept_of parts.new) }
-    ensures totals { HasTotals (current_words (R.memory parts.old.region)) result }
+    ensures exact { IsExactIn R.memory parts.new }
+    ensures frozen { AreFrozen (image_in R.memory parts.new) (kept_of parts.new) }
+    ensures totals { HasTotals (image_in R.memory parts.old) result }
     ensures pending { pending.new ≡ pending.old }
 {
     match scan_whole(

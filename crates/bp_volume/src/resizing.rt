@@ -5,12 +5,11 @@ ghost use Rattle.bp_cache.specs.Cache.{IsCacheOf};
 ghost use Rattle.bp_cache.specs.Changes.{KeepsAllNames};
 ghost use Rattle.bp_layout.specs.Inode.{IsFile, size_of};
 ghost use Rattle.bp_plain.specs.Calls.Call.{truncate};
-ghost use Rattle.bp_shapes.specs.Sets.{IsExact};
 ghost use Rattle.bp_volume.specs.Carried.{CarriesOut};
 ghost use Rattle.bp_volume.specs.Ready.{IsReady};
 ghost use Rattle.bp_volume.specs.Seen.{unit_answer};
 ghost use Rattle.bp_volume.specs.Step.{PathFinds};
-ghost use Rattle.pm_region.specs.Memory.{current_words};
+ghost use Rattle.bp_calls.specs.Mounted.{image_in, IsExactIn};
 
 use crate::refusing::no_space;
 use crate::walking::{FoundFile, file_at};
@@ -28,14 +27,14 @@ fn resize<R: Region>(
     size: u64,
 ) -> Result<(), FsError>
     requires ready { IsReady (R.memory parts.old.region) parts.old }
-    requires at { PathFinds (current_words (R.memory parts.old.region)) text.now file.inumber }
-    requires kind { IsFile (current_words (R.memory parts.old.region)) file.inumber }
-    requires size { file.size ≡ size_of (current_words (R.memory parts.old.region)) file.inumber }
+    requires at { PathFinds (image_in R.memory parts.old) text.now file.inumber }
+    requires kind { IsFile (image_in R.memory parts.old) file.inumber }
+    requires size { file.size ≡ size_of (image_in R.memory parts.old) file.inumber }
     ensures called { CarriesOut (R.memory parts.old.region) (truncate text.now size) (unit_answer result)
         (R.memory parts.new.region) }
     ensures frozen { parts.new.frozen ≡ parts.old.frozen }
-    ensures exact { IsExact (current_words (R.memory parts.new.region)) parts.new }
-    ensures names { KeepsAllNames (current_words (R.memory parts.old.region)) (current_words (R.memory parts.new.region)) }
+    ensures exact { IsExactIn R.memory parts.new }
+    ensures names { KeepsAllNames (image_in R.memory parts.old) (image_in R.memory parts.new) }
 {
     if size > version(&parts.region).greatest_size() {
         return Err(FsError::TooBig);
@@ -54,12 +53,12 @@ pub(crate) fn truncate_at<R: Region>(
     size: u64,
 ) -> Result<(), FsError>
     requires ready { IsReady (R.memory parts.old.region) parts.old }
-    requires right { IsCacheOf (current_words (R.memory parts.old.region)) cache.old }
+    requires right { IsCacheOf (image_in R.memory parts.old) cache.old }
     ensures called { CarriesOut (R.memory parts.old.region) (truncate text.now size) (unit_answer result)
         (R.memory parts.new.region) }
     ensures frozen { parts.new.frozen ≡ parts.old.frozen }
-    ensures exact { IsExact (current_words (R.memory parts.new.region)) parts.new }
-    ensures right { IsCacheOf (current_words (R.memory parts.new.region)) cache.new }
+    ensures exact { IsExactIn R.memory parts.new }
+    ensures right { IsCacheOf (image_in R.memory parts.new) cache.new }
 {
     let file = file_at(&parts.region, cache, text)?;
     resize(parts, text, file, size)

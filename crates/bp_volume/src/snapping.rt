@@ -12,13 +12,14 @@ ghost use Rattle.bp_plain.specs.Calls.Call.{snap, snap_list, snap_read, snap_sta
 ghost use Rattle.bp_plain.specs.Calls.Refusal.{no_snap};
 ghost use Rattle.bp_plain.specs.Plain.{on_path};
 ghost use Rattle.bp_plain.specs.Seen.{refusal_of};
-ghost use Rattle.bp_shapes.specs.Sets.{IsExact, kept_of};
+ghost use Rattle.bp_shapes.specs.Sets.{kept_of};
 ghost use Rattle.bp_volume.specs.Ready.{IsReady};
 ghost use Rattle.bp_volume.specs.Seen.{list_answer_of, read_answer_of, stat_answer_of, unit_answer};
 ghost use Rattle.bp_volume.specs.Snapped.{Snaps, Unsnaps};
 ghost use Rattle.bp_volume.specs.SuperEvents.{snap_events, unsnap_events};
 ghost use Rattle.bp_volume.specs.Told.{Tells};
-ghost use Rattle.pm_region.specs.Memory.{Adds, current_words, room_in};
+ghost use Rattle.pm_region.specs.Memory.{Adds, words_in, room_in};
+ghost use Rattle.bp_calls.specs.Mounted.{image_in, IsExactIn};
 
 use crate::asking::{list_at, read_at, stat_at};
 use crate::rescanning::rescan;
@@ -36,11 +37,10 @@ use std::alloc::Global;
 
 /// Refuses to make a snapshot in version 1, or if there is one.
 fn may_snap<R: Region>(region: &R) -> Result<(), FsError>
-    requires { IsSized (current_words (R.memory region.now)) }
-    ensures version { OnOk result (version_of (current_words (R.memory region.now)) ≡ Two) }
-    ensures none { OnOk result (has_snapshot (current_words (R.memory region.now)) ≡ false) }
-    ensures refused { IfErr result
-        (λ error. Tells (current_words (R.memory region.now)) snap (refused (refusal_of error))) }
+    requires { IsSized (words_in R.memory region.now) }
+    ensures version { OnOk result (version_of (words_in R.memory region.now) ≡ Two) }
+    ensures none { OnOk result (has_snapshot (words_in R.memory region.now) ≡ false) }
+    ensures refused { IfErr result (λ error. Tells (words_in R.memory region.now) snap (refused (refusal_of error))) }
 {
     match version(region) {
         Version::One => Err(FsError::OldVersion),
@@ -56,9 +56,9 @@ fn may_snap<R: Region>(region: &R) -> Result<(), FsError>
 /// Stores the root word and the size of the first tree as those of the second. The size comes last, since it
 /// determines whether there is a second tree.
 fn store_second<R: Region>(region: &mut R)
-    requires sized { IsSized (current_words (R.memory region.old)) }
+    requires sized { IsSized (words_in R.memory region.old) }
     requires room { 4 ≤ room_in (R.memory region.old) }
-    ensures { Adds (R.memory region.old) (R.memory region.new) (snap_events (current_words (R.memory region.old))) }
+    ensures { Adds (R.memory region.old) (R.memory region.new) (snap_events (words_in R.memory region.old)) }
 {
     let root = region.load(SUPER_ROOT);
     let size = region.load(SUPER_SIZE);
@@ -72,7 +72,7 @@ fn store_second<R: Region>(region: &mut R)
 
 /// Sets the size of the second tree to 0, which deletes it.
 fn drop_second<R: Region>(region: &mut R)
-    requires sized { IsSized (current_words (R.memory region.old)) }
+    requires sized { IsSized (words_in R.memory region.old) }
     requires room { 3 ≤ room_in (R.memory region.old) }
     ensures { Adds (R.memory region.old) (R.memory region.new) unsnap_events }
 {
@@ -88,8 +88,8 @@ fn drop_second<R: Region>(region: &mut R)
 pub(crate) fn snap_at<R: Region>(parts: &mut Parts<R>) -> Result<(), FsError>
     requires ready { IsReady (R.memory parts.old.region) parts.old }
     ensures snaps { Snaps (R.memory parts.old.region) (unit_answer result) (R.memory parts.new.region) }
-    ensures exact { IsExact (current_words (R.memory parts.new.region)) parts.new }
-    ensures frozen { AreFrozen (current_words (R.memory parts.new.region)) (kept_of parts.new) }
+    ensures exact { IsExactIn R.memory parts.new }
+    ensures frozen { AreFrozen (image_in R.memory parts.new) (kept_of parts.new) }
 {
     may_snap(&parts.region)?;
     store_second(&mut parts.region);
@@ -104,10 +104,10 @@ pub(crate) fn unsnap_at<R: Region>(
     pending: &mut Pending,
 ) -> Result<(), FsError>
     requires ready { IsReady (R.memory parts.old.region) parts.old }
-    requires pending { pending.old ≡ block_inodes * block_count (current_words (R.memory parts.old.region)) }
+    requires pending { pending.old ≡ block_inodes * block_count (image_in R.memory parts.old) }
     ensures unsnaps { Unsnaps (R.memory parts.old.region) (unit_answer result) (R.memory parts.new.region) }
-    ensures exact { IsExact (current_words (R.memory parts.new.region)) parts.new }
-    ensures frozen { AreFrozen (current_words (R.memory parts.new.region)) (kept_of parts.new) }
+    ensures exact { IsExactIn R.memory parts.new }
+    ensures frozen { AreFrozen (image_in R.memory parts.new) (kept_of parts.new) }
     ensures pending { pending.new ≡ pending.old }
 {
     if !has_second(&parts.region) {
@@ -130,8 +130,8 @@ fn no_snapshot(text: &[u8]) -> FsError
 
 /// Returns the result of `snap_stat`.
 pub(crate) fn snap_stat_at<R: Region>(region: &R, text: &[u8]) -> Result<Stat, FsError>
-    requires { IsFileSystem (current_words (R.memory region.now)) }
-    ensures { Tells (current_words (R.memory region.now)) (snap_stat text.now) (stat_answer_of result) }
+    requires { IsFileSystem (words_in R.memory region.now) }
+    ensures { Tells (words_in R.memory region.now) (snap_stat text.now) (stat_answer_of result) }
 {
     if !has_second(region) {
         return Err(no_snapshot(text));
@@ -146,8 +146,8 @@ pub(crate) fn snap_list_at<R: Region>(
     region: &R,
     text: &[u8],
 ) -> Result<Listing, FsError>
-    requires { IsFileSystem (current_words (R.memory region.now)) }
-    ensures { Tells (current_words (R.memory region.now)) (snap_list text.now) (list_answer_of result) }
+    requires { IsFileSystem (words_in R.memory region.now) }
+    ensures { Tells (words_in R.memory region.now) (snap_list text.now) (list_answer_of result) }
 {
     if !has_second(region) {
         return Err(no_snapshot(text));
@@ -163,8 +163,8 @@ pub(crate) fn snap_read_at<R: Region>(
     off: u64,
     into: &mut [u8],
 ) -> Result<usize, FsError>
-    requires { IsFileSystem (current_words (R.memory region.now)) }
-    ensures told { Tells (current_words (R.memory region.now)) (snap_read text.now off (length into.old))
+    requires { IsFileSystem (words_in R.memory region.now) }
+    ensures told { Tells (words_in R.memory region.now) (snap_read text.now off (length into.old))
         (read_answer_of result into.new) }
     ensures fits { IfOk result (λ count. count ≤ length into.new) }
     ensures rest { IfOk result (λ count. drop count into.new ≡ drop count into.old) }

@@ -3,7 +3,7 @@
 ghost use Rattle.std.specs.Prelude.{◌≤◌};
 ghost use Rattle.bp_layout.specs.Formatted.{IsSized};
 ghost use Rattle.bp_volume.specs.Upgraded.{Upgrades};
-ghost use Rattle.pm_region.specs.Memory.{current_words, room_in};
+ghost use Rattle.pm_region.specs.Memory.{words_in, room_in};
 
 use bp_limits::{SUPER_MAGIC, SUPER_SECOND_ROOT, SUPER_SECOND_SIZE, Version};
 use bp_tree::version;
@@ -13,7 +13,7 @@ use pm_region::Region;
 /// for the snapshot, and once they are written back, the magic number of version 2. A crash before that leaves version
 /// 1, in which these words have no meaning. In version 2 it does nothing.
 pub(crate) fn upgrade_region<R: Region>(region: &mut R)
-    requires sized { IsSized (current_words (R.memory region.old)) }
+    requires sized { IsSized (words_in R.memory region.old) }
     requires room { 5 ≤ room_in (R.memory region.old) }
     ensures { Upgrades (R.memory region.old) (R.memory region.new) }
 {

@@ -17,7 +17,7 @@ ghost use Rattle.bp_volume.specs.Renaming.{IsNameIn, IsTarget};
 ghost use Rattle.bp_volume.specs.Step.{FindsEntry, IsEntryOn, IsNewOn, FindsNew, PathFinds};
 ghost use Rattle.bp_volume.specs.Told.{RefusesEntry, RefusesFileAt, RefusesNew, RefusesParent, RefusesWalk, refusal_of_walk};
 ghost use Rattle.bp_volume.specs.Told.{StopsAtEntry, StopsAtFile, StopsAtNew, StopsWalk};
-ghost use Rattle.pm_region.specs.Memory.{current_words};
+ghost use Rattle.pm_region.specs.Memory.{words_in};
 
 use bp_cache::{DirectoryCache, NameAt};
 use bp_dirs::{Both, Finder, Spot, inumber};
@@ -142,11 +142,11 @@ pub(crate) fn inode_on<R: Region, F: Finder>(
     finder: &mut F,
     path: &Path<'_>,
 ) -> Result<u32, FsError>
-    requires well_formed { IsWellFormed (current_words (R.memory region.now)) }
-    requires right { F.right finder.old (current_words (R.memory region.now)) }
-    ensures found { IfOk result (λ i. lookup (current_words (R.memory region.now)) path.now ≡ Some i) }
-    ensures stopped { IfErr result (λ e. RefusesWalk (current_words (R.memory region.now)) path.now (refusal_of e)) }
-    ensures right { F.right finder.new (current_words (R.memory region.now)) }
+    requires well_formed { IsWellFormed (words_in R.memory region.now) }
+    requires right { F.right finder.old (words_in R.memory region.now) }
+    ensures found { IfOk result (λ i. lookup (words_in R.memory region.now) path.now ≡ Some i) }
+    ensures stopped { IfErr result (λ e. RefusesWalk (words_in R.memory region.now) path.now (refusal_of e)) }
+    ensures right { F.right finder.new (words_in R.memory region.now) }
 {
     let entry = walk_by(region, path, finder).map_err(refused)?;
     Ok(entry.inumber)
@@ -158,11 +158,11 @@ pub(crate) fn inode_at<R: Region, F: Finder>(
     finder: &mut F,
     text: &[u8],
 ) -> Result<u32, FsError>
-    requires well_formed { IsWellFormed (current_words (R.memory region.now)) }
-    requires right { F.right finder.old (current_words (R.memory region.now)) }
-    ensures found { IfOk result (λ i. PathFinds (current_words (R.memory region.now)) text.now i) }
-    ensures stopped { IfErr result (λ e. StopsWalk (current_words (R.memory region.now)) text.now (refusal_of e)) }
-    ensures right { F.right finder.new (current_words (R.memory region.now)) }
+    requires well_formed { IsWellFormed (words_in R.memory region.now) }
+    requires right { F.right finder.old (words_in R.memory region.now) }
+    ensures found { IfOk result (λ i. PathFinds (words_in R.memory region.now) text.now i) }
+    ensures stopped { IfErr result (λ e. StopsWalk (words_in R.memory region.now) text.now (refusal_of e)) }
+    ensures right { F.right finder.new (words_in R.memory region.now) }
 {
     let path = parse(text).map_err(bad_path)?;
     inode_on(region, finder, &path)
@@ -174,13 +174,13 @@ pub(crate) fn file_on<R: Region, F: Finder>(
     finder: &mut F,
     path: &Path<'_>,
 ) -> Result<FoundFile, FsError>
-    requires well_formed { IsWellFormed (current_words (R.memory region.now)) }
-    requires right { F.right finder.old (current_words (R.memory region.now)) }
-    ensures found { IfOk result (λ file. lookup (current_words (R.memory region.now)) path.now ≡ Some file.inumber) }
-    ensures kind { IfOk result (λ file. IsFile (current_words (R.memory region.now)) file.inumber) }
-    ensures size { IfOk result (λ file. file.size ≡ size_of (current_words (R.memory region.now)) file.inumber) }
-    ensures refused { IfErr result (λ e. RefusesFileAt (current_words (R.memory region.now)) path.now (refusal_of e)) }
-    ensures right { F.right finder.new (current_words (R.memory region.now)) }
+    requires well_formed { IsWellFormed (words_in R.memory region.now) }
+    requires right { F.right finder.old (words_in R.memory region.now) }
+    ensures found { IfOk result (λ file. lookup (words_in R.memory region.now) path.now ≡ Some file.inumber) }
+    ensures kind { IfOk result (λ file. IsFile (words_in R.memory region.now) file.inumber) }
+    ensures size { IfOk result (λ file. file.size ≡ size_of (words_in R.memory region.now) file.inumber) }
+    ensures refused { IfErr result (λ e. RefusesFileAt (words_in R.memory region.now) path.now (refusal_of e)) }
+    ensures right { F.right finder.new (words_in R.memory region.now) }
 {
     let i = inode_on(region, finder, path)?;
     let inode = get(region, i);
@@ -199,13 +199,13 @@ pub(crate) fn file_at<R: Region, F: Finder>(
     finder: &mut F,
     text: &[u8],
 ) -> Result<FoundFile, FsError>
-    requires well_formed { IsWellFormed (current_words (R.memory region.now)) }
-    requires right { F.right finder.old (current_words (R.memory region.now)) }
-    ensures found { IfOk result (λ file. PathFinds (current_words (R.memory region.now)) text.now file.inumber) }
-    ensures kind { IfOk result (λ file. IsFile (current_words (R.memory region.now)) file.inumber) }
-    ensures size { IfOk result (λ file. file.size ≡ size_of (current_words (R.memory region.now)) file.inumber) }
-    ensures refused { IfErr result (λ e. StopsAtFile (current_words (R.memory region.now)) text.now (refusal_of e)) }
-    ensures right { F.right finder.new (current_words (R.memory region.now)) }
+    requires well_formed { IsWellFormed (words_in R.memory region.now) }
+    requires right { F.right finder.old (words_in R.memory region.now) }
+    ensures found { IfOk result (λ file. PathFinds (words_in R.memory region.now) text.now file.inumber) }
+    ensures kind { IfOk result (λ file. IsFile (words_in R.memory region.now) file.inumber) }
+    ensures size { IfOk result (λ file. file.size ≡ size_of (words_in R.memory region.now) file.inumber) }
+    ensures refused { IfErr result (λ e. StopsAtFile (words_in R.memory region.now) text.now (refusal_of e)) }
+    ensures right { F.right finder.new (words_in R.memory region.now) }
 {
     let path = parse(text).map_err(bad_path)?;
     file_on(region, finder, &path)
@@ -217,16 +217,16 @@ pub(crate) fn entry_on<'a, R: Region>(
     cache: &mut DirectoryCache,
     path: &Path<'a>,
 ) -> Result<NamedEntry<'a>, FsError>
-    requires well_formed { IsWellFormed (current_words (R.memory region.now)) }
+    requires well_formed { IsWellFormed (words_in R.memory region.now) }
     requires below { path.now ≢ [] }
-    requires right { IsCacheOf (current_words (R.memory region.now)) cache.old }
+    requires right { IsCacheOf (words_in R.memory region.now) cache.old }
     ensures found { IfOk result
-        (λ entry. IsEntryOn (current_words (R.memory region.now)) path.now entry.dir entry.slot entry.inumber) }
+        (λ entry. IsEntryOn (words_in R.memory region.now) path.now entry.dir entry.slot entry.inumber) }
     ensures named { IfOk result
-        (λ entry. slot_named (current_words (R.memory region.now)) entry.dir entry.name.now ≡ Some entry.slot) }
+        (λ entry. slot_named (words_in R.memory region.now) entry.dir entry.name.now ≡ Some entry.slot) }
     ensures refused { IfErr result
-        (λ e. (root : Refusal) → RefusesEntry (current_words (R.memory region.now)) path.now root (refusal_of e)) }
-    ensures right { IsCacheOf (current_words (R.memory region.now)) cache.new }
+        (λ e. (root : Refusal) → RefusesEntry (words_in R.memory region.now) path.now root (refusal_of e)) }
+    ensures right { IsCacheOf (words_in R.memory region.now) cache.new }
 {
     let entry = walk_by(region, path, cache).map_err(refused)?;
     Ok(NamedEntry {
@@ -245,15 +245,15 @@ pub(crate) fn entry_at<'a, R: Region>(
     text: &'a [u8],
     root: FsError,
 ) -> Result<NamedEntry<'a>, FsError>
-    requires well_formed { IsWellFormed (current_words (R.memory region.now)) }
-    requires right { IsCacheOf (current_words (R.memory region.now)) cache.old }
+    requires well_formed { IsWellFormed (words_in R.memory region.now) }
+    requires right { IsCacheOf (words_in R.memory region.now) cache.old }
     ensures found { IfOk result
-        (λ entry. FindsEntry (current_words (R.memory region.now)) text.now entry.dir entry.slot entry.inumber) }
+        (λ entry. FindsEntry (words_in R.memory region.now) text.now entry.dir entry.slot entry.inumber) }
     ensures named { IfOk result
-        (λ entry. slot_named (current_words (R.memory region.now)) entry.dir entry.name.now ≡ Some entry.slot) }
+        (λ entry. slot_named (words_in R.memory region.now) entry.dir entry.name.now ≡ Some entry.slot) }
     ensures refused { IfErr result
-        (λ e. StopsAtEntry (current_words (R.memory region.now)) text.now (refusal_of root) (refusal_of e)) }
-    ensures right { IsCacheOf (current_words (R.memory region.now)) cache.new }
+        (λ e. StopsAtEntry (words_in R.memory region.now) text.now (refusal_of root) (refusal_of e)) }
+    ensures right { IsCacheOf (words_in R.memory region.now) cache.new }
 {
     let path = parse(text).map_err(bad_path)?;
     if path.is_root() {
@@ -264,15 +264,15 @@ pub(crate) fn entry_at<'a, R: Region>(
 
 /// Returns where a directory has a name, or where it has room for it.
 fn spot_of<R: Region>(region: &R, cache: &mut DirectoryCache, dir: u32, name: &[u8]) -> Spot
-    requires well_formed { IsWellFormed (current_words (R.memory region.now)) }
-    requires reached { IsReached (current_words (R.memory region.now)) dir }
+    requires well_formed { IsWellFormed (words_in R.memory region.now) }
+    requires reached { IsReached (words_in R.memory region.now) dir }
     requires inode { 1 ≤ dir }
-    requires directory { IsDirectory (current_words (R.memory region.now)) dir }
+    requires directory { IsDirectory (words_in R.memory region.now) dir }
     requires short { length name.now ≤ max_name }
-    requires right { IsCacheOf (current_words (R.memory region.now)) cache.old }
-    ensures named { named_slot result ≡ slot_named (current_words (R.memory region.now)) dir name.now }
-    ensures free { FreeIs result (empty_slot (current_words (R.memory region.now)) dir) }
-    ensures right { IsCacheOf (current_words (R.memory region.now)) cache.new }
+    requires right { IsCacheOf (words_in R.memory region.now) cache.old }
+    ensures named { named_slot result ≡ slot_named (words_in R.memory region.now) dir name.now }
+    ensures free { FreeIs result (empty_slot (words_in R.memory region.now) dir) }
+    ensures right { IsCacheOf (words_in R.memory region.now) cache.new }
 {
     cache.find_or_free(region, dir, tree_of(region, dir), name)
 }
@@ -280,11 +280,11 @@ fn spot_of<R: Region>(region: &R, cache: &mut DirectoryCache, dir: u32, name: &[
 /// Returns the slot for a new name of a directory, given its least empty slot: that slot, or the one after the last
 /// entry if no entry is empty.
 pub(crate) fn slot_for<R: Region>(region: &R, dir: u32, empty: Option<u64>) -> u64
-    requires well_formed { IsWellFormed (current_words (R.memory region.now)) }
-    requires reached { IsReached (current_words (R.memory region.now)) dir }
+    requires well_formed { IsWellFormed (words_in R.memory region.now) }
+    requires reached { IsReached (words_in R.memory region.now) dir }
     requires inode { 1 ≤ dir }
-    requires empty { empty ≡ empty_slot (current_words (R.memory region.now)) dir }
-    ensures { let words = current_words (R.memory region.now) in
+    requires empty { empty ≡ empty_slot (words_in R.memory region.now) dir }
+    ensures { let words = words_in R.memory region.now in
         result ≡ unwrap_or (empty_slot words dir) (entry_count words dir) }
 {
     match empty {
@@ -299,13 +299,13 @@ fn last_name<'a, R: Region>(
     cache: &mut DirectoryCache,
     path: &Path<'a>,
 ) -> Result<NewName<'a>, FsError>
-    requires well_formed { IsWellFormed (current_words (R.memory region.now)) }
+    requires well_formed { IsWellFormed (words_in R.memory region.now) }
     requires below { path.now ≢ [] }
-    requires right { IsCacheOf (current_words (R.memory region.now)) cache.old }
-    ensures found { IfOk result (λ new. IsNewOn (current_words (R.memory region.now)) path.now new.dir new.name.now) }
-    ensures slot { IfOk result (λ new. new.slot ≡ empty_slot (current_words (R.memory region.now)) new.dir) }
-    ensures refused { IfErr result (λ e. RefusesNew (current_words (R.memory region.now)) path.now (refusal_of e)) }
-    ensures right { IsCacheOf (current_words (R.memory region.now)) cache.new }
+    requires right { IsCacheOf (words_in R.memory region.now) cache.old }
+    ensures found { IfOk result (λ new. IsNewOn (words_in R.memory region.now) path.now new.dir new.name.now) }
+    ensures slot { IfOk result (λ new. new.slot ≡ empty_slot (words_in R.memory region.now) new.dir) }
+    ensures refused { IfErr result (λ e. RefusesNew (words_in R.memory region.now) path.now (refusal_of e)) }
+    ensures right { IsCacheOf (words_in R.memory region.now) cache.new }
 {
     let dir = walk_parent_by(region, path, cache).map_err(refused)?;
     let name = path.last();
@@ -322,14 +322,14 @@ pub(crate) fn target_in<'a, R: Region>(
     name: &'a [u8],
     spot: Spot,
 ) -> Target<'a>
-    requires well_formed { IsWellFormed (current_words (R.memory region.now)) }
-    requires reached { IsReached (current_words (R.memory region.now)) dir }
+    requires well_formed { IsWellFormed (words_in R.memory region.now) }
+    requires reached { IsReached (words_in R.memory region.now) dir }
     requires inode { 1 ≤ dir }
-    requires directory { IsDirectory (current_words (R.memory region.now)) dir }
+    requires directory { IsDirectory (words_in R.memory region.now) dir }
     requires form { IsTrue (is_name name.now) }
-    requires named { named_slot spot ≡ slot_named (current_words (R.memory region.now)) dir name.now }
-    requires free { FreeIs spot (empty_slot (current_words (R.memory region.now)) dir) }
-    ensures { let words = current_words (R.memory region.now) in
+    requires named { named_slot spot ≡ slot_named (words_in R.memory region.now) dir name.now }
+    requires free { FreeIs spot (empty_slot (words_in R.memory region.now) dir) }
+    ensures { let words = words_in R.memory region.now in
         (path : PathNames) → IsNameIn words path dir name.now → IsTarget words path result }
 {
     match spot {
@@ -361,12 +361,12 @@ pub(crate) fn target_on<'a, R: Region>(
     cache: &mut DirectoryCache,
     path: &Path<'a>,
 ) -> Result<Target<'a>, FsError>
-    requires well_formed { IsWellFormed (current_words (R.memory region.now)) }
+    requires well_formed { IsWellFormed (words_in R.memory region.now) }
     requires below { path.now ≢ [] }
-    requires right { IsCacheOf (current_words (R.memory region.now)) cache.old }
-    ensures found { IfOk result (λ target. IsTarget (current_words (R.memory region.now)) path.now target) }
-    ensures refused { IfErr result (λ e. RefusesParent (current_words (R.memory region.now)) path.now (refusal_of e)) }
-    ensures right { IsCacheOf (current_words (R.memory region.now)) cache.new }
+    requires right { IsCacheOf (words_in R.memory region.now) cache.old }
+    ensures found { IfOk result (λ target. IsTarget (words_in R.memory region.now) path.now target) }
+    ensures refused { IfErr result (λ e. RefusesParent (words_in R.memory region.now) path.now (refusal_of e)) }
+    ensures right { IsCacheOf (words_in R.memory region.now) cache.new }
 {
     let dir = walk_parent_by(region, path, cache).map_err(refused)?;
     let name = path.last();
@@ -382,19 +382,19 @@ pub(crate) fn both_of<R: Region>(
     one: &[u8],
     other: &[u8],
 ) -> Both
-    requires well_formed { IsWellFormed (current_words (R.memory region.now)) }
-    requires reached { IsReached (current_words (R.memory region.now)) dir }
+    requires well_formed { IsWellFormed (words_in R.memory region.now) }
+    requires reached { IsReached (words_in R.memory region.now) dir }
     requires inode { 1 ≤ dir }
-    requires directory { IsDirectory (current_words (R.memory region.now)) dir }
+    requires directory { IsDirectory (words_in R.memory region.now) dir }
     requires one { length one.now ≤ max_name }
     requires other { length other.now ≤ max_name }
-    requires right { IsCacheOf (current_words (R.memory region.now)) cache.old }
-    ensures slot { found_slot result.found ≡ slot_named (current_words (R.memory region.now)) dir one.now }
+    requires right { IsCacheOf (words_in R.memory region.now) cache.old }
+    ensures slot { found_slot result.found ≡ slot_named (words_in R.memory region.now) dir one.now }
     ensures inumber { IfSome result.found
-        (λ found. found.inumber ≡ inumber_at (current_words (R.memory region.now)) dir found.slot) }
-    ensures named { named_slot result.spot ≡ slot_named (current_words (R.memory region.now)) dir other.now }
-    ensures free { FreeIs result.spot (empty_slot (current_words (R.memory region.now)) dir) }
-    ensures right { IsCacheOf (current_words (R.memory region.now)) cache.new }
+        (λ found. found.inumber ≡ inumber_at (words_in R.memory region.now) dir found.slot) }
+    ensures named { named_slot result.spot ≡ slot_named (words_in R.memory region.now) dir other.now }
+    ensures free { FreeIs result.spot (empty_slot (words_in R.memory region.now) dir) }
+    ensures right { IsCacheOf (words_in R.memory region.now) cache.new }
 {
     cache.find_both(region, dir, tree_of(region, dir), one, other)
 }
@@ -405,12 +405,12 @@ pub(crate) fn new_on<'a, R: Region>(
     cache: &mut DirectoryCache,
     path: &Path<'a>,
 ) -> Result<NewName<'a>, FsError>
-    requires well_formed { IsWellFormed (current_words (R.memory region.now)) }
-    requires right { IsCacheOf (current_words (R.memory region.now)) cache.old }
-    ensures found { IfOk result (λ new. IsNewOn (current_words (R.memory region.now)) path.now new.dir new.name.now) }
-    ensures slot { IfOk result (λ new. new.slot ≡ empty_slot (current_words (R.memory region.now)) new.dir) }
-    ensures refused { IfErr result (λ e. RefusesNew (current_words (R.memory region.now)) path.now (refusal_of e)) }
-    ensures right { IsCacheOf (current_words (R.memory region.now)) cache.new }
+    requires well_formed { IsWellFormed (words_in R.memory region.now) }
+    requires right { IsCacheOf (words_in R.memory region.now) cache.old }
+    ensures found { IfOk result (λ new. IsNewOn (words_in R.memory region.now) path.now new.dir new.name.now) }
+    ensures slot { IfOk result (λ new. new.slot ≡ empty_slot (words_in R.memory region.now) new.dir) }
+    ensures refused { IfErr result (λ e. RefusesNew (words_in R.memory region.now) path.now (refusal_of e)) }
+    ensures right { IsCacheOf (words_in R.memory region.now) cache.new }
 {
     if path.is_root() {
         Err(FsError::Exists)
@@ -425,12 +425,12 @@ pub(crate) fn new_name<'a, R: Region>(
     cache: &mut DirectoryCache,
     text: &'a [u8],
 ) -> Result<NewName<'a>, FsError>
-    requires well_formed { IsWellFormed (current_words (R.memory region.now)) }
-    requires right { IsCacheOf (current_words (R.memory region.now)) cache.old }
-    ensures found { IfOk result (λ new. FindsNew (current_words (R.memory region.now)) text.now new.dir new.name.now) }
-    ensures slot { IfOk result (λ new. new.slot ≡ empty_slot (current_words (R.memory region.now)) new.dir) }
-    ensures refused { IfErr result (λ e. StopsAtNew (current_words (R.memory region.now)) text.now (refusal_of e)) }
-    ensures right { IsCacheOf (current_words (R.memory region.now)) cache.new }
+    requires well_formed { IsWellFormed (words_in R.memory region.now) }
+    requires right { IsCacheOf (words_in R.memory region.now) cache.old }
+    ensures found { IfOk result (λ new. FindsNew (words_in R.memory region.now) text.now new.dir new.name.now) }
+    ensures slot { IfOk result (λ new. new.slot ≡ empty_slot (words_in R.memory region.now) new.dir) }
+    ensures refused { IfErr result (λ e. StopsAtNew (words_in R.memory region.now) text.now (refusal_of e)) }
+    ensures right { IsCacheOf (words_in R.memory region.now) cache.new }
 {
     let path = parse(text).map_err(bad_path)?;
     new_on(region, cache, &path)

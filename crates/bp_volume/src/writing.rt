@@ -9,13 +9,13 @@ ghost use Rattle.bp_layout.specs.WellFormed.{IsWellFormed};
 ghost use Rattle.bp_limits.specs.CallLimits.{greatest_write};
 ghost use Rattle.bp_plain.specs.Calls.Call.{write};
 ghost use Rattle.bp_plain.specs.Seen.{refusal_of};
-ghost use Rattle.bp_shapes.specs.Sets.{IsExact};
 ghost use Rattle.bp_volume.specs.Carried.{CarriesOut};
 ghost use Rattle.bp_volume.specs.Ready.{IsReady};
 ghost use Rattle.bp_volume.specs.Seen.{unit_answer};
 ghost use Rattle.bp_volume.specs.Step.{PathFinds};
 ghost use Rattle.bp_volume.specs.Told.{Refuses};
-ghost use Rattle.pm_region.specs.Memory.{current_words};
+ghost use Rattle.pm_region.specs.Memory.{words_in};
+ghost use Rattle.bp_calls.specs.Mounted.{image_in, IsExactIn};
 
 use crate::refusing::no_space;
 use crate::walking::{bad_path, file_on};
@@ -34,14 +34,14 @@ fn file_for<R: Region>(
     text: &[u8],
     bytes: &[u8],
 ) -> Result<u32, FsError>
-    requires well_formed { IsWellFormed (current_words (R.memory region.now)) }
-    requires right { IsCacheOf (current_words (R.memory region.now)) cache.old }
-    ensures found { IfOk result (λ i. PathFinds (current_words (R.memory region.now)) text.now i) }
-    ensures kind { IfOk result (λ i. IsFile (current_words (R.memory region.now)) i) }
-    ensures short { OnOk result (length bytes.now ≤ greatest_write (version_of (current_words (R.memory region.now)))) }
-    ensures refused { IfErr result (λ e. (off : ℕ) → Refuses (current_words (R.memory region.now))
+    requires well_formed { IsWellFormed (words_in R.memory region.now) }
+    requires right { IsCacheOf (words_in R.memory region.now) cache.old }
+    ensures found { IfOk result (λ i. PathFinds (words_in R.memory region.now) text.now i) }
+    ensures kind { IfOk result (λ i. IsFile (words_in R.memory region.now) i) }
+    ensures short { OnOk result (length bytes.now ≤ greatest_write (version_of (words_in R.memory region.now))) }
+    ensures refused { IfErr result (λ e. (off : ℕ) → Refuses (words_in R.memory region.now)
         (write text.now off bytes.now) (refusal_of e)) }
-    ensures right { IsCacheOf (current_words (R.memory region.now)) cache.new }
+    ensures right { IsCacheOf (words_in R.memory region.now) cache.new }
 {
     let path = parse(text).map_err(bad_path)?;
     if bytes.len() > version(region).greatest_write() {
@@ -60,14 +60,14 @@ fn write_into<R: Region>(
     bytes: &[u8],
 ) -> Result<(), FsError>
     requires ready { IsReady (R.memory parts.old.region) parts.old }
-    requires at { PathFinds (current_words (R.memory parts.old.region)) text.now i }
-    requires kind { IsFile (current_words (R.memory parts.old.region)) i }
-    requires short { length bytes.now ≤ greatest_write (version_of (current_words (R.memory parts.old.region))) }
+    requires at { PathFinds (image_in R.memory parts.old) text.now i }
+    requires kind { IsFile (image_in R.memory parts.old) i }
+    requires short { length bytes.now ≤ greatest_write (version_of (image_in R.memory parts.old)) }
     ensures called { CarriesOut (R.memory parts.old.region) (write text.now off bytes.now) (unit_answer result)
         (R.memory parts.new.region) }
     ensures frozen { parts.new.frozen ≡ parts.old.frozen }
-    ensures exact { IsExact (current_words (R.memory parts.new.region)) parts.new }
-    ensures names { KeepsAllNames (current_words (R.memory parts.old.region)) (current_words (R.memory parts.new.region)) }
+    ensures exact { IsExactIn R.memory parts.new }
+    ensures names { KeepsAllNames (image_in R.memory parts.old) (image_in R.memory parts.new) }
 {
     if bytes.is_empty() {
         return Ok(());
@@ -87,12 +87,12 @@ pub(crate) fn write_at<R: Region>(
     bytes: &[u8],
 ) -> Result<(), FsError>
     requires ready { IsReady (R.memory parts.old.region) parts.old }
-    requires right { IsCacheOf (current_words (R.memory parts.old.region)) cache.old }
+    requires right { IsCacheOf (image_in R.memory parts.old) cache.old }
     ensures called { CarriesOut (R.memory parts.old.region) (write text.now off bytes.now) (unit_answer result)
         (R.memory parts.new.region) }
     ensures frozen { parts.new.frozen ≡ parts.old.frozen }
-    ensures exact { IsExact (current_words (R.memory parts.new.region)) parts.new }
-    ensures right { IsCacheOf (current_words (R.memory parts.new.region)) cache.new }
+    ensures exact { IsExactIn R.memory parts.new }
+    ensures right { IsCacheOf (image_in R.memory parts.new) cache.new }
 {
     let i = file_for(&parts.region, cache, text, bytes)?;
     write_into(parts, text, i, off, bytes)

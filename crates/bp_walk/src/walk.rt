@@ -7,7 +7,7 @@ ghost use Rattle.bp_limits.specs.Limits.{block_words, max_blocks, max_height};
 ghost use Rattle.bp_layout.specs.Tree.{node, covered, IsLivePointer};
 ghost use Rattle.bp_layout.specs.Checks.{IsFollowed, Passes};
 ghost use Rattle.bp_layout.specs.declared.check.Check.TheVariants.{Height, PointerBits};
-ghost use Rattle.pm_region.specs.Memory.{current_words};
+ghost use Rattle.pm_region.specs.Memory.{words_in};
 ghost use Rattle.bp_walk.specs.Pointed.{ClaimsPointed, RefusesPointed};
 ghost use Rattle.bp_walk.specs.Walk.{WalksBelow, FailsBelow, TakesTree, FailsTree};
 
@@ -143,23 +143,23 @@ fn take_below<R: Region>(
     top: Pointer,
     blocks: &mut Blocks,
 ) -> Result<(), CheckFault>
-    requires whole { let words = current_words (R.memory region.now) in length words ≡ block_words * block_count words }
-    requires most { block_count (current_words (R.memory region.now)) ≤ max_blocks }
-    requires room { length blocks.old ≡ block_count (current_words (R.memory region.now)) }
+    requires whole { let words = words_in R.memory region.now in length words ≡ block_words * block_count words }
+    requires most { block_count (words_in R.memory region.now) ≤ max_blocks }
+    requires room { length blocks.old ≡ block_count (words_in R.memory region.now) }
     requires not_first { has blocks.old 0 ≡ false }
     requires height { top.depth + top.level ≡ height_of tree.root }
     requires low { height_of tree.root ≤ max_height }
     requires fits { tree.size ≤ covered (suc (height_of tree.root)) }
     requires above { 1 ≤ top.level }
     requires live { IsLivePointer tree.root tree.size top.depth top.index }
-    requires followed { IsFollowed (current_words (R.memory region.now)) tree.root tree.size top.depth top.index }
-    requires passes { Passes (current_words (R.memory region.now)) tree.root top.depth top.index }
-    requires block { node (current_words (R.memory region.now)) tree.root top.depth top.index ≡ top.block }
+    requires followed { IsFollowed (words_in R.memory region.now) tree.root tree.size top.depth top.index }
+    requires passes { Passes (words_in R.memory region.now) tree.root top.depth top.index }
+    requires block { node (words_in R.memory region.now) tree.root top.depth top.index ≡ top.block }
     requires present { top.block ≢ 0 }
     requires taken { has blocks.old top.block ≡ false }
-    ensures ok { OnOk result (WalksBelow (current_words (R.memory region.now))
+    ensures ok { OnOk result (WalksBelow (words_in R.memory region.now)
         0 tree.root tree.size holes top.depth top.index block_words blocks.old blocks.new) }
-    ensures err { IfErr result (λ f. FailsBelow (current_words (R.memory region.now))
+    ensures err { IfErr result (λ f. FailsBelow (words_in R.memory region.now)
         0 tree.root tree.size holes top.block blocks.old f.check f.place) }
     ensures room { length blocks.new ≡ length blocks.old }
 {
@@ -228,15 +228,15 @@ pub fn take_tree<R: Region>(
     holes: bool,
     blocks: &mut Blocks,
 ) -> Result<(), CheckFault>
-    requires whole { let words = current_words (R.memory region.now) in length words ≡ block_words * block_count words }
-    requires most { block_count (current_words (R.memory region.now)) ≤ max_blocks }
-    requires room { length blocks.old ≡ block_count (current_words (R.memory region.now)) }
+    requires whole { let words = words_in R.memory region.now in length words ≡ block_words * block_count words }
+    requires most { block_count (words_in R.memory region.now) ≤ max_blocks }
+    requires room { length blocks.old ≡ block_count (words_in R.memory region.now) }
     requires not_first { has blocks.old 0 ≡ false }
-    requires place { at + 1 < length (current_words (R.memory region.now)) }
-    requires root { word (current_words (R.memory region.now)) at ≡ tree.root }
-    ensures ok { let words = current_words (R.memory region.now) in
+    requires place { at + 1 < length (words_in R.memory region.now) }
+    requires root { word (words_in R.memory region.now) at ≡ tree.root }
+    ensures ok { let words = words_in R.memory region.now in
         OnOk result (TakesTree words at tree.root tree.size holes blocks.old blocks.new) }
-    ensures err { let words = current_words (R.memory region.now) in
+    ensures err { let words = words_in R.memory region.now in
         IfErr result (λ f. FailsTree words at tree.root tree.size holes blocks.old f.check f.place) }
     ensures room { length blocks.new ≡ length blocks.old }
 {

@@ -18,6 +18,10 @@ pub record Memory : Type 0 where
 abbrev pub current_words : Memory → List ℕ
 current_words memory = words_after memory.base memory.events
 
+-- The words of a region as the processor sees them; `memory` maps a region to its memory.
+abbrev pub words_in : {R : Type 0} → (R → Memory) → R → List ℕ
+words_in memory region = current_words (memory region)
+
 -- The number of events that still fit into the log.
 abbrev pub room_in : Memory → ℕ
 room_in memory = memory.capacity - length memory.events

@@ -5,7 +5,7 @@ ghost use Rattle.std.specs.Prelude.{◌≡◌, ◌+◌, ◌<◌, ◌≤◌, ◌�
 ghost use Rattle.bp_calls.specs.Commits.{CommitsChange, CommitsOrLacksBlocks};
 ghost use Rattle.bp_calls.specs.CanWrite.{CanWrite, CanWriteThawed};
 ghost use Rattle.bp_calls.specs.FewBlocks.{most_for_write};
-ghost use Rattle.bp_calls.specs.Mounted.{IsMounted};
+ghost use Rattle.bp_calls.specs.Mounted.{image_in, IsExactIn, IsMountedIn};
 ghost use Rattle.bp_calls.specs.Space.{HasRoomThawed};
 ghost use Rattle.bp_cow.specs.Found.{AreWaysIn};
 ghost use Rattle.bp_free.specs.Set.{members};
@@ -17,8 +17,8 @@ ghost use Rattle.bp_layout.specs.Inode.{root_of, size_of};
 ghost use Rattle.bp_layout.specs.Need.Change.{writes};
 ghost use Rattle.bp_layout.specs.WordPaths.{inode_path};
 ghost use Rattle.bp_layout.specs.Words.{height_of};
-ghost use Rattle.bp_shapes.specs.Sets.{IsExact, kept_of};
-ghost use Rattle.pm_region.specs.Memory.{current_words};
+ghost use Rattle.bp_shapes.specs.Sets.{kept_of};
+ghost use Rattle.pm_region.specs.Memory.{words_in};
 
 use crate::thawing::enough_free;
 use bp_append::{height_with, need_prep, prep};
@@ -38,10 +38,10 @@ fn run_across<'a, R: Region>(
     below: &'a [u8],
     end: u64,
 ) -> Run<'a>
-    requires some { 4 ≤ length (current_words (R.memory region.now)) }
-    requires root { tree.root ≡ root_of (current_words (R.memory region.now)) i }
-    requires size { tree.size ≡ size_of (current_words (R.memory region.now)) i }
-    ensures { IsRunAcross (current_words (R.memory region.now)) i off end below.now result }
+    requires some { 4 ≤ length (words_in R.memory region.now) }
+    requires root { tree.root ≡ root_of (words_in R.memory region.now) i }
+    requires size { tree.size ≡ size_of (words_in R.memory region.now) i }
+    ensures { IsRunAcross (words_in R.memory region.now) i off end below.now result }
 {
     Run {
         root: root_path(region, i),
@@ -71,13 +71,13 @@ struct Plan<'a> {
 
 /// Plans a write of bytes across the size of a file, given its tree.
 fn plan_write<'a, R: Region>(region: &R, i: u32, tree: Tree, off: u64, bytes: &'a [u8]) -> Plan<'a>
-    requires some { 4 ≤ length (current_words (R.memory region.now)) }
-    requires root { tree.root ≡ root_of (current_words (R.memory region.now)) i }
-    requires size { tree.size ≡ size_of (current_words (R.memory region.now)) i }
-    requires can { CanWrite (current_words (R.memory region.now)) i off bytes.now }
-    requires below { off < size_of (current_words (R.memory region.now)) i }
-    requires past { size_of (current_words (R.memory region.now)) i < off + length bytes.now }
-    ensures { IsPlanFor (current_words (R.memory region.now)) i off bytes.now result }
+    requires some { 4 ≤ length (words_in R.memory region.now) }
+    requires root { tree.root ≡ root_of (words_in R.memory region.now) i }
+    requires size { tree.size ≡ size_of (words_in R.memory region.now) i }
+    requires can { CanWrite (words_in R.memory region.now) i off bytes.now }
+    requires below { off < size_of (words_in R.memory region.now) i }
+    requires past { size_of (words_in R.memory region.now) i < off + length bytes.now }
+    ensures { IsPlanFor (words_in R.memory region.now) i off bytes.now result }
 {
     let end = off + bytes.len() as u64;
     let (below, _) = bytes.split_at((tree.size - off) as usize);
@@ -112,10 +112,10 @@ fn need_found<R: Region>(
     found: &FoundWays,
 ) -> u32
     requires across { WritesPlanned R.memory parts.now plan.now touched.now }
-    requires root { plan.now.tree.root ≡ root_of (current_words (R.memory parts.now.region)) plan.now.inode }
-    requires size { plan.now.tree.size ≡ size_of (current_words (R.memory parts.now.region)) plan.now.inode }
-    requires found { AreWaysIn (current_words (R.memory parts.now.region)) touched.now found.now }
-    ensures need { result ≡ need (current_words (R.memory parts.now.region)) (planned_change plan.now) }
+    requires root { plan.now.tree.root ≡ root_of (image_in R.memory parts.now) plan.now.inode }
+    requires size { plan.now.tree.size ≡ size_of (image_in R.memory parts.now) plan.now.inode }
+    requires found { AreWaysIn (image_in R.memory parts.now) touched.now found.now }
+    ensures need { result ≡ need (image_in R.memory parts.now) (planned_change plan.now) }
     ensures few { result ≤ most_for_write }
 {
     let end = plan.off + plan.bytes.len() as u64;
@@ -131,13 +131,13 @@ pub(crate) fn need_across<R: Region>(
     off: u64,
     bytes: &[u8],
 ) -> u32
-    requires root { tree.root ≡ root_of (current_words (R.memory parts.now.region)) i }
-    requires size { tree.size ≡ size_of (current_words (R.memory parts.now.region)) i }
-    requires mounted { IsMounted (current_words (R.memory parts.now.region)) parts.now }
-    requires can { CanWrite (current_words (R.memory parts.now.region)) i off bytes.now }
-    requires below { off < size_of (current_words (R.memory parts.now.region)) i }
-    requires past { size_of (current_words (R.memory parts.now.region)) i < off + length bytes.now }
-    ensures need { result ≡ need (current_words (R.memory parts.now.region)) (writes i off (length bytes.now)) }
+    requires root { tree.root ≡ root_of (image_in R.memory parts.now) i }
+    requires size { tree.size ≡ size_of (image_in R.memory parts.now) i }
+    requires mounted { IsMountedIn R.memory parts.now }
+    requires can { CanWrite (image_in R.memory parts.now) i off bytes.now }
+    requires below { off < size_of (image_in R.memory parts.now) i }
+    requires past { size_of (image_in R.memory parts.now) i < off + length bytes.now }
+    ensures need { result ≡ need (image_in R.memory parts.now) (writes i off (length bytes.now)) }
     ensures few { result ≤ most_for_write }
 {
     let plan = plan_write(&parts.region, i, tree, off, bytes);
@@ -154,16 +154,16 @@ fn write_planned<R: Region>(
     touched: &Touched<'_>,
     found: &FoundWays,
 )
-    requires exact { IsExact (current_words (R.memory parts.old.region)) parts.old }
+    requires exact { IsExactIn R.memory parts.old }
     requires across { WritesPlanned R.memory parts.old plan.now touched.now }
-    requires size { plan.now.tree.size ≡ size_of (current_words (R.memory parts.old.region)) plan.now.inode }
+    requires size { plan.now.tree.size ≡ size_of (image_in R.memory parts.old) plan.now.inode }
     requires root { plan.now.run.root.items ≡
-        inode_path (height_of (root_of (current_words (R.memory parts.old.region)) 0)) plan.now.inode 1 }
+        inode_path (height_of (root_of (image_in R.memory parts.old) 0)) plan.now.inode 1 }
     requires small { (k : ℕ) → slice_index plan.now.bytes.now k < 256 }
-    requires clear { thawed (current_words (R.memory parts.old.region)) (kept_of parts.old) (planned_change plan.now) ≡ [] }
+    requires clear { thawed (image_in R.memory parts.old) (kept_of parts.old) (planned_change plan.now) ≡ [] }
     requires room { HasRoomThawed (R.memory parts.old.region) parts.old.blocks (planned_change plan.now) }
-    requires enough { need (current_words (R.memory parts.old.region)) (planned_change plan.now) ≤ length (members parts.old.blocks) }
-    requires found { AreWaysIn (current_words (R.memory parts.old.region)) touched.now found.now }
+    requires enough { need (image_in R.memory parts.old) (planned_change plan.now) ≤ length (members parts.old.blocks) }
+    requires found { AreWaysIn (image_in R.memory parts.old) touched.now found.now }
     ensures { CommitsChange R.memory parts.old parts.new (planned_change plan.now)
         (WritesFile plan.now.inode plan.now.off plan.now.bytes.now) }
 {
@@ -189,12 +189,12 @@ pub(crate) fn write_across<R: Region>(
     off: u64,
     bytes: &[u8],
 ) -> Result<(), NoSpace>
-    requires root { tree.root ≡ root_of (current_words (R.memory parts.old.region)) i }
-    requires size { tree.size ≡ size_of (current_words (R.memory parts.old.region)) i }
+    requires root { tree.root ≡ root_of (image_in R.memory parts.old) i }
+    requires size { tree.size ≡ size_of (image_in R.memory parts.old) i }
     requires can { CanWriteThawed (kept_of parts.old) (R.memory parts.old.region) parts.old.blocks parts.old.inodes i off bytes.now }
-    requires exact { IsExact (current_words (R.memory parts.old.region)) parts.old }
-    requires below { off < size_of (current_words (R.memory parts.old.region)) i }
-    requires past { size_of (current_words (R.memory parts.old.region)) i < off + length bytes.now }
+    requires exact { IsExactIn R.memory parts.old }
+    requires below { off < size_of (image_in R.memory parts.old) i }
+    requires past { size_of (image_in R.memory parts.old) i < off + length bytes.now }
     ensures { CommitsOrLacksBlocks R.memory parts.old parts.new result (writes i off (length bytes.now)) (WritesFile i off bytes.now) }
 {
     let plan = plan_write(&parts.region, i, tree, off, bytes);

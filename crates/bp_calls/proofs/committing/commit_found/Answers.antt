@@ -44,10 +44,10 @@ pub returns : goal.returns
 returns g c =
     record {
       commits = c.commit_at.ensures.commits;
-      size = c.commit_at.ensures.size;
-      inodes = c.commit_at.ensures.inodes;
-      counts = c.commit_at.ensures.counts;
-      frozen = c.commit_at.ensures.frozen;
+      size = c.commit_at.ensures.keeps.block_room;
+      inodes = c.commit_at.ensures.keeps.free_inodes;
+      counts = c.commit_at.ensures.keeps.link_counts;
+      frozen = c.commit_at.ensures.keeps.snapshot_blocks;
       need = tt;
       free = tt;
       fewer = tt;

@@ -59,8 +59,8 @@ returns-in-None g c =
           subst (λ o. PerformsWithin kept needed 5 (stores_behind_growth needed) old new (enters c.args.dir (entrant_of o)) (EntersName c.args.dir c.args.name.now c.args.kind))
           (sym (is_least (current_words old) c.args.parts.now.blocks c.args.parts.now.inodes c.requires.can.exact c.take_least-inode.result c.take_least-inode.ensures.least free least)) c.enter_behind.ensures.performs;
       exact = exact_with (current_words old) (current_words new) c.args.parts.now _ c.requires.exact
-          (rw (c.enter_behind.ensures.inodes, c.take_least-inode.ensures.rest) (c.enter_behind.ensures.exact c.args.parts.now.inodes c.requires.can.exact)) c.enter_behind.ensures.frozen
-          c.enter_behind.ensures.performs.effect.adds.trees.whole (rw (c.enter_behind.ensures.counted, c.set.ensures) (length-set c.args.parts.now.counts c.take_least-inode.result 1))
-          (rw (c.enter_behind.ensures.counted, c.set.ensures) (c.enter_behind.ensures.counts c.args.parts.now.counts c.requires.exact.counts));
-      frozen = c.enter_behind.ensures.frozen;
+          (rw (c.enter_behind.ensures.keeps.free_inodes, c.take_least-inode.ensures.rest) (c.enter_behind.ensures.exact c.args.parts.now.inodes c.requires.can.exact)) c.enter_behind.ensures.keeps.snapshot_blocks
+          c.enter_behind.ensures.performs.effect.adds.trees.whole (rw (c.enter_behind.ensures.keeps.link_counts, c.set.ensures) (length-set c.args.parts.now.counts c.take_least-inode.result 1))
+          (rw (c.enter_behind.ensures.keeps.link_counts, c.set.ensures) (c.enter_behind.ensures.counts c.args.parts.now.counts c.requires.exact.counts));
+      frozen = c.enter_behind.ensures.keeps.snapshot_blocks;
     }

@@ -34,7 +34,7 @@ barrier-requires g c =
     omega (arith, room g (goal.at.barrier-requires g c).After-prep, room_in-adds (g.R.Region.memory c.prep.new.parts.region) (g.R.Region.memory c.store.new.self) _ c.store.ensures)
 
 pub fill-requires-clause-in_range : goal.fill-requires-clause-in_range
-fill-requires-clause-in_range g c = rw c.prep.ensures.inodes (last_fits (g.R.Region.memory c.args.parts.now.region) c.args.parts.now.blocks c.args.parts.now.inodes c.new.result.items c.inode_file-size.result.size c.requires.can c.new.ensures c.inode_file-size.ensures.size)
+fill-requires-clause-in_range g c = rw c.prep.ensures.keeps.free_inodes (last_fits (g.R.Region.memory c.args.parts.now.region) c.args.parts.now.blocks c.args.parts.now.inodes c.new.result.items c.inode_file-size.result.size c.requires.can c.new.ensures c.inode_file-size.ensures.size)
 
 pub returns : goal.returns
 returns g c =
@@ -52,8 +52,8 @@ returns g c =
     record {
       grows = grows;
       exact = exact_meaning (current_words old) (current_words new) c.args.parts.now _ c.requires.exact
-          (exact_behind old blocks inodes c.new.result.items size c.requires.can c.new.ensures is middle after prepares new stored c.fill.new.self c.prep.ensures.room (rw c.prep.ensures.inodes at c.fill.ensures))
-          c.prep.ensures.frozen c.prep.ensures.counts c.requires.can.well_formed grows.grown.meaning;
-      frozen = c.prep.ensures.frozen;
+          (exact_behind old blocks inodes c.new.result.items size c.requires.can c.new.ensures is middle after prepares new stored c.fill.new.self c.prep.ensures.keeps.block_room (rw c.prep.ensures.keeps.free_inodes at c.fill.ensures))
+          c.prep.ensures.keeps.snapshot_blocks c.prep.ensures.keeps.link_counts c.requires.can.well_formed grows.grown.meaning;
+      frozen = c.prep.ensures.keeps.snapshot_blocks;
       left = left_behind old blocks inodes c.new.result.items size c.requires.can c.new.ensures is middle after prepares;
     }

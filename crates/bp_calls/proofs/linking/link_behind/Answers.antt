@@ -52,7 +52,7 @@ returns-clause-exact g c =
     let memory = g.R.Region.memory in
     link_behind_exact (memory c.args.parts.now.region) (memory c.put_behind.new.parts.region) (memory c.commit_word.new.region) c.args.parts.now.blocks c.put_behind.new.parts.blocks
     c.args.dir c.args.i c.place-size_place.result c.args.name.now c.requires.can c.put_behind.ensures.puts c.place-size_place.ensures.place
-    (rw c.tree_of-tree.ensures.size at c.commit_word.ensures) c.put_behind.ensures.blocks
+    (rw c.tree_of-tree.ensures.size at c.commit_word.ensures) c.put_behind.ensures.keeps.block_room
 
 pub returns-clause-counts : goal.returns-clause-counts
 returns-clause-counts g c =

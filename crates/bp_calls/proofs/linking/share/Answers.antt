@@ -62,8 +62,8 @@ returns-in-None g c =
     let low = reached_counted (current_words old) c.args.parts.now c.requires.exact c.requires.can.link.lacks.well_formed c.args.i c.requires.can.link.there in
     record {
       performs = within_call old new (enters c.args.dir linked) c.args.dir (LinksEntry c.args.dir c.args.name.now c.args.i) refl c.link_behind.ensures.performs;
-      frozen = c.link_behind.ensures.frozen;
-      exact = exact_with (current_words old) (current_words new) c.args.parts.now _ c.requires.exact (rw c.link_behind.ensures.inodes (c.link_behind.ensures.exact c.args.parts.now.inodes c.requires.can.exact)) c.link_behind.ensures.frozen
-          c.link_behind.ensures.performs.effect.adds.trees.whole (rw (c.link_behind.ensures.counted, c.set.ensures) (length-set c.args.parts.now.counts c.args.i _))
-          (rw (c.link_behind.ensures.counted, c.set.ensures, c.names-names.ensures) (c.link_behind.ensures.counts c.args.parts.now.counts low c.requires.exact.counts));
+      frozen = c.link_behind.ensures.keeps.snapshot_blocks;
+      exact = exact_with (current_words old) (current_words new) c.args.parts.now _ c.requires.exact (rw c.link_behind.ensures.keeps.free_inodes (c.link_behind.ensures.exact c.args.parts.now.inodes c.requires.can.exact)) c.link_behind.ensures.keeps.snapshot_blocks
+          c.link_behind.ensures.performs.effect.adds.trees.whole (rw (c.link_behind.ensures.keeps.link_counts, c.set.ensures) (length-set c.args.parts.now.counts c.args.i _))
+          (rw (c.link_behind.ensures.keeps.link_counts, c.set.ensures, c.names-names.ensures) (c.link_behind.ensures.counts c.args.parts.now.counts low c.requires.exact.counts));
     }

@@ -37,12 +37,12 @@ returns g c =
       can = ready;
       stands = c.place-size_place.ensures.place;
       prepared = c.prep.ensures.prepares c.args.i ready;
-      room = c.prep.ensures.room;
+      room = c.prep.ensures.keeps.block_room;
       stored = c.commit_word.ensures;
     }) in
     record {
       performs = done.0;
-      frozen = c.prep.ensures.frozen;
-      exact = exact_file _ _ c.args.parts.now _ c.requires.exact (rw c.prep.ensures.inodes done.1) c.prep.ensures.frozen c.prep.ensures.counts c.args.i
+      frozen = c.prep.ensures.keeps.snapshot_blocks;
+      exact = exact_file _ _ c.args.parts.now _ c.requires.exact (rw c.prep.ensures.keeps.free_inodes done.1) c.prep.ensures.keeps.snapshot_blocks c.prep.ensures.keeps.link_counts c.args.i
           c.requires.can.well_formed done.0.effect.changes;
     }

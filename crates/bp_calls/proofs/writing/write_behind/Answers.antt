@@ -52,10 +52,10 @@ returns g c =
     c.root_path-root.result.items c.place-size_place.result c.args.i c.requires.can c.requires.behind can c.place-size_place.ensures.place (c.prep.ensures.prepares c.args.i can) c.commit_word.ensures in
     record {
       performs = done;
-      frozen = c.prep.ensures.frozen;
+      frozen = c.prep.ensures.keeps.snapshot_blocks;
       exact = exact_file _ _ c.args.parts.now _ c.requires.exact
-          (rw c.prep.ensures.inodes
+          (rw c.prep.ensures.keeps.free_inodes
           (behind_exact_at (memory c.args.parts.now.region) c.args.parts.now.blocks c.args.parts.now.inodes c.args.off c.args.bytes.now (memory c.prep.new.parts.region) c.prep.new.parts.blocks (memory c.commit_word.new.region)
-          c.root_path-root.result.items c.place-size_place.result c.args.i c.requires.can c.requires.behind can c.place-size_place.ensures.place (c.prep.ensures.prepares c.args.i can) c.commit_word.ensures c.prep.ensures.room))
-          c.prep.ensures.frozen c.prep.ensures.counts c.args.i c.requires.can.into.well_formed done.effect.changes;
+          c.root_path-root.result.items c.place-size_place.result c.args.i c.requires.can c.requires.behind can c.place-size_place.ensures.place (c.prep.ensures.prepares c.args.i can) c.commit_word.ensures c.prep.ensures.keeps.block_room))
+          c.prep.ensures.keeps.snapshot_blocks c.prep.ensures.keeps.link_counts c.args.i c.requires.can.into.well_formed done.effect.changes;
     }

@@ -103,18 +103,18 @@ returns g c =
     record {
       performs = into_performs old third mid move c.args.slot c.entry_place-entry.result c.requires.can c.requires.new c.requires.other c.requires.empty stands c.put_name.ensures.stores c.put_name.ensures.name c.barrier.ensures
           c.args.touched.now touches c.args.parts.now.blocks c.args.parts.now.inodes c.requires.exact.sets c.requires.thawed.room loose
-          new c.commit_at.new.parts.blocks c.commit_at.ensures.commits c.commit_at.ensures.size;
-      frozen = c.commit_at.ensures.frozen;
+          new c.commit_at.new.parts.blocks c.commit_at.ensures.commits c.commit_at.ensures.keeps.block_room;
+      frozen = c.commit_at.ensures.keeps.snapshot_blocks;
       exact = exact_kept _ _ c.args.parts.now _ c.requires.exact
-          (rw c.commit_at.ensures.inodes
+          (rw c.commit_at.ensures.keeps.free_inodes
           (into_exact old third mid move c.args.slot c.entry_place-entry.result c.requires.can c.requires.new c.requires.other c.requires.empty stands c.put_name.ensures.stores c.put_name.ensures.name c.barrier.ensures
           c.args.touched.now touches c.args.parts.now.blocks c.args.parts.now.inodes c.requires.exact.sets c.requires.thawed.room loose
-          new c.commit_at.new.parts.blocks c.commit_at.ensures.commits c.commit_at.ensures.size))
-          c.commit_at.ensures.frozen c.commit_at.ensures.counts
+          new c.commit_at.new.parts.blocks c.commit_at.ensures.commits c.commit_at.ensures.keeps.block_room))
+          c.commit_at.ensures.keeps.snapshot_blocks c.commit_at.ensures.keeps.link_counts
           (into_whole_image old third mid move c.args.slot c.entry_place-entry.result c.requires.can c.requires.new c.requires.other c.requires.empty stands c.put_name.ensures.stores c.put_name.ensures.name c.barrier.ensures
           c.args.touched.now touches c.args.parts.now.blocks c.args.parts.now.inodes c.requires.exact.sets c.requires.thawed.room loose
-          new c.commit_at.new.parts.blocks c.commit_at.ensures.commits c.commit_at.ensures.size)
+          new c.commit_at.new.parts.blocks c.commit_at.ensures.commits c.commit_at.ensures.keeps.block_room)
           (into_counts old third mid move c.args.slot c.entry_place-entry.result c.requires.can c.requires.new c.requires.other c.requires.empty stands c.put_name.ensures.stores c.put_name.ensures.name c.barrier.ensures
           c.args.touched.now touches c.args.parts.now.blocks c.args.parts.now.inodes c.requires.exact.sets c.requires.thawed.room loose
-          new c.commit_at.new.parts.blocks c.commit_at.ensures.commits c.commit_at.ensures.size c.args.parts.now.counts c.requires.exact.counts);
+          new c.commit_at.new.parts.blocks c.commit_at.ensures.commits c.commit_at.ensures.keeps.block_room c.args.parts.now.counts c.requires.exact.counts);
     }

@@ -40,25 +40,25 @@ commit_at-requires g c κs inside =
     let named : c.inumber-inode.result ≡ moved_inode (current_words old) move =
     c.inumber-inode.ensures ∙ ap (λ root. inumber_in (current_words old) root move.from_slot) c.tree_of-source.ensures.root in
     let puts = subst (λ x. PutsBehind (kept_of c.args.parts.now) old mid (members c.args.parts.now.blocks) (members c.put_behind.new.parts.blocks) move.to_dir x move.name.now) named c.put_behind.ensures.puts in
-    let formed = behind_formed old mid move c.args.parts.now.blocks c.args.parts.now.inodes c.put_behind.new.parts.blocks c.requires.can c.requires.new c.requires.other c.requires.none c.requires.exact.sets c.requires.thawed.room puts c.put_behind.ensures.blocks
+    let formed = behind_formed old mid move c.args.parts.now.blocks c.args.parts.now.inodes c.put_behind.new.parts.blocks c.requires.can c.requires.new c.requires.other c.requires.none c.requires.exact.sets c.requires.thawed.room puts c.put_behind.ensures.keeps.block_room
     c.args.touched.now touches in
-    let can = behind_can old mid move c.args.parts.now.blocks c.args.parts.now.inodes c.put_behind.new.parts.blocks c.requires.can c.requires.new c.requires.other c.requires.none c.requires.exact.sets c.requires.thawed.room puts c.put_behind.ensures.blocks
+    let can = behind_can old mid move c.args.parts.now.blocks c.args.parts.now.inodes c.put_behind.new.parts.blocks c.requires.can c.requires.new c.requires.other c.requires.none c.requires.exact.sets c.requires.thawed.room puts c.put_behind.ensures.keeps.block_room
     c.args.touched.now touches in
-    let loose = behind_loose old mid move c.args.parts.now.blocks c.args.parts.now.inodes c.put_behind.new.parts.blocks c.requires.can c.requires.new c.requires.other c.requires.none c.requires.exact.sets c.requires.thawed.room puts c.put_behind.ensures.blocks
+    let loose = behind_loose old mid move c.args.parts.now.blocks c.args.parts.now.inodes c.put_behind.new.parts.blocks c.requires.can c.requires.new c.requires.other c.requires.none c.requires.exact.sets c.requires.thawed.room puts c.put_behind.ensures.keeps.block_room
     c.args.touched.now touches c.requires.thawed.clear in
-    let fits = behind_fits old mid move c.args.parts.now.blocks c.args.parts.now.inodes c.put_behind.new.parts.blocks c.requires.can c.requires.new c.requires.other c.requires.none c.requires.exact.sets c.requires.thawed.room puts c.put_behind.ensures.blocks
+    let fits = behind_fits old mid move c.args.parts.now.blocks c.args.parts.now.inodes c.put_behind.new.parts.blocks c.requires.can c.requires.new c.requires.other c.requires.none c.requires.exact.sets c.requires.thawed.room puts c.put_behind.ensures.keeps.block_room
     c.args.touched.now touches in
-    let some = behind_some old mid move c.args.parts.now.blocks c.args.parts.now.inodes c.put_behind.new.parts.blocks c.requires.can c.requires.new c.requires.other c.requires.none c.requires.exact.sets c.requires.thawed.room puts c.put_behind.ensures.blocks
+    let some = behind_some old mid move c.args.parts.now.blocks c.args.parts.now.inodes c.put_behind.new.parts.blocks c.requires.can c.requires.new c.requires.other c.requires.none c.requires.exact.sets c.requires.thawed.room puts c.put_behind.ensures.keeps.block_room
     c.args.touched.now touches c.requires.thawed.enough in
-    let room = behind_room old mid move c.args.parts.now.blocks c.args.parts.now.inodes c.put_behind.new.parts.blocks c.requires.can c.requires.new c.requires.other c.requires.none c.requires.exact.sets c.requires.thawed.room puts c.put_behind.ensures.blocks
+    let room = behind_room old mid move c.args.parts.now.blocks c.args.parts.now.inodes c.put_behind.new.parts.blocks c.requires.can c.requires.new c.requires.other c.requires.none c.requires.exact.sets c.requires.thawed.room puts c.put_behind.ensures.keeps.block_room
     c.args.touched.now touches in
     let whole = puts.prepared.ready.meaning.trees.whole in
-    let ways = behind_ways old mid move c.args.parts.now.blocks c.args.parts.now.inodes c.put_behind.new.parts.blocks c.requires.can c.requires.new c.requires.other c.requires.none c.requires.exact.sets c.requires.thawed.room puts c.put_behind.ensures.blocks
+    let ways = behind_ways old mid move c.args.parts.now.blocks c.args.parts.now.inodes c.put_behind.new.parts.blocks c.requires.can c.requires.new c.requires.other c.requires.none c.requires.exact.sets c.requires.thawed.room puts c.put_behind.ensures.keeps.block_room
     c.args.touched.now touches c.args.found.now c.requires.found in
-    let known = ap (λ (frozen : Set). length frozen) c.put_behind.ensures.frozen in (
+    let known = ap (λ (frozen : Set). length frozen) c.put_behind.ensures.keeps.snapshot_blocks in (
       inside,
       (
-        subst (λ (frozen : Set). CanCommitIn (sizes_with (current_words mid) c.args.touched.now) (has frozen) mid c.args.touched.now c.put_behind.new.parts.blocks) (sym c.put_behind.ensures.frozen)
+        subst (λ (frozen : Set). CanCommitIn (sizes_with (current_words mid) c.args.touched.now) (has frozen) mid c.args.touched.now c.put_behind.new.parts.blocks) (sym c.put_behind.ensures.keeps.snapshot_blocks)
             (record { well_formed = formed; can = can; loose = loose; fits = fits; some = some; room = room }),
         (ways, record { room = omega (arith, c.requires.exact.frozen_room, whole, known); same = λ b. refl }),
       ),
@@ -74,22 +74,22 @@ returns g c =
     c.inumber-inode.ensures ∙ ap (λ root. inumber_in (current_words old) root move.from_slot) c.tree_of-source.ensures.root in
     let puts = subst (λ x. PutsBehind (kept_of c.args.parts.now) old mid (members c.args.parts.now.blocks) (members c.put_behind.new.parts.blocks) move.to_dir x move.name.now) named c.put_behind.ensures.puts in
     let commits = subst (λ (frozen : Set). CommitsTouched (sizes_with (current_words mid) c.args.touched.now) (has frozen) c.args.touched.now mid (g.R.Region.memory c.commit_at.new.parts.region) c.put_behind.new.parts.blocks c.commit_at.new.parts.blocks)
-    c.put_behind.ensures.frozen c.commit_at.ensures.commits in
+    c.put_behind.ensures.keeps.snapshot_blocks c.commit_at.ensures.commits in
     record {
-      performs = behind_performs old mid move c.args.parts.now.blocks c.args.parts.now.inodes c.put_behind.new.parts.blocks c.requires.can c.requires.new c.requires.other c.requires.none c.requires.exact.sets c.requires.thawed.room puts c.put_behind.ensures.blocks
+      performs = behind_performs old mid move c.args.parts.now.blocks c.args.parts.now.inodes c.put_behind.new.parts.blocks c.requires.can c.requires.new c.requires.other c.requires.none c.requires.exact.sets c.requires.thawed.room puts c.put_behind.ensures.keeps.block_room
           c.args.touched.now touches
           (g.R.Region.memory c.commit_at.new.parts.region) c.commit_at.new.parts.blocks commits;
-      frozen = c.commit_at.ensures.frozen ∙ c.put_behind.ensures.frozen;
+      frozen = c.commit_at.ensures.keeps.snapshot_blocks ∙ c.put_behind.ensures.keeps.snapshot_blocks;
       exact = exact_kept _ _ c.args.parts.now _ c.requires.exact
-          (rw (c.commit_at.ensures.inodes, c.put_behind.ensures.inodes)
-          (behind_exact old mid move c.args.parts.now.blocks c.args.parts.now.inodes c.put_behind.new.parts.blocks c.requires.can c.requires.new c.requires.other c.requires.none c.requires.exact.sets c.requires.thawed.room puts c.put_behind.ensures.blocks
+          (rw (c.commit_at.ensures.keeps.free_inodes, c.put_behind.ensures.keeps.free_inodes)
+          (behind_exact old mid move c.args.parts.now.blocks c.args.parts.now.inodes c.put_behind.new.parts.blocks c.requires.can c.requires.new c.requires.other c.requires.none c.requires.exact.sets c.requires.thawed.room puts c.put_behind.ensures.keeps.block_room
           c.args.touched.now touches
-          (g.R.Region.memory c.commit_at.new.parts.region) c.commit_at.new.parts.blocks commits c.commit_at.ensures.size))
-          (c.commit_at.ensures.frozen ∙ c.put_behind.ensures.frozen) (c.commit_at.ensures.counts ∙ c.put_behind.ensures.counts)
-          (behind_whole_image old mid move c.args.parts.now.blocks c.args.parts.now.inodes c.put_behind.new.parts.blocks c.requires.can c.requires.new c.requires.other c.requires.none c.requires.exact.sets c.requires.thawed.room puts c.put_behind.ensures.blocks
+          (g.R.Region.memory c.commit_at.new.parts.region) c.commit_at.new.parts.blocks commits c.commit_at.ensures.keeps.block_room))
+          (c.commit_at.ensures.keeps.snapshot_blocks ∙ c.put_behind.ensures.keeps.snapshot_blocks) (c.commit_at.ensures.keeps.link_counts ∙ c.put_behind.ensures.keeps.link_counts)
+          (behind_whole_image old mid move c.args.parts.now.blocks c.args.parts.now.inodes c.put_behind.new.parts.blocks c.requires.can c.requires.new c.requires.other c.requires.none c.requires.exact.sets c.requires.thawed.room puts c.put_behind.ensures.keeps.block_room
           c.args.touched.now touches
           (g.R.Region.memory c.commit_at.new.parts.region) c.commit_at.new.parts.blocks commits)
-          (behind_counts old mid move c.args.parts.now.blocks c.args.parts.now.inodes c.put_behind.new.parts.blocks c.requires.can c.requires.new c.requires.other c.requires.none c.requires.exact.sets c.requires.thawed.room puts c.put_behind.ensures.blocks
+          (behind_counts old mid move c.args.parts.now.blocks c.args.parts.now.inodes c.put_behind.new.parts.blocks c.requires.can c.requires.new c.requires.other c.requires.none c.requires.exact.sets c.requires.thawed.room puts c.put_behind.ensures.keeps.block_room
           c.args.touched.now touches
           (g.R.Region.memory c.commit_at.new.parts.region) c.commit_at.new.parts.blocks commits c.args.parts.now.counts c.requires.exact.counts);
     }

@@ -42,7 +42,7 @@ committed g c =
     let new : Memory = g.R.Region.memory c.commit_at.new.parts.region in
     let before = c.args.parts.now in
     onto_done old new c.args.to_move.now c.args.slot c.requires.can c.requires.onto c.args.touched.now c.requires.touches
-    before.blocks before.inodes c.commit_at.new.parts.blocks c.requires.exact.sets c.requires.thawed.room c.commit_at.ensures.commits c.commit_at.ensures.size
+    before.blocks before.inodes c.commit_at.new.parts.blocks c.requires.exact.sets c.requires.thawed.room c.commit_at.ensures.commits c.commit_at.ensures.keeps.block_room
 
 pub inumber-replaced-requires-clause-live : goal.inumber-replaced-requires-clause-live
 inumber-replaced-requires-clause-live g c =
@@ -117,17 +117,17 @@ give_back-requires-clause-taken g c =
 pub give_back-requires-clause-known : goal.give_back-requires-clause-known
 give_back-requires-clause-known g c =
     let whole = (committed g (goal.at.give_back-requires-clause-known g c).After-commit_at).whole in
-    ap (λ (kept : Set). length kept) c.commit_at.ensures.frozen ∙ c.requires.exact.frozen_room ∙ sym (ap (λ n. n / 512) whole)
+    ap (λ (kept : Set). length kept) c.commit_at.ensures.keeps.snapshot_blocks ∙ c.requires.exact.frozen_room ∙ sym (ap (λ n. n / 512) whole)
 
 pub give-requires-clause-in_range : goal.give-requires-clause-in_range
 give-requires-clause-in_range g c =
     let is = named g (goal.at.give-requires-clause-in_range g c).After-inumber-replaced in
-    rw (c.commit_at.ensures.inodes, is) (committed g (goal.at.give-requires-clause-in_range g c).After-commit_at).in_room
+    rw (c.commit_at.ensures.keeps.free_inodes, is) (committed g (goal.at.give-requires-clause-in_range g c).After-commit_at).in_room
 
 pub give-requires-clause-taken : goal.give-requires-clause-taken
 give-requires-clause-taken g c =
     let is = named g (goal.at.give-requires-clause-taken g c).After-inumber-replaced in
-    rw (c.commit_at.ensures.inodes, is) (committed g (goal.at.give-requires-clause-taken g c).After-commit_at).taken
+    rw (c.commit_at.ensures.keeps.free_inodes, is) (committed g (goal.at.give-requires-clause-taken g c).After-commit_at).taken
 
 -- ---- the count of names
 
@@ -158,10 +158,10 @@ returns-then-names-gt0 g c =
     let more = onto_other image c.args.to_move.now c.args.slot c.requires.can c.requires.onto before c.requires.exact (omega (arith, read, c.if-names-gt0.true, one)) in
     record {
       performs = done.performs;
-      frozen = c.commit_at.ensures.frozen;
-      exact = exact_with _ _ before _ c.requires.exact (rw c.commit_at.ensures.inodes (done.other more)) c.commit_at.ensures.frozen done.whole
-          (rw (c.commit_at.ensures.counts, c.set.ensures) (length-set _ _ _))
-          (rw (c.commit_at.ensures.counts, c.set.ensures, is)
+      frozen = c.commit_at.ensures.keeps.snapshot_blocks;
+      exact = exact_with _ _ before _ c.requires.exact (rw c.commit_at.ensures.keeps.free_inodes (done.other more)) c.commit_at.ensures.keeps.snapshot_blocks done.whole
+          (rw (c.commit_at.ensures.keeps.link_counts, c.set.ensures) (length-set _ _ _))
+          (rw (c.commit_at.ensures.keeps.link_counts, c.set.ensures, is)
           (done.counts before.counts c.requires.exact.counts (low g at) (c.names-names.result - 1) (omega (arith, one, read))));
     }
 
@@ -179,12 +179,12 @@ returns g c =
     let last = onto_last image c.args.to_move.now c.args.slot c.requires.can c.requires.onto before c.requires.exact (omega (arith, read, c.if-names-gt0.false, one)) in
     record {
       performs = done.performs;
-      frozen = c.commit_at.ensures.frozen;
+      frozen = c.commit_at.ensures.keeps.snapshot_blocks;
       exact = exact_with _ _ before _ c.requires.exact
-          (rw (c.give.ensures, c.commit_at.ensures.inodes, is)
-          (done.last c.give_back.new.blocks (rw (c.get-inode.ensures.root, c.get-inode.ensures.size, is, c.commit_at.ensures.frozen) at c.give_back.ensures) last))
-          c.commit_at.ensures.frozen done.whole
-          (rw (c.commit_at.ensures.counts, c.set.ensures) (length-set _ _ _))
-          (rw (c.commit_at.ensures.counts, c.set.ensures, is)
+          (rw (c.give.ensures, c.commit_at.ensures.keeps.free_inodes, is)
+          (done.last c.give_back.new.blocks (rw (c.get-inode.ensures.root, c.get-inode.ensures.size, is, c.commit_at.ensures.keeps.snapshot_blocks) at c.give_back.ensures) last))
+          c.commit_at.ensures.keeps.snapshot_blocks done.whole
+          (rw (c.commit_at.ensures.keeps.link_counts, c.set.ensures) (length-set _ _ _))
+          (rw (c.commit_at.ensures.keeps.link_counts, c.set.ensures, is)
           (done.counts before.counts c.requires.exact.counts (low g at) (c.names-names.result - 1) (omega (arith, one, read))));
     }

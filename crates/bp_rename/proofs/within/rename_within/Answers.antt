@@ -85,14 +85,14 @@ returns-in-Ok g c =
       performs = ready.performs c.commit_at.new.parts
           (within_renames (kept_of c.ready_ways.new.parts) middle new move c.requires.new c.requires.here
           (within_performs_at middle move.from_slot j move.name.now c.touched_by-touched.result c.ready_ways.new.parts.blocks c.ready_ways.new.parts.inodes ready.exact.sets
-          new c.commit_at.new.parts.blocks c.commit_at.ensures.commits c.commit_at.ensures.size move.from_dir room can touches (RenamesEntry move) (λ spells spelled. within c.requires.new c.requires.here spells spelled)));
-      frozen = c.commit_at.ensures.frozen ∙ c.in-Ok.ensures.ready.frozen;
+          new c.commit_at.new.parts.blocks c.commit_at.ensures.commits c.commit_at.ensures.keeps.block_room move.from_dir room can touches (RenamesEntry move) (λ spells spelled. within c.requires.new c.requires.here spells spelled)));
+      frozen = c.commit_at.ensures.keeps.snapshot_blocks ∙ c.in-Ok.ensures.ready.frozen;
       exact = exact_kept _ _ c.ready_ways.new.parts _ ready.exact
-          (rw c.commit_at.ensures.inodes
-          (within_exact_at middle move.from_slot j move.name.now c.touched_by-touched.result c.ready_ways.new.parts.blocks c.ready_ways.new.parts.inodes ready.exact.sets new c.commit_at.new.parts.blocks c.commit_at.ensures.commits c.commit_at.ensures.size move.from_dir room can touches))
-          c.commit_at.ensures.frozen c.commit_at.ensures.counts
-          (within_whole_at middle move.from_slot j move.name.now c.touched_by-touched.result c.ready_ways.new.parts.blocks c.ready_ways.new.parts.inodes ready.exact.sets new c.commit_at.new.parts.blocks c.commit_at.ensures.commits c.commit_at.ensures.size move.from_dir room can touches)
-          (within_counts_at middle move.from_slot j move.name.now c.touched_by-touched.result c.ready_ways.new.parts.blocks c.ready_ways.new.parts.inodes ready.exact.sets new c.commit_at.new.parts.blocks c.commit_at.ensures.commits c.commit_at.ensures.size move.from_dir room can touches
+          (rw c.commit_at.ensures.keeps.free_inodes
+          (within_exact_at middle move.from_slot j move.name.now c.touched_by-touched.result c.ready_ways.new.parts.blocks c.ready_ways.new.parts.inodes ready.exact.sets new c.commit_at.new.parts.blocks c.commit_at.ensures.commits c.commit_at.ensures.keeps.block_room move.from_dir room can touches))
+          c.commit_at.ensures.keeps.snapshot_blocks c.commit_at.ensures.keeps.link_counts
+          (within_whole_at middle move.from_slot j move.name.now c.touched_by-touched.result c.ready_ways.new.parts.blocks c.ready_ways.new.parts.inodes ready.exact.sets new c.commit_at.new.parts.blocks c.commit_at.ensures.commits c.commit_at.ensures.keeps.block_room move.from_dir room can touches)
+          (within_counts_at middle move.from_slot j move.name.now c.touched_by-touched.result c.ready_ways.new.parts.blocks c.ready_ways.new.parts.inodes ready.exact.sets new c.commit_at.new.parts.blocks c.commit_at.ensures.commits c.commit_at.ensures.keeps.block_room move.from_dir room can touches
           c.ready_ways.new.parts.counts ready.exact.counts);
       refused = tt;
       same = tt;

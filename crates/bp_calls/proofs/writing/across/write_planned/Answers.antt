@@ -30,14 +30,14 @@ commit_at-requires g c κs within =
     let bound = sizes_with (current_words middle) c.args.touched.now in (
       within,
       (
-        subst (λ (frozen : Set). CanCommitIn bound (has frozen) middle c.args.touched.now after) (sym c.prep.ensures.frozen)
-            (at_commit middle after plan.inode c.requires.across c.requires.clear c.requires.room c.requires.enough prepared c.prep.ensures.room),
+        subst (λ (frozen : Set). CanCommitIn bound (has frozen) middle c.args.touched.now after) (sym c.prep.ensures.keeps.snapshot_blocks)
+            (at_commit middle after plan.inode c.requires.across c.requires.clear c.requires.room c.requires.enough prepared c.prep.ensures.keeps.block_room),
         (
           at_ways middle after plan.inode c.requires.across prepared c.args.found.now c.requires.found,
           record {
             room =
                 let whole = ap (λ words. words / 512) prepared.ready.meaning.trees.whole in
-                omega (arith, whole, c.requires.exact.frozen_room, ap (λ (set : Set). length set) c.prep.ensures.frozen);
+                omega (arith, whole, c.requires.exact.frozen_room, ap (λ (set : Set). length set) c.prep.ensures.keeps.snapshot_blocks);
             same = λ b. refl;
           },
         ),
@@ -57,13 +57,13 @@ returns g c =
     c.requires.size c.split_at.ensures.back in
     let bound = sizes_with (current_words middle) c.args.touched.now in
     let commits = subst (λ (frozen : Set). CommitsTouched bound (has frozen) c.args.touched.now middle (memory new.region) after new.blocks)
-    c.prep.ensures.frozen c.commit_at.ensures.commits in
+    c.prep.ensures.keeps.snapshot_blocks c.commit_at.ensures.commits in
     let done = at_done middle after (memory new.region) new.blocks plan.inode c.requires.across prepared c.requires.small commits
-    c.commit_at.ensures.size c.prep.ensures.room in
+    c.commit_at.ensures.keeps.block_room c.prep.ensures.keeps.block_room in
     record {
       performs = done.0;
-      frozen = c.commit_at.ensures.frozen ∙ c.prep.ensures.frozen;
-      exact = exact_file _ _ c.args.parts.now _ c.requires.exact (rw (c.commit_at.ensures.inodes, c.prep.ensures.inodes) done.1)
-          (c.commit_at.ensures.frozen ∙ c.prep.ensures.frozen) (c.commit_at.ensures.counts ∙ c.prep.ensures.counts) plan.inode
+      frozen = c.commit_at.ensures.keeps.snapshot_blocks ∙ c.prep.ensures.keeps.snapshot_blocks;
+      exact = exact_file _ _ c.args.parts.now _ c.requires.exact (rw (c.commit_at.ensures.keeps.free_inodes, c.prep.ensures.keeps.free_inodes) done.1)
+          (c.commit_at.ensures.keeps.snapshot_blocks ∙ c.prep.ensures.keeps.snapshot_blocks) (c.commit_at.ensures.keeps.link_counts ∙ c.prep.ensures.keeps.link_counts) plan.inode
           c.requires.across.into.well_formed done.0.effect.changes;
     }

@@ -1,5 +1,5 @@
--- Where the way to the byte at the size of a tree is loose, no node with that byte is kept, nor the block that holds the
--- tree's root word.
+-- Where the way to the byte at the size of a tree is loose, no node with that byte is in the snapshot, nor the block
+-- that holds the tree's root word.
 use Rattle.std.proofs.Common.{◌≡◌, ◌≢◌, ℕ, zero, suc, ◌+◌, ◌-◌, ◌*◌, ◌/◌, ◌%◌, ◌<◌, ◌≤◌, [], ◌∷◌, ◌++◌, length, Bool, true, false, ◌&&◌, nat_lt, if◌then◌else◌, refl, sym, ◌∙◌, ap, subst, arith, append_assoc, mul-le-mul_right, lt_of_le_of_lt, lt_of_lt_of_le, le_trans, le_of_lt, inl, inr}
 use Rattle.std.proofs.lemmas.Bool.{and_from, cases_lt, lt-ltb}
 use Rattle.std.proofs.lemmas.List.{length-append}
@@ -11,7 +11,7 @@ use Rattle.bp_layout.specs.Inode.{root_of, size_of, inode_count, RootPlace}
 use Rattle.bp_layout.specs.Inode.RootPlace.{top, inode}
 use Rattle.bp_layout.specs.Reached.{IsReached}
 use Rattle.bp_layout.specs.Reached.IsReached.{inode_file}
-use Rattle.bp_layout.specs.Thaw.{IsLoose, end_path_now, heights_now, is_kept_at, root_path_now}
+use Rattle.bp_layout.specs.Thaw.{IsLoose, end_path_now, heights_now, is_in_snapshot_at, root_path_now}
 use Rattle.bp_layout.specs.WellFormed.{IsWellFormed}
 use Rattle.bp_layout.specs.WordPaths.{WordPath, digits, inode_path, tree_path}
 use Rattle.bp_layout.proofs.Reached.{reached-in_file}
@@ -105,26 +105,26 @@ root_short h (suc i) d k =
     omega (arith, whole, root)
 
 module _ (image : Image) (wf : IsWellFormed image) where
-  module _ (kept : ℕ → Bool) (t : ℕ) (reached : IsReached image t)
-      (loose : IsLoose image kept (length (root_path_now image t) - 1) (end_path_now image t)) where
+  module _ (in_snapshot : ℕ → Bool) (t : ℕ) (reached : IsReached image t)
+      (loose : IsLoose image in_snapshot (length (root_path_now image t) - 1) (end_path_now image t)) where
     -- a node with a byte below the size, and with the byte at the size
-    loose_node : (d k : ℕ) → (live : IsLivePointer (root_of image t) (size_of image t) d k) → node image (root_of image t) d k ≢ 0 → size_of image t < k * span live.level + span live.level → kept (node image (root_of image t) d k) ≡ false
+    loose_node : (d k : ℕ) → (live : IsLivePointer (root_of image t) (size_of image t) d k) → node image (root_of image t) d k ≢ 0 → size_of image t < k * span live.level + span live.level → in_snapshot (node image (root_of image t) d k) ≡ false
     loose_node d k live present high =
         let fits : size_of image t ≤ span (heights_now image t) = (wf.sound t reached).fits in
         let begins : k * span live.level < span (heights_now image t) = lt_of_lt_of_le live.live fits in
         let ends : k * span live.level + span live.level ≤ span (heights_now image t) = ends_within (heights_now image t) live.level d k live.height begins in
         let low : size_of image t < span (heights_now image t) = lt_of_lt_of_le high ends in
         let some : 0 < size_of image t = lt_of_le_of_lt (grind (arith)) live.live in
-        let way : IsLoose image kept (length (root_path_now image t) - 1) (tree_path (heights_now image 0) t (suc (heights_now image t)) (size_of image t / 8)) =
-        subst (λ b. IsLoose image kept (length (root_path_now image t) - 1) (if b then tree_path (heights_now image 0) t (suc (heights_now image t)) (size_of image t / 8) else root_path_now image t)) (and_from _ _ (lt-ltb _ _ some) (lt-ltb _ _ low)) loose in
+        let way : IsLoose image in_snapshot (length (root_path_now image t) - 1) (tree_path (heights_now image 0) t (suc (heights_now image t)) (size_of image t / 8)) =
+        subst (λ b. IsLoose image in_snapshot (length (root_path_now image t) - 1) (if b then tree_path (heights_now image 0) t (suc (heights_now image t)) (size_of image t / 8) else root_path_now image t)) (and_from _ _ (lt-ltb _ _ some) (lt-ltb _ _ low)) loose in
         let through = digits-through (heights_now image t) (size_of image t) live.level d k live.height (le_of_lt live.live) high in
-        sym (kept_node image wf kept t d k reached live present)
-        ∙ loose-front image kept (length (root_path_now image t) - 1) (tree_path (heights_now image 0) t d k) through.0 through.1.0 (root_short (heights_now image 0) t d k)
-        (subst (IsLoose image kept (length (root_path_now image t) - 1)) (split_path (heights_now image 0) t (heights_now image t) (size_of image t / 8) d k through.0 through.1.0 through.1.1) way)
+        sym (kept_node image wf in_snapshot t d k reached live present)
+        ∙ loose-front image in_snapshot (length (root_path_now image t) - 1) (tree_path (heights_now image 0) t d k) through.0 through.1.0 (root_short (heights_now image 0) t d k)
+        (subst (IsLoose image in_snapshot (length (root_path_now image t) - 1)) (split_path (heights_now image 0) t (heights_now image t) (size_of image t / 8) d k through.0 through.1.0 through.1.1) way)
 
     -- the block with its inode
-    loose_inode : t ≢ 0 → kept (node image (root_of image 0) (heights_now image 0) ((8 * t + 1) / 512)) ≡ false
-    loose_inode some = sym (kept_node image wf kept 0 (heights_now image 0) ((8 * t + 1) / 512) inode_file leaf (inode_under image wf t reached)) ∙ front t some loose
+    loose_inode : t ≢ 0 → in_snapshot (node image (root_of image 0) (heights_now image 0) ((8 * t + 1) / 512)) ≡ false
+    loose_inode some = sym (kept_node image wf in_snapshot 0 (heights_now image 0) ((8 * t + 1) / 512) inode_file leaf (inode_under image wf t reached)) ∙ front t some loose
       where
         leaf : IsLivePointer (root_of image 0) (size_of image 0) (height_of (root_of image 0)) ((8 * t + 1) / 512)
         leaf =
@@ -132,30 +132,30 @@ module _ (image : Image) (wf : IsWellFormed image) where
             live_above _ _ (height_of (root_of image 0)) (8 * t + 1) (live_content (root_of image 0) (size_of image 0) (8 * t + 1) (omega (arith, inside)))
 
         -- each way into the tree goes through this block
-        way : (i depth index : ℕ) → IsLoose image kept (length (root_path_now image (suc i)) - 1) (tree_path (heights_now image 0) (suc i) depth index) → is_kept_at image kept (digits (heights_now image 0) ((8 * suc i + 1) / 512)) ≡ false
+        way : (i depth index : ℕ) → IsLoose image in_snapshot (length (root_path_now image (suc i)) - 1) (tree_path (heights_now image 0) (suc i) depth index) → is_in_snapshot_at image in_snapshot (digits (heights_now image 0) ((8 * suc i + 1) / 512)) ≡ false
         way i depth index is =
             let whole : length (inode_path (heights_now image 0) (suc i) 1 ++ []) ≡ length (inode_path (heights_now image 0) (suc i) 1) + 0 = length-append (inode_path (heights_now image 0) (suc i) 1) [] in
             let long : length (inode_path (heights_now image 0) (suc i) 1) ≡ suc (heights_now image 0) = length-digits (suc (heights_now image 0)) (8 * suc i + 1) in
             let short : length (digits (heights_now image 0) ((8 * suc i + 1) / 512)) ≡ heights_now image 0 = length-digits (heights_now image 0) ((8 * suc i + 1) / 512) in
-            loose-front image kept (length (root_path_now image (suc i)) - 1) (digits (heights_now image 0) ((8 * suc i + 1) / 512)) ((8 * suc i + 1) % 512) (digits depth index) (omega (arith, whole, long, short))
-            (subst (IsLoose image kept (length (root_path_now image (suc i)) - 1)) (append_assoc (digits (heights_now image 0) ((8 * suc i + 1) / 512)) ((8 * suc i + 1) % 512 ∷ []) (digits depth index)) is)
+            loose-front image in_snapshot (length (root_path_now image (suc i)) - 1) (digits (heights_now image 0) ((8 * suc i + 1) / 512)) ((8 * suc i + 1) % 512) (digits depth index) (omega (arith, whole, long, short))
+            (subst (IsLoose image in_snapshot (length (root_path_now image (suc i)) - 1)) (append_assoc (digits (heights_now image 0) ((8 * suc i + 1) / 512)) ((8 * suc i + 1) % 512 ∷ []) (digits depth index)) is)
 
-        either : (i : ℕ) (b : Bool) → IsLoose image kept (length (root_path_now image (suc i)) - 1) (if b then tree_path (heights_now image 0) (suc i) (suc (heights_now image (suc i))) (size_of image (suc i) / 8) else root_path_now image (suc i)) →
-            is_kept_at image kept (digits (heights_now image 0) ((8 * suc i + 1) / 512)) ≡ false
+        either : (i : ℕ) (b : Bool) → IsLoose image in_snapshot (length (root_path_now image (suc i)) - 1) (if b then tree_path (heights_now image 0) (suc i) (suc (heights_now image (suc i))) (size_of image (suc i) / 8) else root_path_now image (suc i)) →
+            is_in_snapshot_at image in_snapshot (digits (heights_now image 0) ((8 * suc i + 1) / 512)) ≡ false
         either i true is = way i (suc (heights_now image (suc i))) (size_of image (suc i) / 8) is
         either i false is = way i 0 0 is
 
-        front : (u : ℕ) → u ≢ 0 → IsLoose image kept (length (root_path_now image u) - 1) (end_path_now image u) → is_kept_at image kept (digits (heights_now image 0) ((8 * u + 1) / 512)) ≡ false
+        front : (u : ℕ) → u ≢ 0 → IsLoose image in_snapshot (length (root_path_now image u) - 1) (end_path_now image u) → is_in_snapshot_at image in_snapshot (digits (heights_now image 0) ((8 * u + 1) / 512)) ≡ false
         front zero some is = absurd (some refl)
         front (suc i) some is = either i (nat_lt 0 (size_of image (suc i)) && nat_lt (size_of image (suc i)) (span (heights_now image (suc i)))) is
 
     -- so that with its root word
-    loose_root : (place : ℕ) → t ≢ 0 → RootPlace image t place → kept (place / 512) ≡ false
+    loose_root : (place : ℕ) → t ≢ 0 → RootPlace image t place → in_snapshot (place / 512) ≡ false
     loose_root place some (top none two) = absurd (some none)
     loose_root place some (inode also stands) =
         let at : node image (root_of image 0) (heights_now image 0) ((8 * t + 1) / 512) ≡ place / 512 = omega (arith, stands.at) in
-        subst (λ b. kept b ≡ false) at (loose_inode some)
+        subst (λ b. in_snapshot b ≡ false) at (loose_inode some)
 
     -- so a preparation may store there
-    pub loose_end : HasLooseEnd image kept t
+    pub loose_end : HasLooseEnd image in_snapshot t
     loose_end = record { nodes = loose_node; root = λ place at some. loose_root place some at }

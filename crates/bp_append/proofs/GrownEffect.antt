@@ -20,8 +20,8 @@ use Rattle.pm_region.specs.Memory.{Memory, current_words}
 use Rattle.bp_append.proofs.GrowsTree.{OnlyGrows, GrowsTree, can_resize, committed, wf_mid}
 use Rattle.bp_append.proofs.OtherTrees.{other_block_back, other_block_on}
 
-module _ (kept : ℕ → Bool) (old middle new : Memory) (free_old free_new : List ℕ) (path : WordPath) (n from to place : ℕ) (bytes : List ℕ)
-    (grows : GrowsTree kept old middle new free_old free_new path n from to place bytes) (change : Change)
+module _ (in_snapshot : ℕ → Bool) (old middle new : Memory) (free_old free_new : List ℕ) (path : WordPath) (n from to place : ℕ) (bytes : List ℕ)
+    (grows : GrowsTree in_snapshot old middle new free_old free_new path n from to place bytes) (change : Change)
     (only : OnlyGrows (current_words old) change (suc n) from to) where
   abbrev image : Image
   image = current_words old
@@ -33,13 +33,13 @@ module _ (kept : ℕ → Bool) (old middle new : Memory) (free_old free_new : Li
   last = set (current_words middle) place to
 
   is_last : current_words new ≡ last
-  is_last = committed kept old middle new free_old free_new path n from to place bytes grows change only
+  is_last = committed in_snapshot old middle new free_old free_new path n from to place bytes grows change only
 
   wf : IsWellFormed mid
-  wf = wf_mid kept old middle new free_old free_new path n from to place bytes grows change only
+  wf = wf_mid in_snapshot old middle new free_old free_new path n from to place bytes grows change only
 
   can : CanResize mid n to place
-  can = can_resize kept old middle new free_old free_new path n from to place bytes grows change only
+  can = can_resize in_snapshot old middle new free_old free_new path n from to place bytes grows change only
 
   resized : ChangesFile mid last (suc n)
   resized = resize_changes mid wf n to place can

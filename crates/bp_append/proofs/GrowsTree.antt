@@ -41,11 +41,11 @@ pub record OnlyGrows (image : Image) (change : Change) (t from to : ℕ) : Type 
   pub touches : touched image change ≡ inode_word_path image change t 2 ∷ []
 
 -- The tree of a file is prepared, and then its size word, which stands at a place, is stored alone in its epoch.
-pub record GrowsTree (kept : ℕ → Bool) (old middle new : Memory) (free_old free_new : List ℕ) (path : WordPath) (n from to place : ℕ) (bytes : List ℕ) : Type 0 where
-  pub can : CanPrepare kept old free_old (suc n) path from to
+pub record GrowsTree (in_snapshot : ℕ → Bool) (old middle new : Memory) (free_old free_new : List ℕ) (path : WordPath) (n from to place : ℕ) (bytes : List ℕ) : Type 0 where
+  pub can : CanPrepare in_snapshot old free_old (suc n) path from to
   pub is_file : kind_of (current_words old) (suc n) ≡ 1
   pub stands : ContentStandsAt (current_words old) 0 (8 * suc n + 2) place
-  pub prepared : PreparesWith kept old middle free_old free_new (suc n) from to bytes
+  pub prepared : PreparesWith in_snapshot old middle free_old free_new (suc n) from to bytes
   pub stored : Adds middle new (commit place to)
 
 -- ---- what such a change touches and needs
@@ -80,8 +80,8 @@ module _ (image : Image) (change : Change) (n from to : ℕ) (wf : IsWellFormed 
 
 -- ---- a call that does just this
 
-module _ (kept : ℕ → Bool) (old middle new : Memory) (free_old free_new : List ℕ) (path : WordPath) (n from to place : ℕ) (bytes : List ℕ)
-    (grows : GrowsTree kept old middle new free_old free_new path n from to place bytes) (change : Change)
+module _ (in_snapshot : ℕ → Bool) (old middle new : Memory) (free_old free_new : List ℕ) (path : WordPath) (n from to place : ℕ) (bytes : List ℕ)
+    (grows : GrowsTree in_snapshot old middle new free_old free_new path n from to place bytes) (change : Change)
     (only : OnlyGrows (current_words old) change (suc n) from to) where
   abbrev image : Image
   image = current_words old
@@ -169,15 +169,15 @@ module _ (kept : ℕ → Bool) (old middle new : Memory) (free_old free_new : Li
       let row : (8 * suc n + 1) / 512 ≡ (8 * suc n + 2) / 512 = omega arith in
       inode not_inodes (record { present = λ null. grows.stands.present (ap (node image (root_of image 0) (height_of (root_of image 0))) (sym row) ∙ null); at = at })
 
-  loose_place : kept (place / 512) ≡ false
+  loose_place : in_snapshot (place / 512) ≡ false
   loose_place =
       let row : (8 * suc n + 1) / 512 ≡ (8 * suc n + 2) / 512 = omega arith in
       let block : node image (root_of image 0) (height_of (root_of image 0)) ((8 * suc n + 1) / 512) ≡ place / 512 = ap (node image (root_of image 0) (height_of (root_of image 0))) row ∙ omega (arith, grows.stands.at) in
       let root_at : ℕ = 512 * node image (root_of image 0) (height_of (root_of image 0)) ((8 * suc n + 1) / 512) + (8 * suc n + 1) % 512 in
       let same : (512 * node image (root_of image 0) (height_of (root_of image 0)) ((8 * suc n + 1) / 512) + (8 * suc n + 1) % 512) / 512 ≡ place / 512 = omega (arith, block) in
-      subst (λ b. kept b ≡ false) same (grows.can.loose.root root_at (root_beside root_at refl) not_inodes)
+      subst (λ b. in_snapshot b ≡ false) same (grows.can.loose.root root_at (root_beside root_at refl) not_inodes)
 
-  open_place : IsOpen image kept grows.prepared.taken place
+  open_place : IsOpen image in_snapshot grows.prepared.taken place
   open_place =
       let here : node image (root_of image 0) (height_of (root_of image 0)) ((8 * suc n + 2) / 512) ≡ place / 512 = omega (arith, grows.stands.at) in
       in_live (record {
@@ -197,7 +197,7 @@ module _ (kept : ℕ → Bool) (old middle new : Memory) (free_old free_new : Li
   grown_size = rw committed (size_here mid wf_mid n to place can_resize)
 
   -- whatever the call does besides
-  pub grown_performs : (Effect : Image → Image → Type 0) → Effect (current_words old) (current_words new) → PerformsThawed kept old new change Effect
+  pub grown_performs : (Effect : Image → Image → Type 0) → Effect (current_words old) (current_words new) → PerformsThawed in_snapshot old new change Effect
   grown_performs Effect effect =
-      performs_word kept old new change Effect middle place to 2 (prep_stores (size_of image (suc n)) from to (need_for image (suc n) from to)) grows.prepared.taken grows.prepared.adds grows.stored (sym at_cover)
+      performs_word in_snapshot old new change Effect middle place to 2 (prep_stores (size_of image (suc n)) from to (need_for image (suc n) from to)) grows.prepared.taken grows.prepared.adds grows.stored (sym at_cover)
       (omega arith) few (grows.prepared.counted ∙ sym grown_need) open_place (rw committed (changed.well_formed-same mid (set mid place to) (suc n) wf_mid (resize_changes mid wf_mid n to place can_resize))) effect

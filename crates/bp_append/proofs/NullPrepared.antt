@@ -42,8 +42,8 @@ full_by_words old wf t reached (inr kind) = wf.full_directories t reached kind
 
 -- ---- a tree that had no blocks
 
-module _ (kept : ℕ → Bool) (first new : Memory) (free_old free_new : List ℕ) (t place from to : ℕ) (path raw : List ℕ)
-    (can : CanPrepare kept first free_old t path from to) (at : RootPlace (current_words first) t place)
+module _ (in_snapshot : ℕ → Bool) (first new : Memory) (free_old free_new : List ℕ) (t place from to : ℕ) (path raw : List ℕ)
+    (can : CanPrepare in_snapshot first free_old t path from to) (at : RootPlace (current_words first) t place)
     (makes : Makes first new free_old free_new place (root_of (current_words first) t) (size_of (current_words first) t) from to raw)
     (null : (size_of (current_words first) t ≡ 0) ⊎ (block_of (root_of (current_words first) t) ≡ 0)) where
   abbrev old : Image
@@ -58,11 +58,11 @@ module _ (kept : ℕ → Bool) (first new : Memory) (free_old free_new : List �
   order : size_of old t ≤ to
   order = le_trans can.behind can.order
 
-  taken_are : Each (IsFreeBlock old kept) made.taken
+  taken_are : Each (IsFreeBlock old in_snapshot) made.taken
   taken_are = each_left _ made.taken free_new (rw made.takes at can.are_free)
 
   taken_free : Each (λ b. IsLiveBlock old b → ⊥) made.taken
-  taken_free = not_live old kept made.taken taken_are
+  taken_free = not_live old in_snapshot made.taken taken_are
 
   usable : IsUsable (length first.base / 512) made.taken
   usable = usable_left (length first.base / 512) free_old made.taken free_new made.takes can.usable
@@ -125,19 +125,19 @@ module _ (kept : ℕ → Bool) (first new : Memory) (free_old free_new : List �
         (built_reads (IsReadByWords middle t) middle (size_of old t) to (root_of old t) makes.top (given_at from raw 0) made.taken (from ≡ 0)
         (λ by. none_below (by_old old middle t meaning can.reached by)) order null made.tree (free_middle made.taken taken_free)
         (λ i low. given-before from raw (0 + i) (omega (arith, low, can.behind)))
-        (rw (made.height, version_stays old middle meaning.trees.marked) (tall_most (version_of old) (root_of old t) (size_of old t) to (can.well.low t can.reached) can.fits)));
+        (rw (made.height, version_stays old middle meaning.trees.has_magic) (tall_most (version_of old) (root_of old t) (size_of old t) to (can.well.low t can.reached) can.fits)));
     sizes = λ u r. size-same old middle can.well agrees u r;
     roots = λ u r away. roots_stay u r;
   }
 
-  pub null_prepared : PreparesWith kept first new free_old free_new t from to raw
+  pub null_prepared : PreparesWith in_snapshot first new free_old free_new t from to raw
   null_prepared = record {
     taken = made.taken;
     takes = made.takes;
     counted = made.counted;
-    adds = epochs_taking kept first makes.between new made.taken (λ w v. InBlocks made.taken w) (512 * length made.taken) ((place, makes.top) ∷ []) can.well made.stores harmless makes.ends
+    adds = epochs_taking in_snapshot first makes.between new made.taken (λ w v. InBlocks made.taken w) (512 * length made.taken) ((place, makes.top) ∷ []) can.well made.stores harmless makes.ends
         (prep_stores (size_of old t) from to (need_for old t from to)) (few _ _ _ made.counted) (any_root_link middle null_ready.well t place makes.top null_ready.reached null_ready.at null_ready.reads)
-        usable.apart taken_are (λ w v m. in_taken m) (open_root old can.well kept t place can.reached at (can.loose.root place at) made.taken, tt);
+        usable.apart taken_are (λ w v m. in_taken m) (open_root old can.well in_snapshot t place can.reached at (can.loose.root place at) made.taken, tt);
     ready = rw (words_new makes.between new ((place, makes.top) ∷ []) makes.ends)
         (prepared old middle can.well t place makes.top from to raw made.taken can.reached at null_ready taken_free (given_at from raw 0) (from ≡ 0)
         (built_as middle makes.top to (given_at from raw 0) (given_at from raw 0) (Has made.taken) (λ b. HasBlock old (root_of old t) (size_of old t) b ⊎ Has made.taken b) (from ≡ 0) (from ≡ 0)

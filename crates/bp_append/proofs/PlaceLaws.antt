@@ -87,7 +87,7 @@ leads_to image (suc i) wf reached = subst (Leads image (suc i)) (sym (append-nil
     at : address image (digits (suc height) number) ≡ 512 * node image (word image 2) height (number / 512) + number % 512
     at = address_from-digits image 2 (word image 2) refl (suc height) number under
 
-pub grow_can : {kept : ℕ → Bool} (memory : Memory) (free : List ℕ) (t : ℕ) (path : WordPath) (from to : ℕ) → CanPrepare kept memory free t path from to → CanGrow memory free (root_of (current_words memory) t) (size_of (current_words memory) t) from to
+pub grow_can : {in_snapshot : ℕ → Bool} (memory : Memory) (free : List ℕ) (t : ℕ) (path : WordPath) (from to : ℕ) → CanPrepare in_snapshot memory free t path from to → CanGrow memory free (root_of (current_words memory) t) (size_of (current_words memory) t) from to
 grow_can memory free t path from to can = record {
   behind = can.behind;
   order = le_trans can.behind can.order;

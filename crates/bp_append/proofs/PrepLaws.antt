@@ -49,14 +49,14 @@ root_block old wf t place reached stands =
           (stands_in_block old 0 (height_of (root_of old 0)) (8 * t + 1) place stands (live_content _ _ (8 * t + 1) (omega (arith, in_file))));
     }
 
--- so a preparation may store to it, where that block is not kept
-pub open_root : (old : Image) → IsWellFormed old → (kept : ℕ → Bool) (t place : ℕ) → IsReached old t → RootPlace old t place → (t ≢ 0 → kept (place / 512) ≡ false) → (taken : List ℕ) → IsOpen old kept taken place
-open_root old wf kept t place reached (top first two) loose taken = at_root two
-open_root old wf kept t place reached (inode some stands) loose taken = in_live (root_block old wf t place reached stands) (loose some)
+-- so a preparation may store to it, where that block is not in the snapshot
+pub open_root : (old : Image) → IsWellFormed old → (in_snapshot : ℕ → Bool) (t place : ℕ) → IsReached old t → RootPlace old t place → (t ≢ 0 → in_snapshot (place / 512) ≡ false) → (taken : List ℕ) → IsOpen old in_snapshot taken place
+open_root old wf in_snapshot t place reached (top first two) loose taken = at_root two
+open_root old wf in_snapshot t place reached (inode some stands) loose taken = in_live (root_block old wf t place reached stands) (loose some)
 
 -- free blocks are not live
-pub not_live : (old : Image) (kept : ℕ → Bool) (blocks : List ℕ) → Each (IsFreeBlock old kept) blocks → Each (λ b. IsLiveBlock old b → ⊥) blocks
-not_live old kept blocks free = each-as (IsFreeBlock old kept) (λ b. IsLiveBlock old b → ⊥) (λ b is. is.free) blocks free
+pub not_live : (old : Image) (in_snapshot : ℕ → Bool) (blocks : List ℕ) → Each (IsFreeBlock old in_snapshot) blocks → Each (λ b. IsLiveBlock old b → ⊥) blocks
+not_live old in_snapshot blocks free = each-as (IsFreeBlock old in_snapshot) (λ b. IsLiveBlock old b → ⊥) (λ b is. is.free) blocks free
 
 -- a word of a free block may be anything
 pub in_free_harmless : (old : Image) → IsWellFormed old → (blocks : List ℕ) → Each (λ b. 1 ≤ b) blocks → Each (λ b. IsLiveBlock old b → ⊥) blocks → (w v : ℕ) → InBlocks blocks w → IsHarmless old w v
@@ -87,14 +87,14 @@ words_new between new links ends =
     ∙ after_changed (current_words between) links
 
 -- Two epochs: stores that nobody sees, into each of the blocks that are taken, and links of which any may be done.
-module _ (kept : ℕ → Bool) (old between new : Memory) (taken : List ℕ) (May : ℕ → ℕ → Type 0) (most : ℕ) (links : List (ℕ × ℕ))
+module _ (in_snapshot : ℕ → Bool) (old between new : Memory) (taken : List ℕ) (May : ℕ → ℕ → Type 0) (most : ℕ) (links : List (ℕ × ℕ))
     (well : IsWellFormed (current_words old)) (stores : AddsInto taken May most old between)
     (harmless : (w v : ℕ) → May w v → IsHarmless (current_words old) w v) (ends : Links between new links) where
   abbrev events : List Event
   events = stores.part.added
 
   abbrev Open : ℕ → Type 0
-  Open = IsOpen (current_words old) kept taken
+  Open = IsOpen (current_words old) in_snapshot taken
 
   -- the links that are stored
   abbrev done : List (ℕ × ℕ)
@@ -106,8 +106,8 @@ module _ (kept : ℕ → Bool) (old between new : Memory) (taken : List ℕ) (Ma
   joined : events ++ (Barrier ∷ epoch_of_links done) ≡ (events ++ Barrier ∷ []) ++ epoch_of_links done
   joined = sym (append_assoc events (Barrier ∷ []) (epoch_of_links done))
 
-  pub epochs_taking : (more : ℕ) → most + length links ≤ more → AnyOf Same (current_words between) (current_words between) links → AreApart taken → Each (IsFreeBlock (current_words old) kept) taken →
-      ((w v : ℕ) → May w v → IsOpen (current_words old) kept taken w) → StoresMay (AnyAt (IsOpen (current_words old) kept taken)) (links_of links) → AddsTaking kept taken 2 more old new
+  pub epochs_taking : (more : ℕ) → most + length links ≤ more → AnyOf Same (current_words between) (current_words between) links → AreApart taken → Each (IsFreeBlock (current_words old) in_snapshot) taken →
+      ((w v : ℕ) → May w v → IsOpen (current_words old) in_snapshot taken w) → StoresMay (AnyAt (IsOpen (current_words old) in_snapshot taken)) (links_of links) → AddsTaking in_snapshot taken 2 more old new
   epochs_taking more few any once free opens open_links = record {
     part = record {
       added = (events ++ Barrier ∷ []) ++ epoch_of_links done;

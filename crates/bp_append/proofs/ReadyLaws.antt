@@ -176,7 +176,7 @@ module _ (old image : Image) (wf : IsWellFormed old) (t place other from to : �
     prepared = record {
       meaning = meaning_last;
       height = rw shape.here height;
-      low = rw (shape.here, version_stays old last meaning_last.trees.marked, height) (tall_most (version_of old) (root_of old t) (size_of old t) to (wf.low t reached) fits);
+      low = rw (shape.here, version_stays old last meaning_last.trees.has_magic, height) (tall_most (version_of old) (root_of old t) (size_of old t) to (wf.low t reached) fits);
       kept = λ o low. rw shape.here (tree_last.bytes_are o (lt_of_lt_of_le low order) ∙ kept o low);
       bytes_are = λ o above below. rw shape.here (tree_last.bytes_are o below ∙ behind o above below);
       sound = rw shape.here tree_last.sound;

@@ -30,17 +30,17 @@ use Rattle.bp_append.proofs.PrepLaws.{open_root, not_live, in_free_harmless, no_
 use Rattle.bp_append.proofs.EndWays.{behind_within}
 
 -- a tree with blocks that can be prepared has grown as it is to
-pub record HasGrown (kept : ℕ → Bool) (first new : Memory) (free_old free_new : List ℕ) (t place from to : ℕ) (path raw : List ℕ) : Type 0 where
-  pub can : CanPrepare kept first free_old t path from to
+pub record HasGrown (in_snapshot : ℕ → Bool) (first new : Memory) (free_old free_new : List ℕ) (t place from to : ℕ) (path raw : List ℕ) : Type 0 where
+  pub can : CanPrepare in_snapshot first free_old t path from to
   pub at : RootPlace (current_words first) t place
   pub grows : Grows first new free_old free_new place (root_of (current_words first) t) (size_of (current_words first) t) from to raw
   pub some : 0 < size_of (current_words first) t
   pub present : 1 ≤ block_of (root_of (current_words first) t)
 
-pub has_grown : {kept : ℕ → Bool} {first new : Memory} {free_old free_new : List ℕ} {t place from to : ℕ} {path raw : List ℕ} →
-    CanPrepare kept first free_old t path from to → RootPlace (current_words first) t place →
+pub has_grown : {in_snapshot : ℕ → Bool} {first new : Memory} {free_old free_new : List ℕ} {t place from to : ℕ} {path raw : List ℕ} →
+    CanPrepare in_snapshot first free_old t path from to → RootPlace (current_words first) t place →
     Grows first new free_old free_new place (root_of (current_words first) t) (size_of (current_words first) t) from to raw →
-    0 < size_of (current_words first) t → 1 ≤ block_of (root_of (current_words first) t) → HasGrown kept first new free_old free_new t place from to path raw
+    0 < size_of (current_words first) t → 1 ≤ block_of (root_of (current_words first) t) → HasGrown in_snapshot first new free_old free_new t place from to path raw
 has_grown can at grows some present = record { can = can; at = at; grows = grows; some = some; present = present }
 
 -- what the lemmas about such a tree speak of
@@ -54,8 +54,8 @@ pub record Views : Type 0 where
   -- the blocks that it took
   pub taken : List ℕ
 
-module _ {kept : ℕ → Bool} {first new : Memory} {free_old free_new : List ℕ} {t place from to : ℕ} {path raw : List ℕ}
-    (ready : HasGrown kept first new free_old free_new t place from to path raw) where
+module _ {in_snapshot : ℕ → Bool} {first new : Memory} {free_old free_new : List ℕ} {t place from to : ℕ} {path raw : List ℕ}
+    (ready : HasGrown in_snapshot first new free_old free_new t place from to path raw) where
   open ready use {can, at, grows}
 
   abbrev pub views : Views
@@ -72,14 +72,14 @@ module _ {kept : ℕ → Bool} {first new : Memory} {free_old free_new : List �
   pub order : size_of old t ≤ to
   order = le_trans can.behind can.order
 
-  pub taken_are : Each (IsFreeBlock old kept) taken
+  pub taken_are : Each (IsFreeBlock old in_snapshot) taken
   taken_are = each_left _ taken free_new (rw grows.takes at can.are_free)
 
   pub taken_free : Each (λ b. IsLiveBlock old b → ⊥) taken
-  taken_free = not_live old kept taken taken_are
+  taken_free = not_live old in_snapshot taken taken_are
 
-  pub open_place : IsOpen old kept taken place
-  open_place = open_root old can.well kept t place can.reached at (can.loose.root place at) taken
+  pub open_place : IsOpen old in_snapshot taken place
+  open_place = open_root old can.well in_snapshot t place can.reached at (can.loose.root place at) taken
 
   pub usable : IsUsable (length first.base / 512) taken
   usable = usable_left (length first.base / 512) free_old taken free_new grows.takes can.usable
@@ -110,15 +110,15 @@ module _ {kept : ℕ → Bool} {first new : Memory} {free_old free_new : List �
       row : (d i : ℕ) → 512 * node old root d (i / 512) + i % 512 ≡ w → node old root d (i / 512) ≡ w / 512
       row d i e = omega (arith, e)
 
-  -- and has the byte at the size, so it is not kept
-  behind_loose : (w v : ℕ) → IsBehind old root size w v → kept (w / 512) ≡ false
+  -- and has the byte at the size, so it is not in the snapshot
+  behind_loose : (w v : ℕ) → IsBehind old root size w v → in_snapshot (w / 512) ≡ false
   behind_loose w v behind =
       let high : size_of old t < behind.index / 512 * span behind.parent.level + span behind.parent.level =
       behind_within root size behind.depth behind.index behind.parent.level behind.parent.height behind.no_pointer behind.ends in
       let row : node old root behind.depth (behind.index / 512) ≡ w / 512 = omega (arith, behind.at) in
-      subst (λ b. kept b ≡ false) row (can.loose.nodes behind.depth (behind.index / 512) behind.parent behind.present high)
+      subst (λ b. in_snapshot b ≡ false) row (can.loose.nodes behind.depth (behind.index / 512) behind.parent behind.present high)
 
-  pub opens : (w v : ℕ) → May w v → IsOpen old kept taken w
+  pub opens : (w v : ℕ) → May w v → IsOpen old in_snapshot taken w
   opens w v (inl own) = in_taken own
   opens w v (inr behind) = in_live (record { tree = t; reached = can.reached; has = behind_block w v behind }) (behind_loose w v behind)
 
@@ -157,7 +157,7 @@ module _ {kept : ℕ → Bool} {first new : Memory} {free_old free_new : List �
   chain_there = record {
     low =
         let most = tall_most (version_of old) root size to (can.well.low t can.reached) can.fits in
-        rw (roots, version_stays old middle meaning.trees.marked) (omega (arith, grows.tall, most));
+        rw (roots, version_stays old middle meaning.trees.has_magic) (omega (arith, grows.tall, most));
     in_range = each-of _ grows.chain (λ b m.
         let low = each-has (λ c. c < length first.base / 512) taken b usable.high (in_taken_chain b m) in
         omega (arith, low, agrees.whole, length-current_words first));

@@ -29,8 +29,8 @@ use Rattle.bp_append.proofs.TwoLinks as two
 use Rattle.bp_append.proofs.EndWays.{slot_within}
 use Rattle.bp_append.proofs.TreeGrown.{HasGrown, views, order, agrees, sizes, roots_stay, roots, meaning, well, there, place_there, free_there, chain_there, fresh}
 
-module _ {kept : ℕ → Bool} {first new : Memory} {free_old free_new : List ℕ} {t place from to : ℕ} {path raw : List ℕ}
-    (ready : HasGrown kept first new free_old free_new t place from to path raw) where
+module _ {in_snapshot : ℕ → Bool} {first new : Memory} {free_old free_new : List ℕ} {t place from to : ℕ} {path raw : List ℕ}
+    (ready : HasGrown in_snapshot first new free_old free_new t place from to path raw) where
   open ready use {can, at, grows}
   open (views ready) use {old, middle, root, size, taken}
 
@@ -78,7 +78,7 @@ module _ {kept : ℕ → Bool} {first new : Memory} {free_old free_new : List �
     root_now = root_of middle t
 
     -- the node gets a pointer to bytes that are wanted, so it has the byte at the size
-    pub hung_loose : kept (hung_place / 512) ≡ false
+    pub hung_loose : in_snapshot (hung_place / 512) ≡ false
     hung_loose =
         let word = live_pointer_word _ _ (suc hangs.depth) hangs.index hangs.live in
         let parent : IsLivePointer root size hangs.depth (hangs.index / 512) = live_above _ _ hangs.depth hangs.index word in
@@ -89,7 +89,7 @@ module _ {kept : ℕ → Bool} {first new : Memory} {free_old free_new : List �
         subst (λ l. size_of old t < hangs.index / 512 * span l + span l) same
         (lt_of_lt_of_le (omega (arith, behind, wanted)) (slot_within hangs.index level)) in
         let row : node old root hangs.depth (hangs.index / 512) ≡ hung_place / 512 = omega (arith, hangs.at) in
-        subst (λ b. kept b ≡ false) row (can.loose.nodes hangs.depth (hangs.index / 512) parent hangs.present high)
+        subst (λ b. in_snapshot b ≡ false) row (can.loose.nodes hangs.depth (hangs.index / 512) parent hangs.present high)
 
     pub pointer_is : 4096 * block ≡ pointer
     pointer_is = omega (arith, hangs.bits)

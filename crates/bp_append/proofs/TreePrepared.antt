@@ -38,8 +38,8 @@ use Rattle.bp_append.proofs.NullPrepared.{full_by_words}
 use Rattle.bp_append.proofs.TreeGrown.{HasGrown, views, order, taken_are, taken_free, open_place, usable, May, harmless, agrees, behind_block, opens, roots, well, there, place_there, in_taken_chain}
 use Rattle.bp_append.proofs.TreeHung.{reads_alone, ready_alone, hung_loose, pointer_is, any_both, ready_hung}
 
-module _ {kept : ℕ → Bool} {first new : Memory} {free_old free_new : List ℕ} {t place from to : ℕ} {path raw : List ℕ}
-    (ready : HasGrown kept first new free_old free_new t place from to path raw) where
+module _ {in_snapshot : ℕ → Bool} {first new : Memory} {free_old free_new : List ℕ} {t place from to : ℕ} {path raw : List ℕ}
+    (ready : HasGrown in_snapshot first new free_old free_new t place from to path raw) where
   open ready use {can, at, grows}
   open (views ready) use {old, middle, root, size, taken}
 
@@ -82,14 +82,14 @@ module _ {kept : ℕ → Bool} {first new : Memory} {free_old free_new : List �
       go (no_link e) = few [] e (omega arith)
       go (one_link hung_place pointer e hangs part) = few ((hung_place, pointer) ∷ []) e (omega arith)
 
-  open_links : StoresMay (AnyAt (IsOpen old kept taken)) (links_of all_links)
+  open_links : StoresMay (AnyAt (IsOpen old in_snapshot taken)) (links_of all_links)
   open_links = go grows.hung
     where
-      opened : (links : List (ℕ × ℕ)) → grows.links ≡ links → StoresMay (AnyAt (IsOpen old kept taken)) (links_of (links ++ (place, top) ∷ [])) →
-          StoresMay (AnyAt (IsOpen old kept taken)) (links_of all_links)
-      opened links e may = subst (λ (l : List (ℕ × ℕ)). StoresMay (AnyAt (IsOpen old kept taken)) (links_of (l ++ (place, top) ∷ []))) (sym e) may
+      opened : (links : List (ℕ × ℕ)) → grows.links ≡ links → StoresMay (AnyAt (IsOpen old in_snapshot taken)) (links_of (links ++ (place, top) ∷ [])) →
+          StoresMay (AnyAt (IsOpen old in_snapshot taken)) (links_of all_links)
+      opened links e may = subst (λ (l : List (ℕ × ℕ)). StoresMay (AnyAt (IsOpen old in_snapshot taken)) (links_of (l ++ (place, top) ∷ []))) (sym e) may
 
-      go : Waiting → StoresMay (AnyAt (IsOpen old kept taken)) (links_of all_links)
+      go : Waiting → StoresMay (AnyAt (IsOpen old in_snapshot taken)) (links_of all_links)
       go (no_link e) = opened [] e (open_place ready, tt)
       go (one_link hung_place pointer e hangs part) =
           opened ((hung_place, pointer) ∷ []) e
@@ -205,12 +205,12 @@ module _ {kept : ℕ → Bool} {first new : Memory} {free_old free_new : List �
       ∙ node-raised_by last root grows.chain size (can.well.sound t can.reached).fits few (lead_kept middle last root grows.chain chain_slot grows.down) d k live
       ∙ old_node d k live present
 
-  pub tree_prepared : PreparesWith kept first new free_old free_new t from to raw
+  pub tree_prepared : PreparesWith in_snapshot first new free_old free_new t from to raw
   tree_prepared = record {
     taken = grows.visited ++ grows.raised;
     takes = grows.takes;
     counted = grows.counted;
-    adds = epochs_taking kept first grows.between new taken (May ready) _ all_links can.well grows.stores (harmless ready) grows.ends
+    adds = epochs_taking in_snapshot first grows.between new taken (May ready) _ all_links can.well grows.stores (harmless ready) grows.ends
         (prep_stores size from to (need_for old t from to)) (few _ _ _ _ grows.counted few_links) any_links (usable ready).apart (taken_are ready) (opens ready) open_links;
     ready = rw words_last
         (prepared old linked can.well t place top from to raw taken can.reached at ready_links (taken_free ready)

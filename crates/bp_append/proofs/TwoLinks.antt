@@ -89,7 +89,7 @@ module _ (old : Image) (wf : IsWellFormed old) (t d k place block : ℕ) (hang :
 
   chain_middle : IsChain middle (root_of old t) blocks
   chain_middle = record {
-    low = rw (version_stays old middle reshapes.marked) chain.low;
+    low = rw (version_stays old middle reshapes.has_magic) chain.low;
     in_range = in_range blocks chain.in_range;
     not_null = chain.not_null;
     free = all_free blocks chain.free fresh_middle;

@@ -16,7 +16,7 @@ use Rattle.bp_changes.specs.SameMeaning.{SameMeaning}
 use Rattle.pm_region.specs.Memory.{Memory, current_words, room_in}
 use Rattle.bp_free.specs.Set.{members}
 use Rattle.bp_free.specs.declared.parts.Parts.{Parts}
-use Rattle.bp_shapes.specs.Sets.{kept_of}
+use Rattle.bp_shapes.specs.Sets.{in_snapshot_of}
 use Rattle.bp_commit.specs.Performs.{AddsTaking}
 use Rattle.bp_append.specs.Stores.{prep_stores, room_behind}
 use Rattle.bp_append.specs.Given.{given}
@@ -26,18 +26,18 @@ use Rattle.bp_append.specs.Filled.{IsUsable}
 abbrev pub need_for : Image → ℕ → ℕ → ℕ → ℕ
 need_for image t from to = length (nodes_for image (root_of image t) (size_of image t) from to)
 
--- No node of tree t on the way to the byte at its size is kept, and neither is the block of its root word. Apart from
--- new blocks, a preparation of the tree stores only to these blocks.
-pub record HasLooseEnd (image : Image) (kept : ℕ → Bool) (t : ℕ) : Type 0 where
+-- No node of tree t on the way to the byte at its size is in the snapshot, and neither is the block of its root word.
+-- Apart from new blocks, a preparation of the tree stores only to these blocks.
+pub record HasLooseEnd (image : Image) (in_snapshot : ℕ → Bool) (t : ℕ) : Type 0 where
   pub nodes : (d k : ℕ) → (live : IsLivePointer (root_of image t) (size_of image t) d k)
       → node image (root_of image t) d k ≢ 0 → size_of image t < k * span live.level + span live.level
-      → kept (node image (root_of image t) d k) ≡ false
-  pub root : (place : ℕ) → RootPlace image t place → t ≢ 0 → kept (place / block_words) ≡ false
+      → in_snapshot (node image (root_of image t) d k) ≡ false
+  pub root : (place : ℕ) → RootPlace image t place → t ≢ 0 → in_snapshot (place / block_words) ≡ false
 
 -- The condition of a preparation. The image is well formed and reaches tree t, and the path is that of its root word.
 -- The bytes are past the tree's size; for the inode file and directories they start at the size. The free blocks are
--- enough, and the log has room. The tree's blocks that are stored to are not kept.
-pub record CanPrepare (kept : ℕ → Bool) (memory : Memory) (free : List ℕ) (t : ℕ) (path : WordPath)
+-- enough, and the log has room. The tree's blocks that are stored to are not in the snapshot.
+pub record CanPrepare (in_snapshot : ℕ → Bool) (memory : Memory) (free : List ℕ) (t : ℕ) (path : WordPath)
     (from to : ℕ) : Type 0 where
   pub well : IsWellFormed (current_words memory)
   pub reached : IsReached (current_words memory) t
@@ -47,8 +47,8 @@ pub record CanPrepare (kept : ℕ → Bool) (memory : Memory) (free : List ℕ) 
   pub fits : to ≤ greatest_size (version_of (current_words memory))
   pub by_words : IsReadByWords (current_words memory) t → from ≡ size_of (current_words memory) t
   pub usable : IsUsable (length memory.base / block_words) free
-  pub are_free : Each (IsFreeBlock (current_words memory) kept) free
-  pub loose : HasLooseEnd (current_words memory) kept t
+  pub are_free : Each (IsFreeBlock (current_words memory) in_snapshot) free
+  pub loose : HasLooseEnd (current_words memory) in_snapshot t
   pub enough : need_for (current_words memory) t from to ≤ length free
   pub room : block_words * need_for (current_words memory) t from to
       + room_behind (size_of (current_words memory) t) from to max_height + 4 ≤ room_in memory
@@ -80,12 +80,12 @@ pub record Prepares (old new : Image) (t from to : ℕ) (bytes taken : List ℕ)
 
 -- The effect of a preparation. It takes the first of the free blocks, as many as needed. At each crash point the
 -- meaning of the image is unchanged. Each taken block gets a store, and no other free block does.
-pub record PreparesWith (kept : ℕ → Bool) (old new : Memory) (free_old free_new : List ℕ) (t from to : ℕ)
+pub record PreparesWith (in_snapshot : ℕ → Bool) (old new : Memory) (free_old free_new : List ℕ) (t from to : ℕ)
     (bytes : List ℕ) : Type 0 where
   pub taken : List ℕ
   pub takes : free_old ≡ taken ++ free_new
   pub counted : length taken ≡ need_for (current_words old) t from to
-  pub adds : AddsTaking kept taken 2 (prep_stores (size_of (current_words old) t) from to
+  pub adds : AddsTaking in_snapshot taken 2 (prep_stores (size_of (current_words old) t) from to
       (need_for (current_words old) t from to)) old new
   pub ready : Prepares (current_words old) (current_words new) t from to bytes taken
 
@@ -94,11 +94,11 @@ pub record PreparesWith (kept : ℕ → Bool) (old new : Memory) (free_old free_
 -- the path is that of the root word of a tree that can be prepared
 abbrev pub IsPreparable : {R : Type 0} → (R → Memory) → Parts R → WordPath → ℕ → ℕ → Type 0
 IsPreparable memory parts path from to =
-    (t : ℕ) × CanPrepare (kept_of parts) (memory parts.region) (members parts.blocks) t path from to
+    (t : ℕ) × CanPrepare (in_snapshot_of parts) (memory parts.region) (members parts.free_blocks) t path from to
 
 -- the tree to whose root word the path leads is prepared
 abbrev pub PreparesAt : {R : Type 0} → (R → Memory) → Parts R → Parts R → WordPath → ℕ → ℕ → List ℕ → Type 0
 PreparesAt memory old new path from to bytes =
-    (t : ℕ) → CanPrepare (kept_of old) (memory old.region) (members old.blocks) t path from to
-    → PreparesWith (kept_of old) (memory old.region) (memory new.region) (members old.blocks)
-    (members new.blocks) t from to bytes
+    (t : ℕ) → CanPrepare (in_snapshot_of old) (memory old.region) (members old.free_blocks) t path from to
+    → PreparesWith (in_snapshot_of old) (memory old.region) (memory new.region) (members old.free_blocks)
+    (members new.free_blocks) t from to bytes

@@ -54,14 +54,14 @@ pub sized_word : (image : Image) (i end : ℕ) (path : ArrayVec ℕ) → path.it
 sized_word image i end path is = record { path = ap (λ (p : List ℕ). p ∷ []) is; value = refl }
 
 -- a plan has the inode, the offset and the bytes of its write
-module _ {image : Image} {i off : ℕ} {bytes : List ℕ} {plan : Plan} (is : IsPlanFor image i off bytes plan) where
-  pub of_plan : (P : ℕ → ℕ → List ℕ → Type 0) → P i off bytes → P plan.inode plan.off plan.bytes.now
+module _ {image : Image} {i offset : ℕ} {bytes : List ℕ} {plan : Plan} (is : IsPlanFor image i offset bytes plan) where
+  pub of_plan : (P : ℕ → ℕ → List ℕ → Type 0) → P i offset bytes → P plan.inode plan.offset plan.bytes.now
   of_plan P here =
-      subst (λ j. P j plan.off plan.bytes.now) (sym is.inode)
-      (subst (λ o. P i o plan.bytes.now) (sym is.from) (subst (P i off) (sym is.bytes_are) here))
+      subst (λ j. P j plan.offset plan.bytes.now) (sym is.inode)
+      (subst (λ o. P i o plan.bytes.now) (sym is.from) (subst (P i offset) (sym is.bytes_are) here))
 
-  pub from_plan : (P : ℕ → ℕ → List ℕ → Type 0) → P plan.inode plan.off plan.bytes.now → P i off bytes
-  from_plan P here = subst (P i off) is.bytes_are (subst (λ o. P i o plan.bytes.now) is.from (subst (λ j. P j plan.off plan.bytes.now) is.inode here))
+  pub from_plan : (P : ℕ → ℕ → List ℕ → Type 0) → P plan.inode plan.offset plan.bytes.now → P i offset bytes
+  from_plan P here = subst (P i offset) is.bytes_are (subst (λ o. P i o plan.bytes.now) is.from (subst (λ j. P j plan.offset plan.bytes.now) is.inode here))
 
   -- its root word is that of the file's tree
   pub root_planned : plan.tree.root ≡ root_of image plan.inode
@@ -72,9 +72,9 @@ module _ {image : Image} {i off : ℕ} {bytes : List ℕ} {plan : Plan} (is : Is
   size_planned = is.size ∙ ap (size_of image) (sym is.inode)
 
   -- what is touched for the write is touched for the plan
-  pub across_planned : {kept : ℕ → Bool} {old : Memory} {blocks inodes : Set} {touched : Touched}
-      → WritesAcross kept old blocks inodes i off bytes touched → WritesAcross kept old blocks inodes plan.inode plan.off plan.bytes.now touched
-  across_planned {kept} {old} {blocks} {inodes} {touched} = of_plan (λ j o (bs : List ℕ). WritesAcross kept old blocks inodes j o bs touched)
+  pub across_planned : {in_snapshot : ℕ → Bool} {old : Memory} {blocks inodes : Set} {touched : Touched}
+      → WritesAcross in_snapshot old blocks inodes i offset bytes touched → WritesAcross in_snapshot old blocks inodes plan.inode plan.offset plan.bytes.now touched
+  across_planned {in_snapshot} {old} {blocks} {inodes} {touched} = of_plan (λ j o (bs : List ℕ). WritesAcross in_snapshot old blocks inodes j o bs touched)
 
 -- the nodes that are made, by the root word and the size that were read
 abbrev made_for : Image → ℕ → ℕ → ℕ → ℕ
@@ -84,24 +84,24 @@ made_is : (image : Image) (end i root size : ℕ) → root ≡ root_of image i �
 made_is image end i root size one two = ap (λ r. made_for image end r size) one ∙ ap (made_for image end (root_of image i)) two
 
 -- the preparation, told at the size of the file
-pub at_prepared : {kept : ℕ → Bool} {old middle : Memory} (blocks after : Set) {i size : ℕ} (off : ℕ) (bytes : List ℕ) {beyond : List ℕ}
-    → PreparesWith kept old middle (members blocks) (members after) i size (off + length bytes) beyond
-    → size ≡ size_of (current_words old) i → beyond ≡ drop (size - off) bytes
-    → PreparesWith kept old middle (members blocks) (members after) i (size_of (current_words old) i) (off + length bytes)
-    (drop (size_of (current_words old) i - off) bytes)
-at_prepared {kept} {old} {middle} blocks after {i} off bytes prepared is split =
-    subst₂ (λ s bs. PreparesWith kept old middle (members blocks) (members after) i s (off + length bytes) bs) is
-    (split ∙ ap (λ s. drop (s - off) bytes) is) prepared
+pub at_prepared : {in_snapshot : ℕ → Bool} {old middle : Memory} (blocks after : Set) {i size : ℕ} (offset : ℕ) (bytes : List ℕ) {beyond : List ℕ}
+    → PreparesWith in_snapshot old middle (members blocks) (members after) i size (offset + length bytes) beyond
+    → size ≡ size_of (current_words old) i → beyond ≡ drop (size - offset) bytes
+    → PreparesWith in_snapshot old middle (members blocks) (members after) i (size_of (current_words old) i) (offset + length bytes)
+    (drop (size_of (current_words old) i - offset) bytes)
+at_prepared {in_snapshot} {old} {middle} blocks after {i} offset bytes prepared is split =
+    subst₂ (λ s bs. PreparesWith in_snapshot old middle (members blocks) (members after) i s (offset + length bytes) bs) is
+    (split ∙ ap (λ s. drop (s - offset) bytes) is) prepared
 
-module _ {kept : ℕ → Bool} {old : Memory} {blocks inodes : Set} {off : ℕ} {bytes : List ℕ} {touched : Touched} where
-  not_inodes : (P : Type 0) → WritesAcross kept old blocks inodes 0 off bytes touched → P
+module _ {in_snapshot : ℕ → Bool} {old : Memory} {blocks inodes : Set} {offset : ℕ} {bytes : List ℕ} {touched : Touched} where
+  not_inodes : (P : Type 0) → WritesAcross in_snapshot old blocks inodes 0 offset bytes touched → P
   not_inodes P across = absurd (omega (arith, across.into.can.file))
 
   -- what is touched for a planned write
-  pub planned_across : (i : ℕ) (plan : Plan) → IsPlanFor (current_words old) i off bytes plan → CanWriteInto kept (current_words old) blocks inodes i off bytes → off < size_of (current_words old) i → size_of (current_words old) i < off + length bytes →
-      touched.words.now ≡ plan.sized ∷ [] → touched.runs.now ≡ plan.run ∷ [] → touched.trees.now ≡ [] → WritesAcross kept old blocks inodes i off bytes touched
+  pub planned_across : (i : ℕ) (plan : Plan) → IsPlanFor (current_words old) i offset bytes plan → CanWriteInto in_snapshot (current_words old) blocks inodes i offset bytes → offset < size_of (current_words old) i → size_of (current_words old) i < offset + length bytes →
+      touched.words.now ≡ plan.sized ∷ [] → touched.runs.now ≡ plan.run ∷ [] → touched.trees.now ≡ [] → WritesAcross in_snapshot old blocks inodes i offset bytes touched
   planned_across i plan is into low past words runs none =
-      let sized : IsSizeWord (current_words old) i (off + length bytes) touched.words.now = subst (λ (ws : List (ArrayVec ℕ × ℕ)). IsSizeWord (current_words old) i (off + length bytes) ws) (sym words) is.sized in
+      let sized : IsSizeWord (current_words old) i (offset + length bytes) touched.words.now = subst (λ (ws : List (ArrayVec ℕ × ℕ)). IsSizeWord (current_words old) i (offset + length bytes) ws) (sym words) is.sized in
       record {
         into = into;
         below = low;
@@ -109,52 +109,52 @@ module _ {kept : ℕ → Bool} {old : Memory} {blocks inodes : Set} {off : ℕ} 
         touches = record { run = plan.run; one = runs; is = is.run; sized = sized.path; value = sized.value; no_trees = none };
       }
 
-  pub at_shape : (i : ℕ) → WritesAcross kept old blocks inodes i off bytes touched → IsTouched touched
+  pub at_shape : (i : ℕ) → WritesAcross in_snapshot old blocks inodes i offset bytes touched → IsTouched touched
   at_shape zero across = not_inodes _ across
-  at_shape (suc n) across = across_shape old blocks inodes n off bytes touched across
+  at_shape (suc n) across = across_shape old blocks inodes n offset bytes touched across
 
-  pub at_inside : (i : ℕ) → WritesAcross kept old blocks inodes i off bytes touched → LeadsInside (current_words old) touched
+  pub at_inside : (i : ℕ) → WritesAcross in_snapshot old blocks inodes i offset bytes touched → LeadsInside (current_words old) touched
   at_inside zero across = not_inodes _ across
-  at_inside (suc n) across = across_inside old blocks inodes n off bytes touched across
+  at_inside (suc n) across = across_inside old blocks inodes n offset bytes touched across
 
-  pub at_apart : (i : ℕ) → WritesAcross kept old blocks inodes i off bytes touched → NoneBegins (all_paths touched)
+  pub at_apart : (i : ℕ) → WritesAcross in_snapshot old blocks inodes i offset bytes touched → NoneBegins (all_paths touched)
   at_apart zero across = not_inodes _ across
-  at_apart (suc n) across = across_apart old blocks inodes n off bytes touched across
+  at_apart (suc n) across = across_apart old blocks inodes n offset bytes touched across
 
-  pub at_few : (i root size : ℕ) → WritesAcross kept old blocks inodes i off bytes touched → root ≡ root_of (current_words old) i → size ≡ size_of (current_words old) i →
-      length (nodes_for (current_words old) root size size (off + length bytes)) + copied_count (current_words old) touched ≤ 320
+  pub at_few : (i root size : ℕ) → WritesAcross in_snapshot old blocks inodes i offset bytes touched → root ≡ root_of (current_words old) i → size ≡ size_of (current_words old) i →
+      length (nodes_for (current_words old) root size size (offset + length bytes)) + copied_count (current_words old) touched ≤ 320
   at_few zero root size across = not_inodes _ across
   at_few (suc n) root size across = λ one two.
-      omega (arith, made_is (current_words old) (off + length bytes) (suc n) root size one two, across_few old blocks inodes n off bytes touched across (current_words old))
+      omega (arith, made_is (current_words old) (offset + length bytes) (suc n) root size one two, across_few old blocks inodes n offset bytes touched across (current_words old))
 
   -- so many are copied, by what was found of the ways
-  pub at_copied : (i copied : ℕ) (found : FoundWays) → WritesAcross kept old blocks inodes i off bytes touched → AreWaysIn (current_words old) touched found → copied ≡ copies_at (job_of touched) found.cover.len →
+  pub at_copied : (i copied : ℕ) (found : FoundWays) → WritesAcross in_snapshot old blocks inodes i offset bytes touched → AreWaysIn (current_words old) touched found → copied ≡ copies_at (job_of touched) found.cover.len →
       copied ≡ copied_count (current_words old) touched
   at_copied i copied found across ways counted = counted ∙ count_is touched (at_shape i across) (current_words old) (at_apart i across) found.cover.len ways.cover.has
 
   -- so many blocks it takes
-  pub at_needs : (i root size made copied : ℕ) → WritesAcross kept old blocks inodes i off bytes touched → root ≡ root_of (current_words old) i → size ≡ size_of (current_words old) i →
-      made ≡ length (nodes_for (current_words old) root size size (off + length bytes)) → copied ≡ copied_count (current_words old) touched → made + copied ≡ need (current_words old) (writes i off (length bytes))
+  pub at_needs : (i root size made copied : ℕ) → WritesAcross in_snapshot old blocks inodes i offset bytes touched → root ≡ root_of (current_words old) i → size ≡ size_of (current_words old) i →
+      made ≡ length (nodes_for (current_words old) root size size (offset + length bytes)) → copied ≡ copied_count (current_words old) touched → made + copied ≡ need (current_words old) (writes i offset (length bytes))
   at_needs zero root size made copied across = not_inodes _ across
   at_needs (suc n) root size made copied across = λ one two counted also.
-      omega (arith, across_needs old blocks inodes n off bytes touched across, made_is (current_words old) (off + length bytes) (suc n) root size one two, counted, also)
+      omega (arith, across_needs old blocks inodes n offset bytes touched across, made_is (current_words old) (offset + length bytes) (suc n) root size one two, counted, also)
 
   -- the ways to the end of the file are loose
-  end_loose : (n : ℕ) → WritesAcross kept old blocks inodes (suc n) off bytes touched → thawed (current_words old) kept (writes (suc n) off (length bytes)) ≡ [] → HasLooseEnd (current_words old) kept (suc n)
+  end_loose : (n : ℕ) → WritesAcross in_snapshot old blocks inodes (suc n) offset bytes touched → thawed (current_words old) in_snapshot (writes (suc n) offset (length bytes)) ≡ [] → HasLooseEnd (current_words old) in_snapshot (suc n)
   end_loose n across clear =
-      loose_end (current_words old) across.into.well_formed kept (suc n) across.into.can.reached
-      (loose-on (current_words old) kept (targets (current_words old) (writes (suc n) off (length bytes))) clear (end_path_now (current_words old) (suc n))
-      (subst (λ ps. Has ps (end_path_now (current_words old) (suc n))) (sym (across_targets (current_words old) across.into.well_formed n across.into.can.reached off (length bytes) across.below across.past)) (inr (inr (inl refl))))
+      loose_end (current_words old) across.into.well_formed in_snapshot (suc n) across.into.can.reached
+      (loose-on (current_words old) in_snapshot (targets (current_words old) (writes (suc n) offset (length bytes))) clear (end_path_now (current_words old) (suc n))
+      (subst (λ ps. Has ps (end_path_now (current_words old) (suc n))) (sym (across_targets (current_words old) across.into.well_formed n across.into.can.reached offset (length bytes) across.below across.past)) (inr (inr (inl refl))))
       (length (root_path_now (current_words old) (suc n)) - 1))
 
-  pub at_prepare : (i size : ℕ) (path : WordPath) → WritesAcross kept old blocks inodes i off bytes touched → thawed (current_words old) kept (writes i off (length bytes)) ≡ [] → HasRoomThawed old blocks (writes i off (length bytes)) →
-      need (current_words old) (writes i off (length bytes)) ≤ length (members blocks) → size ≡ size_of (current_words old) i → path ≡ inode_path (height_of (root_of (current_words old) 0)) i 1 →
-      CanPrepare kept old (members blocks) i path size (off + length bytes)
+  pub at_prepare : (i size : ℕ) (path : WordPath) → WritesAcross in_snapshot old blocks inodes i offset bytes touched → thawed (current_words old) in_snapshot (writes i offset (length bytes)) ≡ [] → HasRoomThawed old blocks (writes i offset (length bytes)) →
+      need (current_words old) (writes i offset (length bytes)) ≤ length (members blocks) → size ≡ size_of (current_words old) i → path ≡ inode_path (height_of (root_of (current_words old) 0)) i 1 →
+      CanPrepare in_snapshot old (members blocks) i path size (offset + length bytes)
   at_prepare zero size path across = not_inodes _ across
   at_prepare (suc n) size path across = λ clear room enough two is.
-      let needs = across_needs old blocks inodes n off bytes touched across in
-      let has : room_for (need (current_words old) (writes (suc n) off (length bytes))) ≤ room_in old + 2 = room enough in
-      let can : CanPrepare kept old (members blocks) (suc n) path (size_of (current_words old) (suc n)) (off + length bytes) = record {
+      let needs = across_needs old blocks inodes n offset bytes touched across in
+      let has : room_for (need (current_words old) (writes (suc n) offset (length bytes))) ≤ room_in old + 2 = room enough in
+      let can : CanPrepare in_snapshot old (members blocks) (suc n) path (size_of (current_words old) (suc n)) (offset + length bytes) = record {
         well = across.into.well_formed;
         reached = across.into.can.reached;
         leads = is ∙ sym (append-nil (inode_path (height_of (root_of (current_words old) 0)) (suc n) 1));
@@ -166,44 +166,44 @@ module _ {kept : ℕ → Bool} {old : Memory} {blocks inodes : Set} {off : ℕ} 
         are_free = members_free (current_words old) blocks inodes across.into.exact;
         loose = end_loose n across clear;
         enough = omega (arith, enough, needs);
-        room = across_room _ _ _ _ _ needs (room_behind_whole (size_of (current_words old) (suc n)) (size_of (current_words old) (suc n)) (off + length bytes) max_height) has;
+        room = across_room _ _ _ _ _ needs (room_behind_whole (size_of (current_words old) (suc n)) (size_of (current_words old) (suc n)) (offset + length bytes) max_height) has;
       } in
-      subst (λ s. CanPrepare kept old (members blocks) (suc n) path s (off + length bytes)) (sym two) can
+      subst (λ s. CanPrepare in_snapshot old (members blocks) (suc n) path s (offset + length bytes)) (sym two) can
 
   module _ (middle : Memory) (after : Set) where
-    pub at_commit : (i : ℕ) → WritesAcross kept old blocks inodes i off bytes touched → thawed (current_words old) kept (writes i off (length bytes)) ≡ [] → HasRoomThawed old blocks (writes i off (length bytes)) →
-        need (current_words old) (writes i off (length bytes)) ≤ length (members blocks) →
-        PreparesWith kept old middle (members blocks) (members after) i (size_of (current_words old) i) (off + length bytes) (drop (size_of (current_words old) i - off) bytes) → length after ≡ length blocks →
-        CanCommitIn (sizes_with (current_words middle) touched) kept middle touched after
+    pub at_commit : (i : ℕ) → WritesAcross in_snapshot old blocks inodes i offset bytes touched → thawed (current_words old) in_snapshot (writes i offset (length bytes)) ≡ [] → HasRoomThawed old blocks (writes i offset (length bytes)) →
+        need (current_words old) (writes i offset (length bytes)) ≤ length (members blocks) →
+        PreparesWith in_snapshot old middle (members blocks) (members after) i (size_of (current_words old) i) (offset + length bytes) (drop (size_of (current_words old) i - offset) bytes) → length after ≡ length blocks →
+        CanCommitIn (sizes_with (current_words middle) touched) in_snapshot middle touched after
     at_commit zero across = not_inodes _ across
     at_commit (suc n) across = λ clear asked enough prepared room.
-        let count = middle_count old middle blocks inodes after n off bytes touched across prepared in
-        let needs = across_needs old blocks inodes n off bytes touched across in
-        let has : room_for (need (current_words old) (writes (suc n) off (length bytes))) ≤ room_in old + 2 = asked enough in
+        let count = middle_count old middle blocks inodes after n offset bytes touched across prepared in
+        let needs = across_needs old blocks inodes n offset bytes touched across in
+        let has : room_for (need (current_words old) (writes (suc n) offset (length bytes))) ≤ room_in old + 2 = asked enough in
         let parts : length (members blocks) ≡ length prepared.taken + length (members after) = parted prepared.taken (members after) prepared.takes in
         record {
-          well_formed = middle_formed old middle blocks inodes after n off bytes touched across prepared;
-          can = across_can old middle blocks inodes after n off bytes touched across prepared;
-          loose = middle_loose old middle blocks inodes after n off bytes touched across prepared clear;
+          well_formed = middle_formed old middle blocks inodes after n offset bytes touched across prepared;
+          can = across_can old middle blocks inodes after n offset bytes touched across prepared;
+          loose = middle_loose old middle blocks inodes after n offset bytes touched across prepared clear;
           fits = let whole = ap (λ words. words / 512) prepared.ready.meaning.trees.whole in omega (arith, whole, room, across.into.exact.block_room);
           some = omega (arith, parts, prepared.counted, count, needs, enough);
           room = let left = room_in-piece _ _ old middle prepared.adds.part.added prepared.adds.part.adds prepared.adds.part.piece in
-              roomy _ _ _ _ _ _ _ left (behind_whole (size_of (current_words old) (suc n)) (size_of (current_words old) (suc n)) (off + length bytes) max_height) (omega (arith, needs, count))
-              (across_words old blocks inodes n off bytes touched across) has;
+              roomy _ _ _ _ _ _ _ left (behind_whole (size_of (current_words old) (suc n)) (size_of (current_words old) (suc n)) (offset + length bytes) max_height) (omega (arith, needs, count))
+              (across_words old blocks inodes n offset bytes touched across) has;
         }
 
     -- what was found of the ways holds behind it
-    pub at_ways : (i : ℕ) → WritesAcross kept old blocks inodes i off bytes touched →
-        PreparesWith kept old middle (members blocks) (members after) i (size_of (current_words old) i) (off + length bytes) (drop (size_of (current_words old) i - off) bytes) →
+    pub at_ways : (i : ℕ) → WritesAcross in_snapshot old blocks inodes i offset bytes touched →
+        PreparesWith in_snapshot old middle (members blocks) (members after) i (size_of (current_words old) i) (offset + length bytes) (drop (size_of (current_words old) i - offset) bytes) →
         (found : FoundWays) → AreWaysIn (current_words old) touched found → AreWaysIn (current_words middle) touched found
     at_ways zero across = not_inodes _ across
-    at_ways (suc n) across = λ prepared. middle_ways old middle blocks inodes after n off bytes touched across prepared
+    at_ways (suc n) across = λ prepared. middle_ways old middle blocks inodes after n offset bytes touched across prepared
 
     module _ (new : Memory) (last : Set) where
-      pub at_done : (i : ℕ) → WritesAcross kept old blocks inodes i off bytes touched →
-          PreparesWith kept old middle (members blocks) (members after) i (size_of (current_words old) i) (off + length bytes) (drop (size_of (current_words old) i - off) bytes) → ((k : ℕ) → slice_index bytes k < 256) →
-          CommitsTouched (sizes_with (current_words middle) touched) kept touched middle new after last → length last ≡ length after → length after ≡ length blocks →
-          PerformsThawed kept old new (writes i off (length bytes)) (WritesFile i off bytes) × AreExact (current_words new) kept last inodes
+      pub at_done : (i : ℕ) → WritesAcross in_snapshot old blocks inodes i offset bytes touched →
+          PreparesWith in_snapshot old middle (members blocks) (members after) i (size_of (current_words old) i) (offset + length bytes) (drop (size_of (current_words old) i - offset) bytes) → ((k : ℕ) → slice_index bytes k < 256) →
+          CommitsTouched (sizes_with (current_words middle) touched) in_snapshot touched middle new after last → length last ≡ length after → length after ≡ length blocks →
+          PerformsThawed in_snapshot old new (writes i offset (length bytes)) (WritesFile i offset bytes) × AreExact (current_words new) in_snapshot last inodes
       at_done zero across = not_inodes _ across
       at_done (suc n) across = λ prepared small done same room.
-          (across_performs old middle new blocks inodes after last n off bytes touched across prepared small done, across_exact old middle new blocks inodes after last n off bytes touched across prepared small done same room)
+          (across_performs old middle new blocks inodes after last n offset bytes touched across prepared small done, across_exact old middle new blocks inodes after last n offset bytes touched across prepared small done same room)

@@ -49,9 +49,9 @@ small_take (suc count) (b ∷ bytes) small (suc k) = small_take count bytes (λ 
 
 -- ---- the call
 
-module _ {kept : ℕ → Bool} (old middle new : Memory) (blocks inodes after last : Set) (n off : ℕ) (bytes : List ℕ) (touched : Touched) (across : WritesAcross kept old blocks inodes (suc n) off bytes touched)
-    (prepared : PreparesWith kept old middle (members blocks) (members after) (suc n) (size_of (current_words old) (suc n)) (off + length bytes) (drop (size_of (current_words old) (suc n) - off) bytes))
-    (small : (k : ℕ) → slice_index bytes k < 256) (done : CommitsTouched (sizes_with (current_words middle) touched) kept touched middle new after last) where
+module _ {in_snapshot : ℕ → Bool} (old middle new : Memory) (blocks inodes after last : Set) (n offset : ℕ) (bytes : List ℕ) (touched : Touched) (across : WritesAcross in_snapshot old blocks inodes (suc n) offset bytes touched)
+    (prepared : PreparesWith in_snapshot old middle (members blocks) (members after) (suc n) (size_of (current_words old) (suc n)) (offset + length bytes) (drop (size_of (current_words old) (suc n) - offset) bytes))
+    (small : (k : ℕ) → slice_index bytes k < 256) (done : CommitsTouched (sizes_with (current_words middle) touched) in_snapshot touched middle new after last) where
   abbrev image : Image
   image = current_words old
 
@@ -65,29 +65,29 @@ module _ {kept : ℕ → Bool} (old middle new : Memory) (blocks inodes after la
   bound = sizes_with (current_words middle) touched
 
   abbrev write : Change
-  write = writes (suc n) off (length bytes)
+  write = writes (suc n) offset (length bytes)
 
   wf : IsWellFormed image
   wf = across.into.well_formed
 
   wf_mid : IsWellFormed mid
-  wf_mid = middle_formed old middle blocks inodes after n off bytes touched across prepared
+  wf_mid = middle_formed old middle blocks inodes after n offset bytes touched across prepared
 
-  can : CanCommit mid bound kept touched (has after)
-  can = across_can old middle blocks inodes after n off bytes touched across prepared
+  can : CanCommit mid bound in_snapshot touched (has after)
+  can = across_can old middle blocks inodes after n offset bytes touched across prepared
 
   file : IsFileRun mid bound touched across.touches.run n
   file =
-      across_file old middle blocks inodes after n off bytes touched across prepared
-      (λ k. let small_front = small_take (size_of (current_words old) (suc n) - off) bytes small k in rw across.touches.is.bytes_are small_front)
+      across_file old middle blocks inodes after n offset bytes touched across prepared
+      (λ k. let small_front = small_take (size_of (current_words old) (suc n) - offset) bytes small k in rw across.touches.is.bytes_are small_front)
 
-  bound_is : bound (suc n) ≡ off + length bytes
-  bound_is = bound_here old middle blocks inodes after n off bytes touched across prepared
+  bound_is : bound (suc n) ≡ offset + length bytes
+  bound_is = bound_here old middle blocks inodes after n offset bytes touched across prepared
 
-  size_is : size_of (current_words new) (suc n) ≡ off + length bytes
+  size_is : size_of (current_words new) (suc n) ≡ offset + length bytes
   size_is =
       sized_size mid (current_words new) bound wf_mid touched (has after) can across.touches.run n file (IsTurned (job_of touched) (length (commit_cover mid touched))) done.words 0
-      (omega (arith, across_words old blocks inodes n off bytes touched across)) ∙ ap (λ vs. slice_index vs 0) across.touches.value
+      (omega (arith, across_words old blocks inodes n offset bytes touched across)) ∙ ap (λ vs. slice_index vs 0) across.touches.value
 
   grown : size_of (current_words new) (suc n) ≤ bound (suc n)
   grown = omega (arith, size_is, bound_is)
@@ -103,19 +103,19 @@ module _ {kept : ℕ → Bool} (old middle new : Memory) (blocks inodes after la
   size_was = prepared.ready.sizes (suc n) across.into.can.reached
 
   -- each byte is that of the run, or the one that the preparation left
-  byte_is : (o : ℕ) → o < off + length bytes → byte (current_words new) (root_of (current_words new) (suc n)) o ≡ run_byte across.touches.run o (byte mid (root_of mid (suc n)) o)
+  byte_is : (o : ℕ) → o < offset + length bytes → byte (current_words new) (root_of (current_words new) (suc n)) o ≡ run_byte across.touches.run o (byte mid (root_of mid (suc n)) o)
   byte_is o low =
       sized_bytes mid (current_words new) bound wf_mid touched (has after) can across.touches.run n file (IsTurned (job_of touched) (length (commit_cover mid touched))) done.words grown o (omega (arith, low, size_is))
 
-  behind : (o : ℕ) → size_of image (suc n) ≤ o → o < off + length bytes → byte (current_words new) (root_of (current_words new) (suc n)) o ≡ slice_index bytes (o - across.touches.run.off)
+  behind : (o : ℕ) → size_of image (suc n) ≤ o → o < offset + length bytes → byte (current_words new) (root_of (current_words new) (suc n)) o ≡ slice_index bytes (o - across.touches.run.offset)
   behind o past low =
-      let at : size_of image (suc n) - off + (o - size_of image (suc n)) ≡ o - across.touches.run.off = omega (arith, past, across.below, across.touches.is.from) in
+      let at : size_of image (suc n) - offset + (o - size_of image (suc n)) ≡ o - across.touches.run.offset = omega (arith, past, across.below, across.touches.is.from) in
       byte_is o low
-      ∙ laid_past across.touches.run o (byte mid (root_of mid (suc n)) o) (omega (arith, past, across_end old blocks inodes n off bytes touched across))
-      ∙ prepared.ready.bytes_are o past low ∙ given-there (size_of image (suc n)) (drop (size_of image (suc n) - off) bytes) o past
-      ∙ get_or-drop (size_of image (suc n) - off) bytes (o - size_of image (suc n)) 0 ∙ ap (slice_index bytes) at
+      ∙ laid_past across.touches.run o (byte mid (root_of mid (suc n)) o) (omega (arith, past, across_end old blocks inodes n offset bytes touched across))
+      ∙ prepared.ready.bytes_are o past low ∙ given-there (size_of image (suc n)) (drop (size_of image (suc n) - offset) bytes) o past
+      ∙ get_or-drop (size_of image (suc n) - offset) bytes (o - size_of image (suc n)) 0 ∙ ap (slice_index bytes) at
 
-  pub across_writes : WritesFile (suc n) off bytes (current_words old) (current_words new)
+  pub across_writes : WritesFile (suc n) offset bytes (current_words old) (current_words new)
   across_writes =
       subst (λ f. WritesFile (suc n) f bytes image (current_words new)) across.touches.is.from
       (commit_writes_file image (current_words new) (suc n) across.touches.run bytes changes
@@ -126,34 +126,34 @@ module _ {kept : ℕ → Bool} (old middle new : Memory) (blocks inodes after la
 
   -- ---- the stores
 
-  open_cover : IsOpen mid kept done.taken (cover_word mid touched)
+  open_cover : IsOpen mid in_snapshot done.taken (cover_word mid touched)
   open_cover =
-      cover_open kept mid wf_mid touched (across_shape old blocks inodes n off bytes touched across) (inode_path (height_of (root_of mid 0)) (suc n) 2)
-      (has_size (height_of (root_of mid 0)) (suc n) touched across.touches.run (run_there old middle blocks inodes after n off bytes touched across prepared) (across_shape old blocks inodes n off bytes touched across))
-      (size_fronts old middle blocks inodes after n off bytes touched across prepared (size_of mid) (wf_forest mid wf_mid) (omega arith)) done.loose done.taken
+      cover_open in_snapshot mid wf_mid touched (across_shape old blocks inodes n offset bytes touched across) (inode_path (height_of (root_of mid 0)) (suc n) 2)
+      (has_size (height_of (root_of mid 0)) (suc n) touched across.touches.run (run_there old middle blocks inodes after n offset bytes touched across prepared) (across_shape old blocks inodes n offset bytes touched across))
+      (size_fronts old middle blocks inodes after n offset bytes touched across prepared (size_of mid) (wf_forest mid wf_mid) (omega arith)) done.loose done.taken
 
   count_is : copied_count mid touched ≡ copied_count image touched
-  count_is = middle_count old middle blocks inodes after n off bytes touched across prepared
+  count_is = middle_count old middle blocks inodes after n offset bytes touched across prepared
 
-  needs : need image write ≡ need_for image (suc n) (size_of image (suc n)) (off + length bytes) + copied_count image touched
-  needs = across_needs old blocks inodes n off bytes touched across
+  needs : need image write ≡ need_for image (suc n) (size_of image (suc n)) (offset + length bytes) + copied_count image touched
+  needs = across_needs old blocks inodes n offset bytes touched across
 
-  few : prep_stores (size_of image (suc n)) (size_of image (suc n)) (off + length bytes) (need_for image (suc n) (size_of image (suc n)) (off + length bytes)) + commit_stores mid touched ≤ most_stores_thawed (need image write)
+  few : prep_stores (size_of image (suc n)) (size_of image (suc n)) (offset + length bytes) (need_for image (suc n) (size_of image (suc n)) (offset + length bytes)) + commit_stores mid touched ≤ most_stores_thawed (need image write)
   few =
-      go _ _ _ _ _ _ needs count_is (behind_near (size_of image (suc n)) (off + length bytes) max_height (omega (arith, across.below, across.into.can.short))) (across_words old blocks inodes n off bytes touched across)
-      (across_copies old blocks inodes n off bytes touched across image)
+      go _ _ _ _ _ _ needs count_is (behind_near (size_of image (suc n)) (offset + length bytes) max_height (omega (arith, across.below, across.into.can.short))) (across_words old blocks inodes n offset bytes touched across)
+      (across_copies old blocks inodes n offset bytes touched across image)
     where
       go : (made copied copied_mid words needed behind : ℕ) → needed ≡ made + copied → copied_mid ≡ copied → behind ≤ 1024 + max_height → words ≡ 1 → copied ≤ 290 →
           block_words * made + behind + 2 + ((block_words + 1) * copied_mid + words + 1) ≤ most_stores_thawed needed
       go made copied copied_mid words needed behind a b c d e = omega (arith, a, b, c, d, e)
 
-  pub across_performs : PerformsThawed kept old new (writes (suc n) off (length bytes)) (WritesFile (suc n) off bytes)
+  pub across_performs : PerformsThawed in_snapshot old new (writes (suc n) offset (length bytes)) (WritesFile (suc n) offset bytes)
   across_performs =
-      commit_performs_after old middle new (writes (suc n) off (length bytes)) (WritesFile (suc n) off bytes) bound touched after last prepared.taken 2
-      (prep_stores (size_of image (suc n)) (size_of image (suc n)) (off + length bytes) (need_for image (suc n) (size_of image (suc n)) (off + length bytes))) prepared.adds done
-      (middle_live old middle blocks inodes after n off bytes touched across prepared)
-      (left_free old middle blocks inodes after n off bytes touched across prepared)
-      (middle_cover old middle blocks inodes after n off bytes touched across prepared ∙ sym (across_cover old blocks inodes n off bytes touched across)) (omega arith) few
+      commit_performs_after old middle new (writes (suc n) offset (length bytes)) (WritesFile (suc n) offset bytes) bound touched after last prepared.taken 2
+      (prep_stores (size_of image (suc n)) (size_of image (suc n)) (offset + length bytes) (need_for image (suc n) (size_of image (suc n)) (offset + length bytes))) prepared.adds done
+      (middle_live old middle blocks inodes after n offset bytes touched across prepared)
+      (left_free old middle blocks inodes after n offset bytes touched across prepared)
+      (middle_cover old middle blocks inodes after n offset bytes touched across prepared ∙ sym (across_cover old blocks inodes n offset bytes touched across)) (omega arith) few
       (omega (arith, prepared.counted, count_is, needs)) open_cover
       (changed.well_formed-same image (current_words new) (suc n) wf changes) across_writes
 
@@ -164,8 +164,8 @@ module _ {kept : ℕ → Bool} (old middle new : Memory) (blocks inodes after la
     where
       go : (t ≡ suc n) ⊎ (t ≡ suc n → ⊥) → size_of (current_words new) t ≡ bound t
       go (inl e) = rw e (size_is ∙ sym bound_is)
-      go (inr other) = changes_mid.size t reached other ∙ sym (bound_other old middle blocks inodes after n off bytes touched across prepared t other)
+      go (inr other) = changes_mid.size t reached other ∙ sym (bound_other old middle blocks inodes after n offset bytes touched across prepared t other)
 
-  pub across_exact : length last ≡ length after → length after ≡ length blocks → AreExact (current_words new) kept last inodes
+  pub across_exact : length last ≡ length after → length after ≡ length blocks → AreExact (current_words new) in_snapshot last inodes
   across_exact same room =
-      commit_exact mid (current_words new) wf_mid (changed.keeps mid (current_words new) (suc n) wf_mid changes_mid) bound bounds after last inodes (middle_sets old middle blocks inodes after n off bytes touched across prepared room) same done.exact
+      commit_exact mid (current_words new) wf_mid (changed.keeps mid (current_words new) (suc n) wf_mid changes_mid) bound bounds after last inodes (middle_sets old middle blocks inodes after n offset bytes touched across prepared room) same done.exact

@@ -53,8 +53,8 @@ use Rattle.bp_calls.proofs.WaysStay.{ways_stay_on}
 without_last : (x y : ℕ) (p q : Trail) → x ∷ p ≡ y ∷ q → p ≡ q
 without_last x y p q e = cc
 
-module _ {kept : ℕ → Bool} (old middle : Memory) (blocks inodes after : Set) (n off : ℕ) (bytes : List ℕ) (touched : Touched) (across : WritesAcross kept old blocks inodes (suc n) off bytes touched)
-    (prepared : PreparesWith kept old middle (members blocks) (members after) (suc n) (size_of (current_words old) (suc n)) (off + length bytes) (drop (size_of (current_words old) (suc n) - off) bytes)) where
+module _ {in_snapshot : ℕ → Bool} (old middle : Memory) (blocks inodes after : Set) (n offset : ℕ) (bytes : List ℕ) (touched : Touched) (across : WritesAcross in_snapshot old blocks inodes (suc n) offset bytes touched)
+    (prepared : PreparesWith in_snapshot old middle (members blocks) (members after) (suc n) (size_of (current_words old) (suc n)) (offset + length bytes) (drop (size_of (current_words old) (suc n) - offset) bytes)) where
   abbrev image : Image
   image = current_words old
 
@@ -62,7 +62,7 @@ module _ {kept : ℕ → Bool} (old middle : Memory) (blocks inodes after : Set)
   mid = current_words middle
 
   abbrev end : ℕ
-  end = off + length bytes
+  end = offset + length bytes
 
   abbrev bound : ℕ → ℕ
   bound = sizes_with (current_words middle) touched
@@ -96,13 +96,13 @@ module _ {kept : ℕ → Bool} (old middle : Memory) (blocks inodes after : Set)
   size_low : 8 * (8 * suc n + 2) < size_of mid 0
   size_low = omega (arith, in_file)
 
-  pub bound_here : sizes_with (current_words middle) touched (suc n) ≡ off + length bytes
+  pub bound_here : sizes_with (current_words middle) touched (suc n) ≡ offset + length bytes
   bound_here = size_with_here mid middle_formed (suc n) in_file touched path_is ∙ ap (λ vs. slice_index vs 0) across.touches.value
 
   pub bound_other : (t : ℕ) → (t ≡ suc n → ⊥) → sizes_with (current_words middle) touched t ≡ size_of (current_words middle) t
   bound_other = size_with_other mid middle_formed (suc n) in_file touched path_is
 
-  past : size_of (current_words old) (suc n) ≤ off + length bytes
+  past : size_of (current_words old) (suc n) ≤ offset + length bytes
   past = omega (arith, across.past)
 
   some : suc n ≢ 0
@@ -110,35 +110,35 @@ module _ {kept : ℕ → Bool} (old middle : Memory) (blocks inodes after : Set)
 
   pub bound_low : (t : ℕ) → size_of (current_words middle) t ≤ sizes_with (current_words middle) touched t
   bound_low =
-      sizes_low old middle blocks inodes after (suc n) (size_of (current_words old) (suc n)) (off + length bytes) (drop (size_of (current_words old) (suc n) - off) bytes) across.into.well_formed across.into.exact across.into.can.reached
+      sizes_low old middle blocks inodes after (suc n) (size_of (current_words old) (suc n)) (offset + length bytes) (drop (size_of (current_words old) (suc n) - offset) bytes) across.into.well_formed across.into.exact across.into.can.reached
       some past prepared (sizes_with (current_words middle) touched) bound_here bound_other
 
   pub middle_forest : IsForest (current_words middle) (sizes_with (current_words middle) touched)
   middle_forest =
-      prepared_forest old middle blocks inodes after (suc n) (size_of (current_words old) (suc n)) (off + length bytes) (drop (size_of (current_words old) (suc n) - off) bytes) across.into.well_formed across.into.exact across.into.can.reached
+      prepared_forest old middle blocks inodes after (suc n) (size_of (current_words old) (suc n)) (offset + length bytes) (drop (size_of (current_words old) (suc n) - offset) bytes) across.into.well_formed across.into.exact across.into.can.reached
       some past prepared (sizes_with (current_words middle) touched) bound_here bound_other
 
   -- ---- the blocks
 
   pub middle_live : (b : ℕ) → IsLiveBlock (current_words middle) b → IsLiveBlock (current_words old) b ⊎ Has prepared.taken b
   middle_live =
-      live_before old middle blocks inodes after (suc n) (size_of (current_words old) (suc n)) (off + length bytes) (drop (size_of (current_words old) (suc n) - off) bytes) across.into.well_formed across.into.exact across.into.can.reached
+      live_before old middle blocks inodes after (suc n) (size_of (current_words old) (suc n)) (offset + length bytes) (drop (size_of (current_words old) (suc n) - offset) bytes) across.into.well_formed across.into.exact across.into.can.reached
       some past prepared (sizes_with (current_words middle) touched) bound_here bound_other
 
-  pub left_free : (b : ℕ) → has after b ≡ true → IsFreeBlock (current_words old) kept b × (Has prepared.taken b → ⊥)
+  pub left_free : (b : ℕ) → has after b ≡ true → IsFreeBlock (current_words old) in_snapshot b × (Has prepared.taken b → ⊥)
   left_free =
-      still_free old middle blocks inodes after (suc n) (size_of (current_words old) (suc n)) (off + length bytes) (drop (size_of (current_words old) (suc n) - off) bytes) across.into.well_formed across.into.exact across.into.can.reached
+      still_free old middle blocks inodes after (suc n) (size_of (current_words old) (suc n)) (offset + length bytes) (drop (size_of (current_words old) (suc n) - offset) bytes) across.into.well_formed across.into.exact across.into.can.reached
       some past prepared (sizes_with (current_words middle) touched) bound_here bound_other
 
   -- so the sets are exact under these sizes
-  pub middle_sets : length after ≡ length blocks → AreExactFor (current_words middle) (IsReached (current_words middle)) (sizes_with (current_words middle) touched) kept after inodes
+  pub middle_sets : length after ≡ length blocks → AreExactFor (current_words middle) (IsReached (current_words middle)) (sizes_with (current_words middle) touched) in_snapshot after inodes
   middle_sets =
-      prepared_sets old middle blocks inodes after (suc n) (size_of (current_words old) (suc n)) (off + length bytes) (drop (size_of (current_words old) (suc n) - off) bytes) across.into.well_formed across.into.exact across.into.can.reached
+      prepared_sets old middle blocks inodes after (suc n) (size_of (current_words old) (suc n)) (offset + length bytes) (drop (size_of (current_words old) (suc n) - offset) bytes) across.into.well_formed across.into.exact across.into.can.reached
       some past prepared (sizes_with (current_words middle) touched) bound_here bound_other
 
-  pub middle_exact : AreUnheld (current_words middle) (IsReached (current_words middle)) (sizes_with (current_words middle) touched) kept (has after)
+  pub middle_exact : AreUnheld (current_words middle) (IsReached (current_words middle)) (sizes_with (current_words middle) touched) in_snapshot (has after)
   middle_exact =
-      prepared_exact old middle blocks inodes after (suc n) (size_of (current_words old) (suc n)) (off + length bytes) (drop (size_of (current_words old) (suc n) - off) bytes) across.into.well_formed across.into.exact across.into.can.reached
+      prepared_exact old middle blocks inodes after (suc n) (size_of (current_words old) (suc n)) (offset + length bytes) (drop (size_of (current_words old) (suc n) - offset) bytes) across.into.well_formed across.into.exact across.into.can.reached
       some past prepared (sizes_with (current_words middle) touched) bound_here bound_other
 
   -- ---- the paths
@@ -154,7 +154,7 @@ module _ {kept : ℕ → Bool} (old middle : Memory) (blocks inodes after : Set)
   -- the only word
   only_word : (P : WordPath → Type 0) → P (inode_path (height_of (root_of mid 0)) (suc n) 2) → (j : ℕ) → j < length touched.words.now → P (path_of (word_paths touched) j)
   only_word P has j low =
-      let first : j ≡ 0 = omega (arith, low, across_words old blocks inodes n off bytes touched across) in
+      let first : j ≡ 0 = omega (arith, low, across_words old blocks inodes n offset bytes touched across) in
       subst (λ k. P (path_of (word_paths touched) k)) (sym first) (subst P (sym path_is) has)
 
   -- its fronts are pointers, under the sizes of the image too
@@ -172,15 +172,15 @@ module _ {kept : ℕ → Bool} (old middle : Memory) (blocks inodes after : Set)
     is_file = prepared.ready.meaning.kind (suc n) across.into.can.reached ∙ across.into.can.file;
     root = across.touches.is.root ∙ ap (λ r. inode_path (height_of r) (suc n) 1) (sym root_stays);
     height = across.touches.is.height ∙ sym prepared.ready.height;
-    some = across_some old blocks inodes n off bytes touched across;
-    below = omega (arith, across_end old blocks inodes n off bytes touched across, bound_here, across.past);
+    some = across_some old blocks inodes n offset bytes touched across;
+    below = omega (arith, across_end old blocks inodes n offset bytes touched across, bound_here, across.past);
     small = small;
     others = λ t reached other. bound_other t other;
   }
 
-  pub across_can : CanCommit (current_words middle) (sizes_with (current_words middle) touched) kept touched (has after)
+  pub across_can : CanCommit (current_words middle) (sizes_with (current_words middle) touched) in_snapshot touched (has after)
   across_can = record {
-    shape = across_shape old blocks inodes n off bytes touched across;
+    shape = across_shape old blocks inodes n offset bytes touched across;
     forest = middle_forest;
     sizes = λ t reached. bound_low t;
     exact = middle_exact;
@@ -195,11 +195,11 @@ module _ {kept : ℕ → Bool} (old middle : Memory) (blocks inodes after : Set)
       reached = here;
       root = root_path_trail (height_of (root_of mid 0)) n across.touches.run.root.items (across.touches.is.root ∙ ap (λ r. inode_path (height_of r) (suc n) 1) (sym root_stays));
       height = across.touches.is.height ∙ sym prepared.ready.height;
-      below = omega (arith, across_end old blocks inodes n off bytes touched across, bound_here, across.past);
+      below = omega (arith, across_end old blocks inodes n offset bytes touched across, bound_here, across.past);
       counts = omega (arith, bound_here, across.touches.is.size);
     });
     trees = no_trees (IsTreeIn mid bound) across.touches.no_trees;
-    apart = λ i k low few same. omega (arith, low, few, across_words old blocks inodes n off bytes touched across);
+    apart = λ i k low few same. omega (arith, low, few, across_words old blocks inodes n offset bytes touched across);
     beside = λ r i k has low first last.
         only_word (λ p. trail_of p (length p) ≢ trail_of (run_path r k) (length (run_path r k))) (λ same. longer r k has same) i low;
   }
@@ -233,14 +233,14 @@ module _ {kept : ℕ → Bool} (old middle : Memory) (blocks inodes after : Set)
 
   pub middle_cover : commit_cover (current_words middle) touched ≡ leaf_path (height_of (root_of (current_words old) 0)) (suc n)
   middle_cover =
-      leaf_cover (height_of (root_of mid 0)) (suc n) touched across.touches.run run_there (across_shape old blocks inodes n off bytes touched across) mid middle_formed refl in_file
+      leaf_cover (height_of (root_of mid 0)) (suc n) touched across.touches.run run_there (across_shape old blocks inodes n offset bytes touched across) mid middle_formed refl in_file
       ∙ ap (λ r. leaf_path (height_of r) (suc n)) root_stays
 
   pub middle_count : copied_count (current_words middle) touched ≡ copied_count (current_words old) touched
   middle_count =
-      leaf_count (height_of (root_of image 0)) (suc n) touched across.touches.run (across_run old blocks inodes n off bytes touched across) (across_shape old blocks inodes n off bytes touched across) mid middle_formed
+      leaf_count (height_of (root_of image 0)) (suc n) touched across.touches.run (across_run old blocks inodes n offset bytes touched across) (across_shape old blocks inodes n offset bytes touched across) mid middle_formed
       (ap height_of (sym root_stays)) in_file
-      ∙ sym (leaf_count (height_of (root_of image 0)) (suc n) touched across.touches.run (across_run old blocks inodes n off bytes touched across) (across_shape old blocks inodes n off bytes touched across) image wf refl in_image)
+      ∙ sym (leaf_count (height_of (root_of image 0)) (suc n) touched across.touches.run (across_run old blocks inodes n offset bytes touched across) (across_shape old blocks inodes n offset bytes touched across) image wf refl in_image)
 
   -- ---- the pointers of the inode file stay
 
@@ -285,21 +285,21 @@ module _ {kept : ℕ → Bool} (old middle : Memory) (blocks inodes after : Set)
   -- so the ways that were found before are those of the image in the middle
   pub middle_ways : (found : FoundWays) → AreWaysIn (current_words old) touched found → AreWaysIn (current_words middle) touched found
   middle_ways =
-      let shape = across_shape old blocks inodes n off bytes touched across in
+      let shape = across_shape old blocks inodes n offset bytes touched across in
       ways_stay_on image mid touched shape prepared.ready.meaning.trees.whole (path_of (word_paths touched) 0)
-      (has-word touched shape 0 (omega (arith, across_words old blocks inodes n off bytes touched across))) size_blocks
+      (has-word touched shape 0 (omega (arith, across_words old blocks inodes n offset bytes touched across))) size_blocks
 
   -- ---- the store in place
 
-  -- No pointer on the way to the leaf of the inode is kept, and these are the same behind the preparation.
-  module _ (clear : thawed (current_words old) kept (writes (suc n) off (length bytes)) ≡ []) where
+  -- No pointer on the way to the leaf of the inode is in the snapshot, and these are the same behind the preparation.
+  module _ (clear : thawed (current_words old) in_snapshot (writes (suc n) offset (length bytes)) ≡ []) where
     abbrev leaf_number : ℕ
     leaf_number = (8 * suc n + 1) / 512
 
-    leaf_loose : IsLoose image kept (length (leaf_path (height_of (root_of image 0)) (suc n)) - 1) (leaf_path (height_of (root_of image 0)) (suc n))
+    leaf_loose : IsLoose image in_snapshot (length (leaf_path (height_of (root_of image 0)) (suc n)) - 1) (leaf_path (height_of (root_of image 0)) (suc n))
     leaf_loose =
-        loose-on image kept (targets image (writes (suc n) off (length bytes))) clear (leaf_path (height_of (root_of image 0)) (suc n))
-        (subst (λ ps. Has ps (leaf_path (height_of (root_of image 0)) (suc n))) (sym (across_targets image wf n across.into.can.reached off (length bytes) across.below across.past)) (inl refl))
+        loose-on image in_snapshot (targets image (writes (suc n) offset (length bytes))) clear (leaf_path (height_of (root_of image 0)) (suc n))
+        (subst (λ ps. Has ps (leaf_path (height_of (root_of image 0)) (suc n))) (sym (across_targets image wf n across.into.can.reached offset (length bytes) across.below across.past)) (inl refl))
         (length (leaf_path (height_of (root_of image 0)) (suc n)) - 1)
 
     under_leaf : (d : ℕ) → suc d ≡ height_of (root_of image 0) → IsLivePointer (root_of image 0) (size_of image 0) d (leaf_number / 512)
@@ -311,16 +311,16 @@ module _ {kept : ℕ → Bool} (old middle : Memory) (blocks inodes after : Set)
     node_stays : (d : ℕ) → suc d ≡ height_of (root_of image 0) → node mid (root_of mid 0) d (leaf_number / 512) ≡ node image (root_of image 0) d (leaf_number / 512)
     node_stays d high = inode_node d (leaf_number / 512) (under_leaf d high)
 
-    leaf_open : (h : ℕ) → h ≡ height_of (root_of image 0) → 512 ≤ address mid (digits h leaf_number) → kept (address mid (digits h leaf_number) / 512) ≡ false
+    leaf_open : (h : ℕ) → h ≡ height_of (root_of image 0) → 512 ≤ address mid (digits h leaf_number) → in_snapshot (address mid (digits h leaf_number) / 512) ≡ false
     leaf_open zero high low = absurd (omega (arith, low))
     leaf_open (suc d) high low =
         let present : node image (root_of image 0) d (leaf_number / 512) ≢ 0 = wf.full_inode_file d (leaf_number / 512) (under_leaf d high) in
         let at : address mid (digits (suc d) leaf_number) ≡ 512 * node mid (root_of mid 0) d (leaf_number / 512) + leaf_number % 512 =
         address_from-digits mid 2 (word mid 2) refl (suc d) leaf_number (λ null. present (sym (node_stays d high) ∙ null)) in
         let block : address mid (digits (suc d) leaf_number) / 512 ≡ node image (root_of image 0) d (leaf_number / 512) = omega (arith, at, node_stays d high) in
-        ap kept block
-        ∙ loose_word image wf kept 0 d leaf_number inode_file (under_leaf d high) present
-        (subst (λ h. IsLoose image kept (length (digits h leaf_number) - 1) (digits h leaf_number)) (sym high) leaf_loose)
+        ap in_snapshot block
+        ∙ loose_word image wf in_snapshot 0 d leaf_number inode_file (under_leaf d high) present
+        (subst (λ h. IsLoose image in_snapshot (length (digits h leaf_number) - 1) (digits h leaf_number)) (sym high) leaf_loose)
 
-    pub middle_loose : HasLooseCover (current_words middle) kept touched
-    middle_loose = subst (λ (p : WordPath). 512 ≤ address mid p → kept (address mid p / 512) ≡ false) (sym middle_cover) (leaf_open (height_of (root_of image 0)) refl)
+    pub middle_loose : HasLooseCover (current_words middle) in_snapshot touched
+    middle_loose = subst (λ (p : WordPath). 512 ≤ address mid p → in_snapshot (address mid p / 512) ≡ false) (sym middle_cover) (leaf_open (height_of (root_of image 0)) refl)

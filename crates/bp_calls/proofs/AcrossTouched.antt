@@ -36,15 +36,15 @@ use Rattle.bp_cow.proofs.CallerLaws.{no_trees}
 
 -- ---- the change
 
-module _ (image : Image) (n off len : ℕ) (below : off < size_of image (suc n)) (past : size_of image (suc n) < off + len) where
+module _ (image : Image) (n offset len : ℕ) (below : offset < size_of image (suc n)) (past : size_of image (suc n) < offset + len) where
   abbrev change : Change
-  change = writes (suc n) off len
+  change = writes (suc n) offset len
 
-  longer : nat_lt (size_of image (suc n)) (off + len) ≡ true
-  longer = lt-ltb (size_of image (suc n)) (off + len) past
+  longer : nat_lt (size_of image (suc n)) (offset + len) ≡ true
+  longer = lt-ltb (size_of image (suc n)) (offset + len) past
 
-  prepares : beyond image change ≡ record { tree = suc n; from = size_of image (suc n); to = off + len } ∷ []
-  prepares = let top : max off (size_of image (suc n)) ≡ size_of image (suc n) = omega (arith, below) in rw (longer, top) refl
+  prepares : beyond image change ≡ record { tree = suc n; from = size_of image (suc n); to = offset + len } ∷ []
+  prepares = let top : max offset (size_of image (suc n)) ≡ size_of image (suc n) = omega (arith, below) in rw (longer, top) refl
 
   abbrev tall : ℕ → List Beyond → ℕ
   tall t bs = fold (λ h (b : Beyond). if b.tree == t then height_with (root_of image t) (size_of image t) b.to else h) (height_of (root_of image t)) (bs ++ new_inodes image change)
@@ -52,34 +52,34 @@ module _ (image : Image) (n off len : ℕ) (below : off < size_of image (suc n))
   pub across_inodes : height_after image change 0 ≡ height_of (root_of image 0)
   across_inodes = ap (tall 0) prepares ∙ rw (ne_eqb (suc n) 0 (suc-ne-zero n)) refl
 
-  pub across_height : height_after image change (suc n) ≡ height_with (root_of image (suc n)) (size_of image (suc n)) (off + len)
+  pub across_height : height_after image change (suc n) ≡ height_with (root_of image (suc n)) (size_of image (suc n)) (offset + len)
   across_height = ap (tall (suc n)) prepares ∙ rw (eq-eqb (suc n) (suc n) refl) refl
 
   -- what is touched, by the tests of the definition
   abbrev parts : Bool → ℕ → Bool → List WordPath
   parts starts end longer =
-      map (content_path image change (suc n)) (if starts then range_with_len (off / 8) (suc ((end - 1) / 8 - off / 8)) else []) ++ (if longer then inode_word_path image change (suc n) 2 ∷ [] else [])
+      map (content_path image change (suc n)) (if starts then range_with_len (offset / 8) (suc ((end - 1) / 8 - offset / 8)) else []) ++ (if longer then inode_word_path image change (suc n) 2 ∷ [] else [])
 
-  pub across_touched : layout.touched image change ≡ map (content_path image change (suc n)) (range_with_len (off / 8) (suc ((size_of image (suc n) - 1) / 8 - off / 8))) ++ inode_word_path image change (suc n) 2 ∷ []
+  pub across_touched : layout.touched image change ≡ map (content_path image change (suc n)) (range_with_len (offset / 8) (suc ((size_of image (suc n) - 1) / 8 - offset / 8))) ++ inode_word_path image change (suc n) 2 ∷ []
   across_touched =
-      let starts : nat_lt off (size_of image (suc n)) ≡ true = lt-ltb off (size_of image (suc n)) below in
-      let end : min (off + len) (size_of image (suc n)) ≡ size_of image (suc n) = omega (arith, past) in
-      ap (λ x. parts x (min (off + len) (size_of image (suc n))) (nat_lt (size_of image (suc n)) (off + len))) starts
-      ∙ ap (λ m. parts true m (nat_lt (size_of image (suc n)) (off + len))) end
+      let starts : nat_lt offset (size_of image (suc n)) ≡ true = lt-ltb offset (size_of image (suc n)) below in
+      let end : min (offset + len) (size_of image (suc n)) ≡ size_of image (suc n) = omega (arith, past) in
+      ap (λ x. parts x (min (offset + len) (size_of image (suc n))) (nat_lt (size_of image (suc n)) (offset + len))) starts
+      ∙ ap (λ m. parts true m (nat_lt (size_of image (suc n)) (offset + len))) end
       ∙ ap (parts true (size_of image (suc n))) longer
 
   -- it prepares the bytes past the size, and makes copies
-  pub across_need : need image change ≡ need_for image (suc n) (size_of image (suc n)) (off + len) + length (layout.copied image change)
+  pub across_need : need image change ≡ need_for image (suc n) (size_of image (suc n)) (offset + len) + length (layout.copied image change)
   across_need =
-      let made : length (flat_map (prepared_for image) (beyond image change)) ≡ need_for image (suc n) (size_of image (suc n)) (off + len) =
+      let made : length (flat_map (prepared_for image) (beyond image change)) ≡ need_for image (suc n) (size_of image (suc n)) (offset + len) =
       ap (λ bs. length (flat_map (prepared_for image) bs)) prepares
-      ∙ ap length (append-nil (prepared_for image (record { tree = suc n; from = size_of image (suc n); to = off + len })))
-      ∙ length-map (nodes_for image (root_of image (suc n)) (size_of image (suc n)) (size_of image (suc n)) (off + len)) _ in
+      ∙ ap length (append-nil (prepared_for image (record { tree = suc n; from = size_of image (suc n); to = offset + len })))
+      ∙ length-map (nodes_for image (root_of image (suc n)) (size_of image (suc n)) (size_of image (suc n)) (offset + len)) _ in
       omega (arith, made)
 
 -- ---- the call
 
-module _ {kept : ℕ → Bool} (old : Memory) (blocks inodes : Set) (n off : ℕ) (bytes : List ℕ) (touched : Touched) (across : WritesAcross kept old blocks inodes (suc n) off bytes touched) where
+module _ {in_snapshot : ℕ → Bool} (old : Memory) (blocks inodes : Set) (n offset : ℕ) (bytes : List ℕ) (touched : Touched) (across : WritesAcross in_snapshot old blocks inodes (suc n) offset bytes touched) where
   abbrev image : Image
   image = current_words old
 
@@ -87,10 +87,10 @@ module _ {kept : ℕ → Bool} (old : Memory) (blocks inodes : Set) (n off : ℕ
   size = size_of image (suc n)
 
   abbrev end : ℕ
-  end = off + length bytes
+  end = offset + length bytes
 
   abbrev write : Change
-  write = writes (suc n) off (length bytes)
+  write = writes (suc n) offset (length bytes)
 
   abbrev run : Run
   run = across.touches.run
@@ -104,9 +104,9 @@ module _ {kept : ℕ → Bool} (old : Memory) (blocks inodes : Set) (n off : ℕ
   pub across_run : IsSizedRun (height_of (root_of image 0)) (suc n) touched across.touches.run
   across_run = record { one = across.touches.one; root = across.touches.is.root; sized = across.touches.sized }
 
-  pub across_long : length across.touches.run.bytes.now ≡ size_of image (suc n) - off
+  pub across_long : length across.touches.run.bytes.now ≡ size_of image (suc n) - offset
   across_long =
-      ap (λ (bs : List ℕ). length bs) across.touches.is.bytes_are ∙ length-take (size_of image (suc n) - off) bytes ∙ omega (arith, across.past)
+      ap (λ (bs : List ℕ). length bs) across.touches.is.bytes_are ∙ length-take (size_of image (suc n) - offset) bytes ∙ omega (arith, across.past)
 
   pub across_end : run_end across.touches.run ≡ size_of image (suc n)
   across_end = omega (arith, across.touches.is.from, across_long, across.below)
@@ -117,11 +117,11 @@ module _ {kept : ℕ → Bool} (old : Memory) (blocks inodes : Set) (n off : ℕ
   pub across_shape : IsTouched touched
   across_shape =
       let there : 4096 ≤ size_of image 0 = wf.some_inodes in
-      let low_tree : height_with (root_of image (suc n)) (size_of image (suc n)) (off + length bytes) ≤ max_height =
-      tall_low (root_of image (suc n)) (size_of image (suc n)) (off + length bytes) (wf.sound (suc n) across.into.can.reached).low in
-      let fits : off + length bytes ≤ span (height_with (root_of image (suc n)) (size_of image (suc n)) (off + length bytes)) =
-      tall_fits (root_of image (suc n)) (size_of image (suc n)) (off + length bytes) (le_trans across.into.can.fits (size_most (version_of image))) in
-      let wide = span-is (height_with (root_of image (suc n)) (size_of image (suc n)) (off + length bytes)) in
+      let low_tree : height_with (root_of image (suc n)) (size_of image (suc n)) (offset + length bytes) ≤ max_height =
+      tall_low (root_of image (suc n)) (size_of image (suc n)) (offset + length bytes) (wf.sound (suc n) across.into.can.reached).low in
+      let fits : offset + length bytes ≤ span (height_with (root_of image (suc n)) (size_of image (suc n)) (offset + length bytes)) =
+      tall_fits (root_of image (suc n)) (size_of image (suc n)) (offset + length bytes) (le_trans across.into.can.fits (size_most (version_of image))) in
+      let wide = span-is (height_with (root_of image (suc n)) (size_of image (suc n)) (offset + length bytes)) in
       sized_shape (height_of (root_of image 0)) (suc n) touched across.touches.run across_run (inode_sound.low (omega (arith, there))) across_some
       (omega (arith, across_long, across.past, across.into.can.short))
       (subst (λ h. h ≤ max_height) (sym across.touches.is.height) low_tree)
@@ -142,11 +142,11 @@ module _ {kept : ℕ → Bool} (old : Memory) (blocks inodes : Set) (n off : ℕ
 
   -- few nodes are made and few blocks copied: the leaves of both are those of one write
   abbrev made_leaves : ℕ
-  made_leaves = (off + length bytes - size_of image (suc n)) / 4096 + 1
+  made_leaves = (offset + length bytes - size_of image (suc n)) / 4096 + 1
 
-  across_made_by : need_for image (suc n) (size_of image (suc n)) (off + length bytes) ≤ made_leaves + 2 + 3 * max_height
+  across_made_by : need_for image (suc n) (size_of image (suc n)) (offset + length bytes) ≤ made_leaves + 2 + 3 * max_height
   across_made_by =
-      few_needed image (root_of image (suc n)) (size_of image (suc n)) (size_of image (suc n)) (off + length bytes) made_leaves (omega (arith, across.into.can.short, across.below)) (omega arith) (omega arith)
+      few_needed image (root_of image (suc n)) (size_of image (suc n)) (size_of image (suc n)) (offset + length bytes) made_leaves (omega (arith, across.into.can.short, across.below)) (omega arith) (omega arith)
       (wf.sound (suc n) across.into.can.reached).low
 
   across_leaves : run_leaves across.touches.run ≤ 257
@@ -160,7 +160,7 @@ module _ {kept : ℕ → Bool} (old : Memory) (blocks inodes : Set) (n off : ℕ
   pub across_copies : (other : Image) → copied_count other touched ≤ 290
   across_copies other = omega (arith, across_copies_by other, across_leaves)
 
-  pub across_few : (other : Image) → need_for image (suc n) (size_of image (suc n)) (off + length bytes) + copied_count other touched ≤ 320
+  pub across_few : (other : Image) → need_for image (suc n) (size_of image (suc n)) (offset + length bytes) + copied_count other touched ≤ 320
   across_few other =
       let leaves : run_leaves across.touches.run + made_leaves ≤ 260 = omega (arith, across.touches.is.from, across_end, across.below, across.past, across.into.can.short) in
       omega (arith, leaves, across_made_by, across_copies_by other)
@@ -169,8 +169,8 @@ module _ {kept : ℕ → Bool} (old : Memory) (blocks inodes : Set) (n off : ℕ
   same_path k =
       ap (λ (p : WordPath). p ++ digits (suc across.touches.run.height) k) across.touches.is.root
       ∙ ap (λ h. inode_path (height_of (root_of image 0)) (suc n) 1 ++ digits (suc h) k) across.touches.is.height
-      ∙ sym (ap (λ h. tree_path h (suc n) (suc (height_after image write (suc n))) k) (across_inodes image n off (length bytes) across.below across.past)
-      ∙ ap (λ h. tree_path (height_of (root_of image 0)) (suc n) (suc h) k) (across_height image n off (length bytes) across.below across.past))
+      ∙ sym (ap (λ h. tree_path h (suc n) (suc (height_after image write (suc n))) k) (across_inodes image n offset (length bytes) across.below across.past)
+      ∙ ap (λ h. tree_path (height_of (root_of image 0)) (suc n) (suc h) k) (across_height image n offset (length bytes) across.below across.past))
 
   pub across_paths : all_paths touched ≡ layout.touched image write
   across_paths =
@@ -178,20 +178,20 @@ module _ {kept : ℕ → Bool} (old : Memory) (blocks inodes : Set) (n off : ℕ
       ∙ ap (λ (words : List WordPath). run_paths (across.touches.run ∷ []) ++ words) across.touches.sized
       ∙ ap (λ (paths : List WordPath). paths ++ inode_path (height_of (root_of image 0)) (suc n) 2 ∷ []) (append-nil (paths_of_run across.touches.run))
       ∙ ap (λ from. map (run_path across.touches.run) (range_with_len (from / 8) (suc ((run_end across.touches.run - 1) / 8 - from / 8))) ++ inode_path (height_of (root_of image 0)) (suc n) 2 ∷ []) across.touches.is.from
-      ∙ ap (λ last. map (run_path across.touches.run) (range_with_len (off / 8) (suc ((last - 1) / 8 - off / 8))) ++ inode_path (height_of (root_of image 0)) (suc n) 2 ∷ []) across_end
+      ∙ ap (λ last. map (run_path across.touches.run) (range_with_len (offset / 8) (suc ((last - 1) / 8 - offset / 8))) ++ inode_path (height_of (root_of image 0)) (suc n) 2 ∷ []) across_end
       ∙ ap (λ (paths : List WordPath). paths ++ inode_path (height_of (root_of image 0)) (suc n) 2 ∷ [])
-      (map-same (run_path across.touches.run) (content_path image write (suc n)) (off / 8) (suc ((size_of image (suc n) - 1) / 8 - off / 8)) (λ k low high. same_path k))
-      ∙ ap (λ h. map (content_path image write (suc n)) (range_with_len (off / 8) (suc ((size_of image (suc n) - 1) / 8 - off / 8))) ++ inode_path h (suc n) 2 ∷ []) (sym (across_inodes image n off (length bytes) across.below across.past))
-      ∙ sym (across_touched image n off (length bytes) across.below across.past)
+      (map-same (run_path across.touches.run) (content_path image write (suc n)) (offset / 8) (suc ((size_of image (suc n) - 1) / 8 - offset / 8)) (λ k low high. same_path k))
+      ∙ ap (λ h. map (content_path image write (suc n)) (range_with_len (offset / 8) (suc ((size_of image (suc n) - 1) / 8 - offset / 8))) ++ inode_path h (suc n) 2 ∷ []) (sym (across_inodes image n offset (length bytes) across.below across.past))
+      ∙ sym (across_touched image n offset (length bytes) across.below across.past)
 
   pub across_cover : layout.cover image write ≡ leaf_path (height_of (root_of image 0)) (suc n)
   across_cover =
-      change_leaf (height_of (root_of image 0)) (suc n) touched across.touches.run across_run across_shape image wf refl inside write (across_inodes image n off (length bytes) across.below across.past) across_paths
+      change_leaf (height_of (root_of image 0)) (suc n) touched across.touches.run across_run across_shape image wf refl inside write (across_inodes image n offset (length bytes) across.below across.past) across_paths
 
   -- as many blocks as are made and copied
-  pub across_needs : need image write ≡ need_for image (suc n) (size_of image (suc n)) (off + length bytes) + copied_count image touched
+  pub across_needs : need image write ≡ need_for image (suc n) (size_of image (suc n)) (offset + length bytes) + copied_count image touched
   across_needs =
-      across_need image n off (length bytes) across.below across.past
-      ∙ ap (λ c. need_for image (suc n) (size_of image (suc n)) (off + length bytes) + c)
-      (change_count (height_of (root_of image 0)) (suc n) touched across.touches.run across_run across_shape image wf refl inside write (across_inodes image n off (length bytes) across.below across.past) across_paths
+      across_need image n offset (length bytes) across.below across.past
+      ∙ ap (λ c. need_for image (suc n) (size_of image (suc n)) (offset + length bytes) + c)
+      (change_count (height_of (root_of image 0)) (suc n) touched across.touches.run across_run across_shape image wf refl inside write (across_inodes image n offset (length bytes) across.below across.past) across_paths
       ∙ sym (leaf_count (height_of (root_of image 0)) (suc n) touched across.touches.run across_run across_shape image wf refl inside))

@@ -10,8 +10,8 @@ use Rattle.bp_tree.specs.Bytes.{content_part}
 use Rattle.bp_tree.proofs.ContentParts.{content_part-is}
 
 -- as many bytes as there are from an offset on
-pub read_part : (image : Image) (root size off len count : ℕ) → count ≡ min len (size - off) → content_part image root off count ≡ take len (drop off (content image root size))
-read_part image root size off len count is = go (nat_le off size) refl
+pub read_part : (image : Image) (root size offset len count : ℕ) → count ≡ min len (size - offset) → content_part image root offset count ≡ take len (drop offset (content image root size))
+read_part image root size offset len count is = go (nat_le offset size) refl
   where
     whole : List ℕ
     whole = content image root size
@@ -19,12 +19,12 @@ read_part image root size off len count is = go (nat_le off size) refl
     size_is : length whole ≡ size
     size_is = length-map-range_with_len (byte image root) 0 size
 
-    same : take count (drop off whole) ≡ take len (drop off whole)
-    same = ap (λ n. take n (drop off whole)) (is ∙ ap (min len) (sym (length-drop off whole ∙ ap (λ n. n - off) size_is))) ∙ take_min len (drop off whole)
+    same : take count (drop offset whole) ≡ take len (drop offset whole)
+    same = ap (λ n. take n (drop offset whole)) (is ∙ ap (min len) (sym (length-drop offset whole ∙ ap (λ n. n - offset) size_is))) ∙ take_min len (drop offset whole)
 
-    go : (b : Bool) → nat_le off size ≡ b → content_part image root off count ≡ take len (drop off whole)
-    go true at = content_part-is image root size off count (omega (arith, is, leb-true off size at)) ∙ same
+    go : (b : Bool) → nat_le offset size ≡ b → content_part image root offset count ≡ take len (drop offset whole)
+    go true at = content_part-is image root size offset count (omega (arith, is, leb-true offset size at)) ∙ same
     go false at =
-        let none : count ≡ 0 = omega (arith, is, leb-false off size at) in
-        let empty : content_part image root off count ≡ [] = rw none refl in
-        empty ∙ sym (ap (λ n. take n (drop off whole)) none) ∙ same
+        let none : count ≡ 0 = omega (arith, is, leb-false offset size at) in
+        let empty : content_part image root offset count ≡ [] = rw none refl in
+        empty ∙ sym (ap (λ n. take n (drop offset whole)) none) ∙ same

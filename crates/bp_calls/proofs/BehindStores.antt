@@ -59,13 +59,13 @@ use Rattle.bp_layout.specs.Need.Entrant.{linked}
 use Rattle.bp_calls.proofs.SlotStores.{IsHidden}
 
 -- a preparation, and then stores that nobody sees and the commit of one word
-module _ {kept : ℕ → Bool} (old mid third new : Memory) (change : Change) (Effect : Image → Image → Type 0) (took : List ℕ) (most_barriers most : ℕ) (one : AddsTaking kept took most_barriers most old mid)
+module _ {in_snapshot : ℕ → Bool} (old mid third new : Memory) (change : Change) (Effect : Image → Image → Type 0) (took : List ℕ) (most_barriers most : ℕ) (one : AddsTaking in_snapshot took most_barriers most old mid)
     (May : ℕ → ℕ → Type 0) (more place value amount : ℕ) (two : AddsMay May 0 more mid third) (last : Adds third new (commit place value)) where
-  pub within_behind : ((image : Image) → EachMay May (current_words mid) image → Same (current_words mid) image) → ((word stored : ℕ) → May word stored → IsOpen (current_words mid) kept [] word) →
+  pub within_behind : ((image : Image) → EachMay May (current_words mid) image → Same (current_words mid) image) → ((word stored : ℕ) → May word stored → IsOpen (current_words mid) in_snapshot [] word) →
       ((b : ℕ) → IsLiveBlock (current_words mid) b → IsLiveBlock (current_words old) b ⊎ Has took b) → place ≡ address (current_words new) (cover (current_words old) change) → length took ≡ amount →
-      IsOpen (current_words mid) kept [] place → IsWellFormed (current_words new) → Effect (current_words old) (current_words new) → PerformsWithin kept amount (most_barriers + 2) (most + (more + 1)) old new change Effect
+      IsOpen (current_words mid) in_snapshot [] place → IsWellFormed (current_words new) → Effect (current_words old) (current_words new) → PerformsWithin in_snapshot amount (most_barriers + 2) (most + (more + 1)) old new change Effect
   within_behind unseen inside live at number open_place well_formed effect =
-      within_committed kept old new change Effect place value (most_barriers + 2) (most + (more + 1)) amount took
+      within_committed in_snapshot old new change Effect place value (most_barriers + 2) (most + (more + 1)) amount took
       (record {
         prepared = one.part.added ++ two.added;
         adds = rw parts (adds_both old mid new one.part.added (two.added ++ commit place value) one.part.adds (adds_both mid third new two.added (commit place value) two.adds last));
@@ -83,12 +83,12 @@ module _ {kept : ℕ → Bool} (old mid third new : Memory) (change : Change) (E
       parts : (one.part.added ++ two.added) ++ commit place value ≡ one.part.added ++ (two.added ++ commit place value)
       parts = append_assoc one.part.added two.added (commit place value)
 
-      takes : TakesBlocks (current_words old) kept (took ++ []) (one.part.added ++ two.added)
+      takes : TakesBlocks (current_words old) in_snapshot (took ++ []) (one.part.added ++ two.added)
       takes =
-          takes_twice kept (current_words old) (current_words mid) took [] one.part.added two.added live (λ b none. elim none [ ]) one.takes
-          (record { once = tt; free = tt; stored = tt; only = StoresMay-weaker May (AnyAt (IsOpen (current_words mid) kept [])) inside two.added two.may })
+          takes_twice in_snapshot (current_words old) (current_words mid) took [] one.part.added two.added live (λ b none. elim none [ ]) one.takes
+          (record { once = tt; free = tt; stored = tt; only = StoresMay-weaker May (AnyAt (IsOpen (current_words mid) in_snapshot [])) inside two.added two.may })
 
-      open_over : (word : ℕ) → IsOpen (current_words mid) kept [] word → IsOpen (current_words old) kept took word
+      open_over : (word : ℕ) → IsOpen (current_words mid) in_snapshot [] word → IsOpen (current_words old) in_snapshot took word
       open_over word (in_taken none) = elim none [ ]
       open_over word (in_live is loose) = elim (live (word / 512) is) [ inl was ↦ in_live was loose | inr took ↦ in_taken took ]
       open_over word (at_root e) = at_root e
@@ -96,7 +96,7 @@ module _ {kept : ℕ → Bool} (old mid third new : Memory) (change : Change) (E
 
 -- ---- after the preparation
 
-module _ {kept : ℕ → Bool} (first second : Memory) (blocks after : Set) (i j : ℕ) (name : Name) (can : CanPutBehind kept first blocks i name) (puts : PutsBehind kept first second (members blocks) (members after) i j name) where
+module _ {in_snapshot : ℕ → Bool} (first second : Memory) (blocks after : Set) (i j : ℕ) (name : Name) (can : CanPutBehind in_snapshot first blocks i name) (puts : PutsBehind in_snapshot first second (members blocks) (members after) i j name) where
   abbrev image : Image
   image = current_words first
 
@@ -172,7 +172,7 @@ module _ {kept : ℕ → Bool} (first second : Memory) (blocks after : Set) (i j
       record { present = λ null. stands.present (leaf ∙ null); at = ap (λ b. 512 * b + (8 * t + 0) % 512) (sym leaf) ∙ stands.at }
 
   -- the word of the size is beside the root word
-  pub put_size_loose : (place : ℕ) → ContentStandsAt image 0 (8 * i + 2) place → kept (place / 512) ≡ false
+  pub put_size_loose : (place : ℕ) → ContentStandsAt image 0 (8 * i + 2) place → in_snapshot (place / 512) ≡ false
   put_size_loose place stands =
       let b : ℕ = node image (root_of image 0) (height_of (root_of image 0)) ((8 * i + 2) / 512) in
       let leaf : (8 * i + 1) / 512 ≡ (8 * i + 2) / 512 = omega arith in
@@ -181,7 +181,7 @@ module _ {kept : ℕ → Bool} (first second : Memory) (blocks after : Set) (i j
       let root : RootPlace image i (512 * b + (8 * i + 1) % 512) =
       inode not_inodes (record { present = λ null. stands.present (sym same ∙ null); at = ap (λ n. 512 * n + (8 * i + 1) % 512) same }) in
       let block : (512 * b + (8 * i + 1) % 512) / 512 ≡ place / 512 = omega (arith, stands.at, slot) in
-      subst (λ n. kept n ≡ false) block (can.loose.root (512 * b + (8 * i + 1) % 512) root not_inodes)
+      subst (λ n. in_snapshot n ≡ false) block (can.loose.root (512 * b + (8 * i + 1) % 512) root not_inodes)
 
   -- a live block was live, or it was taken
   pub put_live : (b : ℕ) → IsLiveBlock mid b → IsLiveBlock image b ⊎ Has puts.prepared.taken b
@@ -224,8 +224,8 @@ pub record KeepsGrown (old new : Image) (i : ℕ) : Type 0 where
   pub back : (b : ℕ) → HasBlock new (root_of new i) (size_of new i + 256) b → HasBlock old (root_of old i) (size_of old i + 256) b
   pub stay : (b : ℕ) → HasBlock old (root_of old i) (size_of old i + 256) b → HasBlock new (root_of new i) (size_of new i + 256) b
 
-module _ {kept : ℕ → Bool} (first second third last : Memory) (blocks after : Set) (i j place more : ℕ) (name : Name) (can : CanPutBehind kept first blocks i name)
-    (puts : PutsBehind kept first second (members blocks) (members after) i j name) (stored : AddsMay (AnyAt (IsHidden kept (current_words second))) 0 more second third)
+module _ {in_snapshot : ℕ → Bool} (first second third last : Memory) (blocks after : Set) (i j place more : ℕ) (name : Name) (can : CanPutBehind in_snapshot first blocks i name)
+    (puts : PutsBehind in_snapshot first second (members blocks) (members after) i j name) (stored : AddsMay (AnyAt (IsHidden in_snapshot (current_words second))) 0 more second third)
     (ready_then : IsReadyBehind (current_words third) i j name) (keeps : KeepsGrown (current_words second) (current_words third) i) (size_at : ContentStandsAt (current_words first) 0 (8 * i + 2) place)
     (commits : Adds third last (commit place (size_of (current_words first) i + 256))) where
   abbrev before : Image
@@ -258,11 +258,11 @@ module _ {kept : ℕ → Bool} (first second third last : Memory) (blocks after 
   middle_size_at : ContentStandsAt middle 0 (8 * i + 2) place
   middle_size_at = put_size_at first second blocks after i j name can puts place size_at
 
-  trees_of : (other : Image) → EachMay (AnyAt (IsHidden kept middle)) middle other → SameTrees middle other
-  trees_of other all = spare_trees middle other middle_well (each_weaker (IsHidden kept middle) (IsSpare middle) middle other (λ p both. both.0) all)
+  trees_of : (other : Image) → EachMay (AnyAt (IsHidden in_snapshot middle)) middle other → SameTrees middle other
+  trees_of other all = spare_trees middle other middle_well (each_weaker (IsHidden in_snapshot middle) (IsSpare middle) middle other (λ p both. both.0) all)
 
   trees : SameTrees middle full
-  trees = trees_of full (each_after (AnyAt (IsHidden kept middle)) 0 more second third stored)
+  trees = trees_of full (each_after (AnyAt (IsHidden in_snapshot middle)) 0 more second third stored)
 
   pub full_well_formed : IsWellFormed full
   full_well_formed = prepared_well_formed middle full middle_well trees.prepared
@@ -311,15 +311,15 @@ module _ {kept : ℕ → Bool} (first second third last : Memory) (blocks after 
         rw behind_committed
         (sym (ap (address done) covers ∙ size_covered before full i place (size_of full i + 256) well full_well_formed full_root here ready_then.reached can.lacks.directory can.none full_size_at))
 
-    in_four : PerformsWithin kept (name_need before i) 4 (stores + (more + 1)) first last change Effect
+    in_four : PerformsWithin in_snapshot (name_need before i) 4 (stores + (more + 1)) first last change Effect
     in_four =
-        within_behind first second third last change Effect puts.prepared.taken 2 stores puts.prepared.adds (AnyAt (IsHidden kept middle)) more place (size_of before i + 256) (name_need before i) stored commits
+        within_behind first second third last change Effect puts.prepared.taken 2 stores puts.prepared.adds (AnyAt (IsHidden in_snapshot middle)) more place (size_of before i + 256) (name_need before i) stored commits
         (λ other all. prepared_same middle other middle_well (trees_of other all).prepared) (λ p v may. may.1) (put_live first second blocks after i j name can puts) covered
         (put_number first second blocks after i j name can puts) (content_open middle [] 0 (8 * i + 2) place inode_file middle_size_leaf middle_size_at (put_size_loose first second blocks after i j name can puts place size_at))
         (rw behind_committed well_formed) (rw behind_committed effect)
 
-    pub behind_within : PerformsWithin kept (name_need before i) 5 (stores_behind_growth (name_need before i)) first last change Effect
-    behind_within = within_more kept (name_need before i) 4 (stores + (more + 1)) first last change Effect in_four 5 (stores_behind_growth (name_need before i)) (omega arith) (few_stores few)
+    pub behind_within : PerformsWithin in_snapshot (name_need before i) 5 (stores_behind_growth (name_need before i)) first last change Effect
+    behind_within = within_more in_snapshot (name_need before i) 4 (stores + (more + 1)) first last change Effect in_four 5 (stores_behind_growth (name_need before i)) (omega arith) (few_stores few)
 
   -- ---- the blocks
 
@@ -381,7 +381,7 @@ module _ {kept : ℕ → Bool} (first second third last : Memory) (blocks after 
               (other_block_on before middle i (size_of before i) (size_of before i + 256) puts.bytes puts.prepared.taken prepares live.tree live.reached other b live.has));
         }
 
-    pub behind_sets : length after ≡ length blocks → (inodes filled : Set) → AreExact before kept blocks inodes → length filled ≡ length inodes → AreFreeInodes done (contains filled) → AreExact done kept after filled
+    pub behind_sets : length after ≡ length blocks → (inodes filled : Set) → AreExact before in_snapshot blocks inodes → length filled ≡ length inodes → AreFreeInodes done (contains filled) → AreExact done in_snapshot after filled
     behind_sets room inodes filled exact as_long free = record {
       block_room = rw whole (room ∙ exact.block_room);
       inode_room = rw whole (as_long ∙ exact.inode_room);

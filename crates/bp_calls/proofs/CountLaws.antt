@@ -18,24 +18,24 @@ use Rattle.bp_layout.specs.WellFormed.{IsWellFormed}
 use Rattle.bp_layout.specs.Words.{Image, block_count}
 use Rattle.bp_layout.proofs.FewLeaves.{few_inodes}
 use Rattle.bp_layout.proofs.Reached.{reached-in_file}
-use Rattle.bp_shapes.specs.Sets.{AreExact, IsExact, kept_of}
+use Rattle.bp_shapes.specs.Sets.{AreExact, IsExact, in_snapshot_of}
 
 -- ---- the parts
 
-module _ {R : Type 0} (old new : Image) (before after : Parts R) (exact : IsExact old before) (sets : AreExact new (kept_of before) after.blocks after.inodes) (frozen : after.frozen ≡ before.frozen) where
-  pub exact_with : length new ≡ length old → length after.counts ≡ length before.counts → AreCounts new after.counts → IsExact new after
+module _ {R : Type 0} (old new : Image) (before after : Parts R) (exact : IsExact old before) (sets : AreExact new (in_snapshot_of before) after.free_blocks after.free_inodes) (snapshot_blocks : after.snapshot_blocks ≡ before.snapshot_blocks) where
+  pub exact_with : length new ≡ length old → length after.link_counts ≡ length before.link_counts → AreCounts new after.link_counts → IsExact new after
   exact_with whole room counts = record {
-    sets = subst (λ (kept : Set). AreExact new (has kept) after.blocks after.inodes) (sym frozen) sets;
+    sets = subst (λ (snapshot : Set). AreExact new (has snapshot) after.free_blocks after.free_inodes) (sym snapshot_blocks) sets;
     counts = counts;
     count_room = room ∙ exact.count_room ∙ ap (λ n. 64 * (n / 512)) (sym whole);
-    frozen_room = ap (λ (blocks : Set). length blocks) frozen ∙ exact.frozen_room ∙ ap (λ n. n / 512) (sym whole);
+    snapshot_room = ap (λ (blocks : Set). length blocks) snapshot_blocks ∙ exact.snapshot_room ∙ ap (λ n. n / 512) (sym whole);
   }
 
-  module _ (counts : after.counts ≡ before.counts) where
+  module _ (counts : after.link_counts ≡ before.link_counts) where
     -- where the bytes of files are others, or of one
     pub exact_files : IsWellFormed old → KeepsDirectories old new → IsExact new after
     exact_files wf keeps =
-        exact_with keeps.trees.whole (ap (λ (ns : List ℕ). length ns) counts) (subst (AreCounts new) (sym counts) (changed_counts old new wf keeps before.counts exact.counts))
+        exact_with keeps.trees.whole (ap (λ (ns : List ℕ). length ns) counts) (subst (AreCounts new) (sym counts) (changed_counts old new wf keeps before.link_counts exact.counts))
 
     pub exact_file : (x : ℕ) → IsWellFormed old → ChangesFile old new x → IsExact new after
     exact_file x wf changes = exact_files wf (changed.keeps old new x wf changes)
@@ -43,10 +43,10 @@ module _ {R : Type 0} (old new : Image) (before after : Parts R) (exact : IsExac
     -- and where nobody sees what was done
     pub exact_meaning : IsWellFormed old → SameMeaning old new → IsExact new after
     exact_meaning wf same =
-        exact_with same.trees.whole (ap (λ (ns : List ℕ). length ns) counts) (subst (AreCounts new) (sym counts) (meaning_counts old new wf same before.counts exact.counts))
+        exact_with same.trees.whole (ap (λ (ns : List ℕ). length ns) counts) (subst (AreCounts new) (sym counts) (meaning_counts old new wf same before.link_counts exact.counts))
 
 -- an inode that is reached is counted
-pub reached_counted : {R : Type 0} (image : Image) (parts : Parts R) → IsExact image parts → IsWellFormed image → (i : ℕ) → IsReached image i → i < length parts.counts
+pub reached_counted : {R : Type 0} (image : Image) (parts : Parts R) → IsExact image parts → IsWellFormed image → (i : ℕ) → IsReached image i → i < length parts.link_counts
 reached_counted image parts exact wf i reached =
     let low : i < inode_count image = reached-in_file image wf i reached in
     let few : size_of image 0 / 64 ≤ 64 * block_count image =

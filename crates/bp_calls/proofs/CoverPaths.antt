@@ -31,18 +31,18 @@ module _ (there : WordPath → Bool) (paths : List WordPath) where
       ap (λ n. take n path) size ∙ sym (take-take far.count (length (common_all paths)) path far.far.low) ∙ ap (take far.count) begins.same ∙ sym far.is
 
 -- what bytes below a size touch: first the word of the first of them
-writes_first : (image : Image) (i off len : ℕ) → off < size_of image i → Has (touched_at (heights_now image) image (writes i off len)) (content_path_at (heights_now image) i (off / 8))
-writes_first image i off len low = subst (λ starts. Has (touched_by starts) (content_path_at (heights_now image) i (off / 8))) (sym (lt-ltb off (size_of image i) low)) (inl refl)
+writes_first : (image : Image) (i offset len : ℕ) → offset < size_of image i → Has (touched_at (heights_now image) image (writes i offset len)) (content_path_at (heights_now image) i (offset / 8))
+writes_first image i offset len low = subst (λ starts. Has (touched_by starts) (content_path_at (heights_now image) i (offset / 8))) (sym (lt-ltb offset (size_of image i) low)) (inl refl)
   where
     touched_by : Bool → List WordPath
     touched_by starts =
-        map (content_path_at (heights_now image) i) (if starts then range_with_len (off / 8) (suc ((min (off + len) (size_of image i) - 1) / 8 - off / 8)) else [])
-        ++ (if nat_lt (size_of image i) (off + len) then inode_path (heights_now image 0) i 2 ∷ [] else [])
+        map (content_path_at (heights_now image) i) (if starts then range_with_len (offset / 8) (suc ((min (offset + len) (size_of image i) - 1) / 8 - offset / 8)) else [])
+        ++ (if nat_lt (size_of image i) (offset + len) then inode_path (heights_now image 0) i 2 ∷ [] else [])
 
-pub writes_front : (image : Image) (i off len : ℕ) → off < size_of image i →
-    take (length (cover_now image (writes i off len))) (tree_path (height_of (root_of image 0)) i (suc (height_of (root_of image i))) (off / 8)) ≡ cover_now image (writes i off len)
-writes_front image i off len low =
-    cover_front (is_there_now image) (touched_at (heights_now image) image (writes i off len)) (content_path_at (heights_now image) i (off / 8)) (writes_first image i off len low)
+pub writes_front : (image : Image) (i offset len : ℕ) → offset < size_of image i →
+    take (length (cover_now image (writes i offset len))) (tree_path (height_of (root_of image 0)) i (suc (height_of (root_of image i))) (offset / 8)) ≡ cover_now image (writes i offset len)
+writes_front image i offset len low =
+    cover_front (is_there_now image) (touched_at (heights_now image) image (writes i offset len)) (content_path_at (heights_now image) i (offset / 8)) (writes_first image i offset len low)
 
-pub writes_there : (image : Image) (i off len depth : ℕ) → depth < length (cover_now image (writes i off len)) → is_there_now image (take depth (cover_now image (writes i off len))) ≡ true
-writes_there image i off len depth low = cover_there (is_there_now image) (touched_at (heights_now image) image (writes i off len)) depth low
+pub writes_there : (image : Image) (i offset len depth : ℕ) → depth < length (cover_now image (writes i offset len)) → is_there_now image (take depth (cover_now image (writes i offset len))) ≡ true
+writes_there image i offset len depth low = cover_there (is_there_now image) (touched_at (heights_now image) image (writes i offset len)) depth low

@@ -1,4 +1,4 @@
--- The ways to the words near which a name comes into a directory, and what is not kept once they are thawed.
+-- The ways to the words near which a name comes into a directory, and what is not in the snapshot once they are thawed.
 use Rattle.std.proofs.Common.{◌≡◌, ◌≢◌, ℕ, Bool, false, zero, suc, ◌+◌, ◌-◌, ◌*◌, ◌/◌, ◌<◌, List, [], ◌∷◌, ◌++◌, length, flat_map, Option, None, Some, refl, sym, ◌∙◌, ap, ap₂, subst, arith, inl, inr}
 use Rattle.std.proofs.lemmas.List.{append-nil}
 use Rattle.bp_append.specs.Prepared.{HasLooseEnd}
@@ -111,9 +111,9 @@ module _ (image : Image) (wf : IsWellFormed image) (i : ℕ) (reached : IsReache
   enter_ways e inside path has =
       either_are (entry_ways image i (empty_slot image i)) (entrant_ways image e) (entry_are (empty_slot image i) refl) (entrant_are e inside) path (subst (λ (ps : List WordPath). Has ps path) (enter_targets e) has)
 
-  -- ---- what is not kept where nothing is left to thaw
+  -- ---- what is not in the snapshot where nothing is left to thaw
 
-  module _ (kept : ℕ → Bool) (e : Entrant) (clear : thawed image kept (enters i e) ≡ []) where
+  module _ (in_snapshot : ℕ → Bool) (e : Entrant) (clear : thawed image in_snapshot (enters i e) ≡ []) where
     among : (path : WordPath) → Has (entry_ways image i (empty_slot image i) ++ entrant_ways image e) path → Has (targets image (enters i e)) path
     among path has = subst (λ (ps : List WordPath). Has ps path) (sym (enter_targets e)) has
 
@@ -124,34 +124,34 @@ module _ (image : Image) (wf : IsWellFormed image) (i : ℕ) (reached : IsReache
     in_entrant : (path : WordPath) → Has (entrant_ways image e) path → Has (targets image (enters i e)) path
     in_entrant path has = among path (has-behind (entry_ways image i (empty_slot image i)) (entrant_ways image e) path has)
 
-    slot_loose : (s : ℕ) → empty_slot image i ≡ Some s → HasLooseWord image kept i (32 * s + 0)
+    slot_loose : (s : ℕ) → empty_slot image i ≡ Some s → HasLooseWord image in_snapshot i (32 * s + 0)
     slot_loose s found place stands =
         let low : s < entry_count image i = (found_empty image i s found).0 in
         let way : WordPath = tree_path (heights_now image 0) i (suc (heights_now image i)) (32 * s + 0) in
         let has : Has (targets image (enters i e)) way = in_entry (Some s) found way (inl refl) in
         let leaf : node image (root_of image i) (height_of (root_of image i)) ((32 * s + 0) / 512) ≡ place / 512 = omega (arith, stands.at) in
-        subst (λ b. kept b ≡ false) leaf
-        (loose_word image wf kept i (heights_now image i) (32 * s + 0) reached
+        subst (λ b. in_snapshot b ≡ false) leaf
+        (loose_word image wf in_snapshot i (heights_now image i) (32 * s + 0) reached
         (live_above _ _ (height_of (root_of image i)) (32 * s + 0) (live_content (root_of image i) (size_of image i) (32 * s + 0) (omega (arith, low)))) stands.present
-        (loose-on image kept (targets image (enters i e)) clear way has (length way - 1)))
+        (loose-on image in_snapshot (targets image (enters i e)) clear way has (length way - 1)))
 
-    behind_loose : empty_slot image i ≡ None → HasLooseEnd image kept i
+    behind_loose : empty_slot image i ≡ None → HasLooseEnd image in_snapshot i
     behind_loose none =
-        loose_end image wf kept i reached
-        (loose-on image kept (targets image (enters i e)) clear (end_path_now image i) (in_entry None none (end_path_now image i) (inr (inr (inl refl)))) (length (root_path_now image i) - 1))
+        loose_end image wf in_snapshot i reached
+        (loose-on image in_snapshot (targets image (enters i e)) clear (end_path_now image i) (in_entry None none (end_path_now image i) (inr (inr (inl refl)))) (length (root_path_now image i) - 1))
 
-    pub entry_loose : HasLooseEntry image kept i
+    pub entry_loose : HasLooseEntry image in_snapshot i
     entry_loose = record { slot = slot_loose; behind = behind_loose }
 
-    pub inode_loose : (j : ℕ) → e ≡ taken j → j < inode_count image → HasLooseWord image kept 0 (8 * j + 0)
+    pub inode_loose : (j : ℕ) → e ≡ taken j → j < inode_count image → HasLooseWord image in_snapshot 0 (8 * j + 0)
     inode_loose j is inside place stands =
         let way : WordPath = inode_path (heights_now image 0) j 0 in
         let has : Has (targets image (enters i e)) way = in_entrant way (subst (λ (o : Entrant). Has (entrant_ways image o) way) (sym is) (inl refl)) in
         let leaf : node image (root_of image 0) (height_of (root_of image 0)) ((8 * j + 0) / 512) ≡ place / 512 = omega (arith, stands.at) in
-        subst (λ b. kept b ≡ false) leaf (loose_inode_word image wf kept j 0 inside (omega arith) (loose-on image kept (targets image (enters i e)) clear way has (length way - 1)))
+        subst (λ b. in_snapshot b ≡ false) leaf (loose_inode_word image wf in_snapshot j 0 inside (omega arith) (loose-on image in_snapshot (targets image (enters i e)) clear way has (length way - 1)))
 
-    pub file_loose : e ≡ grown → HasLooseEnd image kept 0
+    pub file_loose : e ≡ grown → HasLooseEnd image in_snapshot 0
     file_loose is =
-        loose_end image wf kept 0 inode_file
-        (loose-on image kept (targets image (enters i e)) clear (end_path_now image 0)
+        loose_end image wf in_snapshot 0 inode_file
+        (loose-on image in_snapshot (targets image (enters i e)) clear (end_path_now image 0)
         (in_entrant (end_path_now image 0) (subst (λ (o : Entrant). Has (entrant_ways image o) (end_path_now image 0)) (sym is) (inr (inl refl)))) (length (root_path_now image 0) - 1))

@@ -49,7 +49,7 @@ module _ (old mid new : Image) (wf : IsWellFormed old) (same : SameMeaning old m
     reached = here;
     trees = record {
       whole = gains.trees.whole ∙ same.trees.whole;
-      marked = gains.trees.marked ∙ same.trees.marked;
+      has_magic = gains.trees.has_magic ∙ same.trees.has_magic;
       counted = gains.trees.counted ∙ same.trees.counted;
       low = λ t r. gains.trees.low t (on t r);
       sound = λ t r. gains.trees.sound t (on t r);

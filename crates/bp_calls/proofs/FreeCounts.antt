@@ -12,8 +12,8 @@ use Rattle.bp_layout.specs.Words.{Image, block_count}
 use Rattle.bp_layout.specs.Free.{AreFreeBlocks, HasFree}
 
 -- two sets of just the free blocks are one
-same_test : (image : Image) (kept s t : ℕ → Bool) → AreFreeBlocks image kept s → AreFreeBlocks image kept t → (b : ℕ) → s b ≡ t b
-same_test image kept s t one two b = go (cases_Bool (s b)) (cases_Bool (t b))
+same_test : (image : Image) (in_snapshot s t : ℕ → Bool) → AreFreeBlocks image in_snapshot s → AreFreeBlocks image in_snapshot t → (b : ℕ) → s b ≡ t b
+same_test image in_snapshot s t one two b = go (cases_Bool (s b)) (cases_Bool (t b))
   where
     go : (s b ≡ true) ⊎ (s b ≡ false) → (t b ≡ true) ⊎ (t b ≡ false) → s b ≡ t b
     go (inl is) also = is ∙ sym (two.all b (one.free b is))
@@ -21,23 +21,23 @@ same_test image kept s t one two b = go (cases_Bool (s b)) (cases_Bool (t b))
     go (inr not) (inr also) = not ∙ sym also
 
 -- so there is one number of free blocks
-pub free_once : (image : Image) (kept : ℕ → Bool) (a b : ℕ) → HasFree image kept a → HasFree image kept b → a ≡ b
-free_once image kept a b one two =
-    sym one.number ∙ ap length (filter_agree one.set two.set (same_test image kept one.set two.set one.are two.are) (range_with_len 0 (block_count image))) ∙ two.number
+pub free_once : (image : Image) (in_snapshot : ℕ → Bool) (a b : ℕ) → HasFree image in_snapshot a → HasFree image in_snapshot b → a ≡ b
+free_once image in_snapshot a b one two =
+    sym one.number ∙ ap length (filter_agree one.set two.set (same_test image in_snapshot one.set two.set one.are two.are) (range_with_len 0 (block_count image))) ∙ two.number
 
 -- the members of a set of just the free blocks, with room for all
-pub free_members : (image : Image) (kept : ℕ → Bool) (blocks : Set) → AreFreeBlocks image kept (has blocks) → length blocks ≡ block_count image → HasFree image kept (length (members blocks))
-free_members image kept blocks are room = record { set = has blocks; are = are; number = ap (λ n. length (filter (has blocks) (range_with_len 0 n))) (sym room) }
+pub free_members : (image : Image) (in_snapshot : ℕ → Bool) (blocks : Set) → AreFreeBlocks image in_snapshot (has blocks) → length blocks ≡ block_count image → HasFree image in_snapshot (length (members blocks))
+free_members image in_snapshot blocks are room = record { set = has blocks; are = are; number = ap (λ n. length (filter (has blocks) (range_with_len 0 n))) (sym room) }
 
-pub no_free : (image : Image) (kept : ℕ → Bool) (blocks : Set) → AreFreeBlocks image kept (has blocks) → members blocks ≡ [] → HasFree image kept 0
-no_free image kept blocks are none = record {
+pub no_free : (image : Image) (in_snapshot : ℕ → Bool) (blocks : Set) → AreFreeBlocks image in_snapshot (has blocks) → members blocks ≡ [] → HasFree image in_snapshot 0
+no_free image in_snapshot blocks are none = record {
   set = has blocks;
   are = are;
   number = ap length (filter_none (has blocks) 0 (block_count image) (λ k low high. none_in blocks none k));
 }
 
 -- where enough blocks are free none are lacking
-pub lacks_nothing : (image : Image) (kept : ℕ → Bool) (blocks : Set) → AreFreeBlocks image kept (has blocks) → length blocks ≡ block_count image → (wanted : ℕ) → wanted ≤ length (members blocks) → (lacks : NoSpace) → LacksBlocks image kept wanted lacks → ⊥
-lacks_nothing image kept blocks are room wanted enough lacks has =
-    let number : lacks.free ≡ length (members blocks) = free_once image kept lacks.free (length (members blocks)) has.free (free_members image kept blocks are room) in
+pub lacks_nothing : (image : Image) (in_snapshot : ℕ → Bool) (blocks : Set) → AreFreeBlocks image in_snapshot (has blocks) → length blocks ≡ block_count image → (wanted : ℕ) → wanted ≤ length (members blocks) → (lacks : NoSpace) → LacksBlocks image in_snapshot wanted lacks → ⊥
+lacks_nothing image in_snapshot blocks are room wanted enough lacks has =
+    let number : lacks.free ≡ length (members blocks) = free_once image in_snapshot lacks.free (length (members blocks)) has.free (free_members image in_snapshot blocks are room) in
     absurd (omega (arith, number, enough, has.needed, has.fewer))

@@ -19,7 +19,7 @@ use Rattle.bp_calls.specs.GivenBack.{GivesBack}
 
 module _ (P Q : ℕ → Type 0) (old new : Set) where
   -- the same numbers, told in other words
-  pub gives_as : {kept : ℕ → Bool} → ((b : ℕ) → P b → Q b) → ((b : ℕ) → Q b → P b) → GivesBack kept P old new → GivesBack kept Q old new
+  pub gives_as : {in_snapshot : ℕ → Bool} → ((b : ℕ) → P b → Q b) → ((b : ℕ) → Q b → P b) → GivesBack in_snapshot P old new → GivesBack in_snapshot Q old new
   gives_as there back gives = record {
     room = gives.room;
     given = λ b q loose. gives.given b (back b q) loose;
@@ -27,10 +27,10 @@ module _ (P Q : ℕ → Type 0) (old new : Set) where
     only = λ b is. elim (gives.only b is) [ inl was ↦ inl was | inr (p, loose) ↦ inr (there b p, loose) ];
   }
 
-pub gives_none : {kept : ℕ → Bool} (P : ℕ → Type 0) (set : Set) → ((b : ℕ) → P b → ⊥) → GivesBack kept P set set
+pub gives_none : {in_snapshot : ℕ → Bool} (P : ℕ → Type 0) (set : Set) → ((b : ℕ) → P b → ⊥) → GivesBack in_snapshot P set set
 gives_none P set none = record { room = refl; given = λ b p loose. absurd (none b p); still = λ b is. is; only = λ b is. inl is }
 
-pub gives_twice : {kept : ℕ → Bool} (P Q R : ℕ → Type 0) (old mid new : Set) → ((b : ℕ) → P b → R b) → ((b : ℕ) → Q b → R b) → ((b : ℕ) → R b → P b ⊎ Q b) → GivesBack kept P old mid → GivesBack kept Q mid new → GivesBack kept R old new
+pub gives_twice : {in_snapshot : ℕ → Bool} (P Q R : ℕ → Type 0) (old mid new : Set) → ((b : ℕ) → P b → R b) → ((b : ℕ) → Q b → R b) → ((b : ℕ) → R b → P b ⊎ Q b) → GivesBack in_snapshot P old mid → GivesBack in_snapshot Q mid new → GivesBack in_snapshot R old new
 gives_twice P Q R old mid new first second both one two = record {
   room = two.room ∙ one.room;
   given = λ b r loose. elim (both b r) [ inl p ↦ two.still b (one.given b p loose) | inr q ↦ two.given b q loose ];
@@ -51,8 +51,8 @@ module _ (image : Image) (root : ℕ) where
   }
 
   -- what is given up the tree has not under a size up to the smaller one
-  pub given_up_not_kept : (size shorter less b : ℕ) → IsSound image root size → less ≤ shorter → less ≤ size → IsGivenUp image root size shorter b → HasBlock image root less b → ⊥
-  given_up_not_kept size shorter less b sound low smaller gone has =
+  pub given_up_not_in_snapshot : (size shorter less b : ℕ) → IsSound image root size → less ≤ shorter → less ≤ size → IsGivenUp image root size shorter b → HasBlock image root less b → ⊥
+  given_up_not_in_snapshot size shorter less b sound low smaller gone has =
       let one : HasBlock image root size b = record {
         depth = has.depth;
         index = has.index;
@@ -112,7 +112,7 @@ module _ (image : Image) (root : ℕ) where
             record { whole = omega (arith, rw first at past); is = sym named ∙ ap block_of (tree_word-zero image root k) }
         go (suc d) k live named past = absurd (omega (arith, live.height, leaf))
 
-    pub leaf_gives : {kept : ℕ → Bool} (old new : Set) → GivesBack kept (IsTopGivenUp (block_of root) shorter) old new → GivesBack kept (IsGivenUp image root size shorter) old new
+    pub leaf_gives : {in_snapshot : ℕ → Bool} (old new : Set) → GivesBack in_snapshot (IsTopGivenUp (block_of root) shorter) old new → GivesBack in_snapshot (IsGivenUp image root size shorter) old new
     leaf_gives old new gives = gives_as (IsTopGivenUp (block_of root) shorter) (IsGivenUp image root size shorter) old new leaf_there leaf_back gives
 
 -- ---- a tree that is higher
@@ -198,12 +198,12 @@ module _ {image : Image} {root size level shorter : ℕ} (loses : LosesSlots ima
       at_top : b ≡ block_of root → (shorter ≡ 0) ⊎ (shorter ≡ 0 → ⊥) → IsGivenUpIn image root size level shorter ((size - 1) / span level + 1) b
       at_top is (inl none) = top (record { whole = none; is = is })
       at_top is (inr more) =
-          absurd (given_up_not_kept image root size shorter shorter b sound (omega arith) (omega (arith, some)) gone (subst (HasBlock image root shorter) (sym is) (top_block image root shorter (omega (arith, more)) present)))
+          absurd (given_up_not_in_snapshot image root size shorter shorter b sound (omega arith) (omega (arith, some)) gone (subst (HasBlock image root shorter) (sym is) (top_block image root shorter (omega (arith, more)) present)))
 
       in_child : (slot : ℕ) → slot * span level < size → (has : Child slot (piece size level slot) b) →
           (has.index * covered (suc has.pointer.level) < shorter - slot * span level) ⊎ (shorter - slot * span level ≤ has.index * covered (suc has.pointer.level)) →
           IsGivenUpIn image root size level shorter ((size - 1) / span level + 1) b
-      in_child slot live has (inl low) = absurd (given_up_not_kept image root size shorter shorter b sound (omega arith) (omega (arith, some)) gone (kept_below slot b live has low))
+      in_child slot live has (inl low) = absurd (given_up_not_in_snapshot image root size shorter shorter b sound (omega arith) (omega (arith, some)) gone (kept_below slot b live has low))
       in_child slot live has (inr past) = below slot (last_slot slot live) live (record { has = has; past = past })
 
       go : (b ≡ block_of root) ⊎ InChild image root size level shape b → IsGivenUpIn image root size level shorter ((size - 1) / span level + 1) b
@@ -218,7 +218,7 @@ module _ {image : Image} {root size level shorter : ℕ} (loses : LosesSlots ima
       smaller c = omega (arith, some)
 
       none : HasBlock image root shorter b → ⊥
-      none kept = go (joined_block image root shorter level shape_shorter b kept)
+      none in_snapshot = go (joined_block image root shorter level shape_shorter b in_snapshot)
         where
           go : (b ≡ block_of root) ⊎ InChild image root shorter level shape_shorter b → ⊥
           go (inl is) = joins.own slot live (subst (Child slot (piece size level slot)) is gone.has)
@@ -227,18 +227,18 @@ module _ {image : Image} {root size level shorter : ℕ} (loses : LosesSlots ima
               let also : Child inside.slot (piece size level inside.slot) b = has_larger image (child image (block_of root) level inside.slot) (piece shorter level inside.slot) (piece size level inside.slot) b (smaller inside.slot) inside.has in
               let same : inside.slot ≡ slot = joins.apart inside.slot slot b there live also gone.has in
               let here : Child slot (piece shorter level slot) b = subst (λ c. Child c (piece shorter level c) b) same inside.has in
-              given_up_not_kept image (child image (block_of root) level slot) (piece size level slot) (shorter - slot * span level) (piece shorter level slot) b (joins.sound slot live) (omega arith) (smaller slot) gone here
+              given_up_not_in_snapshot image (child image (block_of root) level slot) (piece size level slot) (shorter - slot * span level) (piece shorter level slot) b (joins.sound slot live) (omega arith) (smaller slot) gone here
 
   -- ---- the walk over the slots
 
-  pub slots_begin : {kept : ℕ → Bool} (old new : Set) → GivesBack kept (IsTopGivenUp (block_of root) shorter) old new → GivesBack kept (IsGivenUpIn image root size level shorter (shorter / span level)) old new
+  pub slots_begin : {in_snapshot : ℕ → Bool} (old new : Set) → GivesBack in_snapshot (IsTopGivenUp (block_of root) shorter) old new → GivesBack in_snapshot (IsGivenUpIn image root size level shorter (shorter / span level)) old new
   slots_begin old new gives = gives_as (IsTopGivenUp (block_of root) shorter) (IsGivenUpIn image root size level shorter (shorter / span level)) old new (λ b is. top is) back gives
     where
       back : (b : ℕ) → IsGivenUpIn image root size level shorter (shorter / span level) b → IsTopGivenUp (block_of root) shorter b
       back b (top is) = is
       back b (below slot low live gone) = absurd (before_first slot b low gone)
 
-  pub slots_step : {kept : ℕ → Bool} (slot : ℕ) (old now new : Set) → slot * span level < size → GivesBack kept (IsGivenUpIn image root size level shorter slot) old now → GivesBack kept (GivenUpAt slot) now new → GivesBack kept (IsGivenUpIn image root size level shorter (slot + 1)) old new
+  pub slots_step : {in_snapshot : ℕ → Bool} (slot : ℕ) (old now new : Set) → slot * span level < size → GivesBack in_snapshot (IsGivenUpIn image root size level shorter slot) old now → GivesBack in_snapshot (GivenUpAt slot) now new → GivesBack in_snapshot (IsGivenUpIn image root size level shorter (slot + 1)) old new
   slots_step slot old now new live one two =
       gives_twice (IsGivenUpIn image root size level shorter slot) (GivenUpAt slot) (IsGivenUpIn image root size level shorter (slot + 1)) old now new there (λ b gone. below slot (omega arith) live gone) both one two
     where
@@ -250,11 +250,11 @@ module _ {image : Image} {root size level shorter : ℕ} (loses : LosesSlots ima
       both b (top is) = inl (top is)
       both b (below c low at gone) = elim (cases_eq c slot) [ inl e ↦ inr (subst (λ x. GivenUpAt x b) e gone) | inr other ↦ inl (below c (omega (arith, low, other)) at gone) ]
 
-  pub slots_end : {kept : ℕ → Bool} (old new : Set) → GivesBack kept (IsGivenUpIn image root size level shorter ((size - 1) / span level + 1)) old new → GivesBack kept (IsGivenUp image root size shorter) old new
+  pub slots_end : {in_snapshot : ℕ → Bool} (old new : Set) → GivesBack in_snapshot (IsGivenUpIn image root size level shorter ((size - 1) / span level + 1)) old new → GivesBack in_snapshot (IsGivenUp image root size shorter) old new
   slots_end old new gives = gives_as (IsGivenUpIn image root size level shorter ((size - 1) / span level + 1)) (IsGivenUp image root size shorter) old new (given_up_out _) given_up_in gives
 
   -- the blocks in a slot are not yet in the set
-  pub not_yet : {kept : ℕ → Bool} (slot : ℕ) (old now : Set) → slot * span level < size → ((b : ℕ) → HasBlock image root size b → has old b ≡ false) → GivesBack kept (IsGivenUpIn image root size level shorter slot) old now →
+  pub not_yet : {in_snapshot : ℕ → Bool} (slot : ℕ) (old now : Set) → slot * span level < size → ((b : ℕ) → HasBlock image root size b → has old b ≡ false) → GivesBack in_snapshot (IsGivenUpIn image root size level shorter slot) old now →
       (b : ℕ) → Child slot (piece size level slot) b → has now b ≡ false
   not_yet slot old now live taken gives b here = go (cases_Bool (has now b))
     where

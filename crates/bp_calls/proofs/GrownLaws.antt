@@ -284,7 +284,7 @@ module _ (old : Image) (wf : IsWellFormed old) (n j place : ℕ) (name : Name) (
       reached = ready.reached;
       trees = record {
         whole = whole;
-        marked = superblock 0 (omega arith);
+        has_magic = superblock 0 (omega arith);
         counted = superblock 1 (omega arith);
         low = low_now;
         sound = sound_stays;

@@ -123,7 +123,7 @@ module _ (old mid : Image) (taken : List ℕ) (wf : IsWellFormed old) (ready : P
   meaning = record {
     trees = record {
       whole = length-set mid 3 end ∙ ready.meaning.trees.whole;
-      marked = top_word mid end 0 (omega arith) ∙ ready.meaning.trees.marked;
+      has_magic = top_word mid end 0 (omega arith) ∙ ready.meaning.trees.has_magic;
       counted = top_word mid end 1 (omega arith) ∙ ready.meaning.trees.counted;
       low = low_new;
       sound = sound_new;

@@ -83,7 +83,7 @@ module _ (old new : Image) (taken : List ℕ) (wf : IsWellFormed old) (adds : Ad
   longer_taken b took = record { tree = 0; reached = inode_file; has = adds.has_taken b took }
 
   -- what is free now was free, and was not taken
-  pub longer_free : {kept : ℕ → Bool} (b : ℕ) → IsFreeBlock new kept b → IsFreeBlock old kept b × (Has taken b → ⊥)
+  pub longer_free : {in_snapshot : ℕ → Bool} (b : ℕ) → IsFreeBlock new in_snapshot b → IsFreeBlock old in_snapshot b × (Has taken b → ⊥)
   longer_free b free = (
     record { low = free.low; high = rw adds.meaning.trees.whole at free.high; free = λ live. free.free (longer_stays b live); loose = free.loose },
     λ took. free.free (longer_taken b took),

@@ -1,4 +1,4 @@
--- What is not kept stays so where the inode file gets one more leaf, and neither is that leaf.
+-- What is not in the snapshot stays so where the inode file gets one more leaf, and neither is that leaf.
 use Rattle.std.proofs.Common.{◌≡◌, ◌≢◌, ℕ, Bool, false, ◌+◌, ◌-◌, ◌*◌, ◌/◌, ◌%◌, ◌<◌, ◌≤◌, List, refl, sym, ◌∙◌, ap, subst, arith, inl, inr, Some}
 use Rattle.bp_append.specs.Prepared.{HasLooseEnd}
 use Rattle.bp_append.proofs.NeedLaws.{tall_enough}
@@ -18,7 +18,7 @@ use Rattle.bp_calls.proofs.GrowthLaws.{longer_empty_slot, longer_node, longer_si
 use Rattle.bp_calls.proofs.Refusals.{found_empty}
 use Rattle.bp_calls.proofs.Trees.{live_leaf}
 
-module _ (old new : Image) (taken : List ℕ) (wf : IsWellFormed old) (adds : AddsInodes old new taken) (kept : ℕ → Bool) (free : (b : ℕ) → Has taken b → kept b ≡ false) where
+module _ (old new : Image) (taken : List ℕ) (wf : IsWellFormed old) (adds : AddsInodes old new taken) (in_snapshot : ℕ → Bool) (free : (b : ℕ) → Has taken b → in_snapshot b ≡ false) where
   abbrev low : ℕ
   low = height_of (root_of old 0)
 
@@ -65,26 +65,26 @@ module _ (old new : Image) (taken : List ℕ) (wf : IsWellFormed old) (adds : Ad
         let less : was.index * span 0 < size_of old 0 = subst (λ l. was.index * span l < size_of old 0) level was.pointer.live in
         omega (arith, less, same.1, behind)
 
-    pub new_leaf_loose : kept here ≡ false
+    pub new_leaf_loose : in_snapshot here ≡ false
     new_leaf_loose = elim (adds.blocks here (record { depth = high; index = leaf; pointer = live; named = refl; not_null = present })) [
       | inl was ↦ absurd (not_old was)
       | inr took ↦ free here took
     ]
 
-  -- so an inode that the file got is in a block that is not kept
-  pub new_inode_loose : (j : ℕ) → inode_count old ≤ j → j < inode_count new → HasLooseWord new kept 0 (8 * j + 0)
+  -- so an inode that the file got is in a block that is not in the snapshot
+  pub new_inode_loose : (j : ℕ) → inode_count old ≤ j → j < inode_count new → HasLooseWord new in_snapshot 0 (8 * j + 0)
   new_inode_loose j behind below place stands =
       let whole : size_of old 0 % 4096 ≡ 0 = wf.inode_blocks in
       let leaf : node new (root_of new 0) high ((8 * j + 0) / 512) ≡ place / 512 = omega (arith, stands.at) in
-      subst (λ b. kept b ≡ false) leaf (new_leaf_loose ((8 * j + 0) / 512) (omega (arith, behind, whole)) (omega (arith, below)))
+      subst (λ b. in_snapshot b ≡ false) leaf (new_leaf_loose ((8 * j + 0) / 512) (omega (arith, behind, whole)) (omega (arith, below)))
 
   -- ---- a directory
 
-  module _ (i : ℕ) (reached : IsReached old i) (kind : kind_of old i ≡ 2) (other : i ≢ 0) (loose : HasLooseEntry old kept i) where
+  module _ (i : ℕ) (reached : IsReached old i) (kind : kind_of old i ≡ 2) (other : i ≢ 0) (loose : HasLooseEntry old in_snapshot i) where
     same_slot : empty_slot new i ≡ empty_slot old i
     same_slot = longer_empty_slot old new taken wf adds i reached kind
 
-    slot_on : (s : ℕ) → empty_slot new i ≡ Some s → HasLooseWord new kept i (32 * s + 0)
+    slot_on : (s : ℕ) → empty_slot new i ≡ Some s → HasLooseWord new in_snapshot i (32 * s + 0)
     slot_on s found place stands =
         let was : empty_slot old i ≡ Some s = sym same_slot ∙ found in
         let below : s < entry_count old i = (found_empty old i s was).0 in
@@ -93,24 +93,24 @@ module _ (old new : Image) (taken : List ℕ) (wf : IsWellFormed old) (adds : Ad
         ∙ longer_node old new taken wf adds i (height_of (root_of old i)) ((32 * s + 0) / 512) reached other (live_leaf (root_of old i) (size_of old i) ((32 * s + 0) / 512) (omega (arith, below))) in
         loose.slot s was place (record { present = λ none. stands.present (same ∙ none); at = ap (λ b. 512 * b + (32 * s + 0) % 512) (sym same) ∙ stands.at })
 
-    module _ (ends : HasLooseEnd old kept i) where
-      nodes_on : (d k : ℕ) → (live : IsLivePointer (root_of new i) (size_of new i) d k) → node new (root_of new i) d k ≢ 0 → size_of new i < k * span live.level + span live.level → kept (node new (root_of new i) d k) ≡ false
+    module _ (ends : HasLooseEnd old in_snapshot i) where
+      nodes_on : (d k : ℕ) → (live : IsLivePointer (root_of new i) (size_of new i) d k) → node new (root_of new i) d k ≢ 0 → size_of new i < k * span live.level + span live.level → in_snapshot (node new (root_of new i) d k) ≡ false
       nodes_on d k live present high_end =
           let height : d + live.level ≡ height_of (root_of old i) = live.height ∙ ap height_of (adds.roots i reached other) in
           let size : size_of new i ≡ size_of old i = longer_size old new taken wf adds i reached other in
           let before : IsLivePointer (root_of old i) (size_of old i) d k = record { level = live.level; height = height; live = subst (λ z. k * span live.level < z) size live.live } in
           let same : node new (root_of new i) d k ≡ node old (root_of old i) d k = longer_node old new taken wf adds i d k reached other before in
-          subst (λ b. kept b ≡ false) (sym same) (ends.nodes d k before (λ none. present (same ∙ none)) (subst (λ z. z < k * span live.level + span live.level) size high_end))
+          subst (λ b. in_snapshot b ≡ false) (sym same) (ends.nodes d k before (λ none. present (same ∙ none)) (subst (λ z. z < k * span live.level + span live.level) size high_end))
 
-      root_on : (place : ℕ) → RootPlace new i place → i ≢ 0 → kept (place / 512) ≡ false
+      root_on : (place : ℕ) → RootPlace new i place → i ≢ 0 → in_snapshot (place / 512) ≡ false
       root_on place (top none two) also = absurd (also none)
       root_on place (inode also stands) some_tree =
           let inside : i < inode_count old = reached-in_file old wf i reached in
           let same : node new (root_of new 0) high ((8 * i + 1) / 512) ≡ node old (root_of old 0) low ((8 * i + 1) / 512) = leaf_stays ((8 * i + 1) / 512) (omega (arith, inside)) in
           ends.root place (inode also (record { present = λ none. stands.present (same ∙ none); at = ap (λ b. 512 * b + (8 * i + 1) % 512) (sym same) ∙ stands.at })) some_tree
 
-      end_on : HasLooseEnd new kept i
+      end_on : HasLooseEnd new in_snapshot i
       end_on = record { nodes = nodes_on; root = root_on }
 
-    pub loose_entry_on : HasLooseEntry new kept i
+    pub loose_entry_on : HasLooseEntry new in_snapshot i
     loose_entry_on = record { slot = slot_on; behind = λ none. end_on (loose.behind (sym same_slot ∙ none)) }

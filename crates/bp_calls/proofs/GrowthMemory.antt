@@ -31,7 +31,7 @@ use Rattle.bp_calls.proofs.GrowthImage.{adds_inodes}
 use Rattle.bp_calls.proofs.Trees.{has_more}
 
 -- looser bounds
-taking_more : {kept : ℕ → Bool} (taken : List ℕ) (most_barriers most barriers stores : ℕ) (old new : Memory) → most_barriers ≤ barriers → most ≤ stores → AddsTaking kept taken most_barriers most old new → AddsTaking kept taken barriers stores old new
+taking_more : {in_snapshot : ℕ → Bool} (taken : List ℕ) (most_barriers most barriers stores : ℕ) (old new : Memory) → most_barriers ≤ barriers → most ≤ stores → AddsTaking in_snapshot taken most_barriers most old new → AddsTaking in_snapshot taken barriers stores old new
 taking_more taken most_barriers most barriers stores old new low few adds = record {
   part = record {
     added = adds.part.added;
@@ -56,8 +56,8 @@ one_leaf size whole = rw (eq-eqb size size refl, le-leb (size + 4096) (size / 40
 few_stores : (size needed : ℕ) → size % 4096 ≡ 0 → prep_stores size size (size + block_size) needed + 1 ≤ growth_stores needed
 few_stores size needed whole = let one = one_leaf size whole in rw one (omega arith)
 
-module _ {kept : ℕ → Bool} (old middle new : Memory) (free_old free_new : List ℕ) (wf : IsWellFormed (current_words old))
-    (prepared : PreparesWith kept old middle free_old free_new 0 (size_of (current_words old) 0) (size_of (current_words old) 0 + block_size) [])
+module _ {in_snapshot : ℕ → Bool} (old middle new : Memory) (free_old free_new : List ℕ) (wf : IsWellFormed (current_words old))
+    (prepared : PreparesWith in_snapshot old middle free_old free_new 0 (size_of (current_words old) 0) (size_of (current_words old) 0 + block_size) [])
     (stored : Adds middle new (Store super_size (size_of (current_words old) 0 + block_size) ∷ Barrier ∷ [])) where
   abbrev image : Image
   image = current_words old
@@ -81,7 +81,7 @@ module _ {kept : ℕ → Bool} (old middle new : Memory) (free_old free_new : Li
       same_transitive mid image (set mid super_size end) (same_symmetric image mid (same-by_meaning image mid wf prepared.ready.meaning))
       (same-by_meaning image (set mid super_size end) wf (adds_inodes image mid prepared.taken wf prepared.ready).meaning)
 
-  size_stored : AddsTaking kept [] 1 1 middle new
+  size_stored : AddsTaking in_snapshot [] 1 1 middle new
   size_stored = record {
     part = record {
       added = Store super_size end ∷ Barrier ∷ [];
@@ -109,19 +109,19 @@ module _ {kept : ℕ → Bool} (old middle new : Memory) (free_old free_new : Li
   live : (b : ℕ) → IsLiveBlock mid b → IsLiveBlock image b ⊎ Has prepared.taken b
   live b is = live_cases is.tree b (reached-back image mid wf prepared.ready.meaning is.tree is.reached) is.has (cases_eq is.tree 0)
 
-  both : AddsTaking kept (prepared.taken ++ []) (2 + 1) (prep_stores (size_of image 0) (size_of image 0) end (need_for image 0 (size_of image 0) end) + 1) old new
-  both = taking_twice kept old middle new prepared.taken [] 2 _ 1 1 prepared.adds size_stored live (λ b has. absurd has)
+  both : AddsTaking in_snapshot (prepared.taken ++ []) (2 + 1) (prep_stores (size_of image 0) (size_of image 0) end (need_for image 0 (size_of image 0) end) + 1) old new
+  both = taking_twice in_snapshot old middle new prepared.taken [] 2 _ 1 1 prepared.adds size_stored live (λ b has. absurd has)
 
-  pub grows : GrowsInodes kept old new
+  pub grows : GrowsInodes in_snapshot old new
   grows = record {
     taken = prepared.taken;
     adds = taking_more prepared.taken (2 + 1) _ 3 (growth_stores (length prepared.taken)) old new (omega arith)
         (let few = few_stores (size_of image 0) (need_for image 0 (size_of image 0) end) wf.inode_blocks in rw prepared.counted few)
-        (subst (λ xs. AddsTaking kept xs (2 + 1) (prep_stores (size_of image 0) (size_of image 0) end (need_for image 0 (size_of image 0) end) + 1) old new) (append-nil prepared.taken) both);
+        (subst (λ xs. AddsTaking in_snapshot xs (2 + 1) (prep_stores (size_of image 0) (size_of image 0) end (need_for image 0 (size_of image 0) end) + 1) old new) (append-nil prepared.taken) both);
     number = prepared.counted ∙ sym (growth_need_is image);
     grown = grown;
   }
 
 -- the room that a growth leaves
-pub room_behind_growth : {kept : ℕ → Bool} (old new : Memory) (done : GrowsInodes kept old new) → room_in old ≤ room_in new + (3 + growth_stores (length done.taken))
+pub room_behind_growth : {in_snapshot : ℕ → Bool} (old new : Memory) (done : GrowsInodes in_snapshot old new) → room_in old ≤ room_in new + (3 + growth_stores (length done.taken))
 room_behind_growth old new done = room_in-piece 3 (growth_stores (length done.taken)) old new done.adds.part.added done.adds.part.adds done.adds.part.piece

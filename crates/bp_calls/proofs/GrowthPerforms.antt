@@ -17,7 +17,7 @@ use Rattle.bp_calls.proofs.GrowthCover.{longer_cover, longer_need}
 use Rattle.bp_calls.proofs.GrowthLaws.{longer_free, longer_live}
 use Rattle.bp_calls.specs.Steps.{name_need}
 
-module _ {kept : ℕ → Bool} (old mid : Memory) (grows : GrowsInodes kept old mid) (wf : IsWellFormed (current_words old)) where
+module _ {in_snapshot : ℕ → Bool} (old mid : Memory) (grows : GrowsInodes in_snapshot old mid) (wf : IsWellFormed (current_words old)) where
   no_inode_file : kind_of (current_words old) 0 ≡ 2 → ⊥
   no_inode_file two = omega (arith, two)
 
@@ -32,13 +32,13 @@ module _ {kept : ℕ → Bool} (old mid : Memory) (grows : GrowsInodes kept old 
 
   -- What is made of the longer file may be told of the first in other words.
   pub performs_grown : (new : Memory) (i j : ℕ) (Made Effect : Image → Image → Type 0) → IsReached (current_words old) i → kind_of (current_words old) i ≡ 2 →
-      PerformsWithin kept (name_need (current_words mid) i) 5 (stores_behind_growth (name_need (current_words mid) i)) mid new (enters i (taken j)) Made →
-      (Made (current_words mid) (current_words new) → Effect (current_words old) (current_words new)) → PerformsThawed kept old new (enters i grown) Effect
+      PerformsWithin in_snapshot (name_need (current_words mid) i) 5 (stores_behind_growth (name_need (current_words mid) i)) mid new (enters i (taken j)) Made →
+      (Made (current_words mid) (current_words new) → Effect (current_words old) (current_words new)) → PerformsThawed in_snapshot old new (enters i grown) Effect
   performs_grown new i j Made Effect reached kind done so =
-      performs_twice kept old new (enters i grown) Effect mid (address (current_words new) (cover (current_words mid) (enters i (taken j)))) done.value 3 (growth_stores (length grows.taken))
+      performs_twice in_snapshot old new (enters i grown) Effect mid (address (current_words new) (cover (current_words mid) (enters i (taken j)))) done.value 3 (growth_stores (length grows.taken))
       5 (stores_behind_growth (name_need (current_words mid) i)) grows.taken done.taken grows.adds done.commit done.takes
       (longer_live (current_words old) (current_words mid) grows.taken wf grows.grown)
-      (λ b took. longer_free (current_words old) (current_words mid) grows.taken wf grows.grown b (each-has (IsFreeBlock (current_words mid) kept) done.taken b done.takes.free took))
+      (λ b took. longer_free (current_words old) (current_words mid) grows.taken wf grows.grown b (each-has (IsFreeBlock (current_words mid) in_snapshot) done.taken b done.takes.free took))
       (ap (address (current_words new)) (sym (grown_cover i reached kind))) (omega arith)
       (few (length grows.taken) (name_need (current_words mid) i) (need (current_words old) (enters i grown)) needs)
       (counts (length grows.taken) (length done.taken) (name_need (current_words mid) i) (need (current_words old) (enters i grown)) needs done.number)

@@ -38,8 +38,8 @@ module _ (image : Image) (wf : IsWellFormed image) where
   pub inodes_end_fits : size_of image 0 + block_size ≤ greatest_size One
   inodes_end_fits = omega (arith, inodes_end_low, wf.formatted.sized.at_most)
 
-can_prepare : {kept : ℕ → Bool} (old : Memory) (blocks inodes : Set) → CanGrowInodes kept old blocks inodes →
-    CanPrepare kept old (members blocks) 0 [] (size_of (current_words old) 0) (size_of (current_words old) 0 + block_size)
+can_prepare : {in_snapshot : ℕ → Bool} (old : Memory) (blocks inodes : Set) → CanGrowInodes in_snapshot old blocks inodes →
+    CanPrepare in_snapshot old (members blocks) 0 [] (size_of (current_words old) 0) (size_of (current_words old) 0 + block_size)
 can_prepare old blocks inodes can = record {
   well = can.well_formed;
   reached = inode_file;
@@ -58,9 +58,9 @@ can_prepare old blocks inodes can = record {
 
 -- ---- the parts of the growth, by the path and the size that are read
 
-module _ {kept : ℕ → Bool} (old : Memory) (blocks inodes : Set) (path : WordPath) (size : ℕ) (can : CanGrowInodes kept old blocks inodes) (top : path ≡ []) (is : size ≡ size_of (current_words old) 0) where
+module _ {in_snapshot : ℕ → Bool} (old : Memory) (blocks inodes : Set) (path : WordPath) (size : ℕ) (can : CanGrowInodes in_snapshot old blocks inodes) (top : path ≡ []) (is : size ≡ size_of (current_words old) 0) where
   abbrev Ready : WordPath → ℕ → Type 0
-  Ready at from = CanPrepare kept old (members blocks) 0 at from (from + block_size)
+  Ready at from = CanPrepare in_snapshot old (members blocks) 0 at from (from + block_size)
 
   pub can_prepare_at : Ready path size
   can_prepare_at = subst₂ Ready (sym top) (sym is) (can_prepare old blocks inodes can)
@@ -69,9 +69,9 @@ module _ {kept : ℕ → Bool} (old : Memory) (blocks inodes : Set) (path : Word
   pub last_fits : (size + block_size) / inode_size ≤ length inodes
   last_fits = omega (arith, is, inodes_end_low (current_words old) can.well_formed, can.exact.inode_room)
 
-  module _ (middle : Memory) (after : Set) (prepares : Ready path size → PreparesWith kept old middle (members blocks) (members after) 0 size (size + block_size) []) where
-    prepared : PreparesWith kept old middle (members blocks) (members after) 0 (size_of (current_words old) 0) (size_of (current_words old) 0 + block_size) []
-    prepared = subst (λ s. PreparesWith kept old middle (members blocks) (members after) 0 s (s + block_size) []) is (prepares can_prepare_at)
+  module _ (middle : Memory) (after : Set) (prepares : Ready path size → PreparesWith in_snapshot old middle (members blocks) (members after) 0 size (size + block_size) []) where
+    prepared : PreparesWith in_snapshot old middle (members blocks) (members after) 0 (size_of (current_words old) 0) (size_of (current_words old) 0 + block_size) []
+    prepared = subst (λ s. PreparesWith in_snapshot old middle (members blocks) (members after) 0 s (s + block_size) []) is (prepares can_prepare_at)
 
     pub base_prepared : super_size < length middle.base
     base_prepared = omega (arith, ap length (base-adds old middle prepared.adds.part.added prepared.adds.part.adds), length-current_words old, can.well_formed.formatted.sized.whole, can.well_formed.formatted.sized.at_least)
@@ -87,11 +87,11 @@ module _ {kept : ℕ → Bool} (old : Memory) (blocks inodes : Set) (path : Word
         enough needed behind room left a b c = omega (arith, a, b, c)
 
     module _ (new : Memory) (stored : Adds middle new (Store super_size (size + block_size) ∷ Barrier ∷ [])) where
-      pub grew : GrowsInodes kept old new
+      pub grew : GrowsInodes in_snapshot old new
       grew = grows old middle new (members blocks) (members after) can.well_formed prepared (subst (λ s. Adds middle new (Store super_size (s + block_size) ∷ Barrier ∷ [])) is stored)
 
       module _ (filled : Set) (room : length after ≡ length blocks) (fills : Fills (size / inode_size) ((size + block_size) / inode_size) inodes filled) where
-        pub exact_behind : AreExact (current_words new) kept after filled
+        pub exact_behind : AreExact (current_words new) in_snapshot after filled
         exact_behind =
             exact_grown (current_words old) (current_words new) prepared.taken can.well_formed grown_here blocks after inodes filled can.exact prepared.takes room
             (subst (λ s. Fills (s / inode_size) ((s + block_size) / inode_size) inodes filled) is fills)

@@ -17,17 +17,17 @@ use Rattle.bp_calls.specs.Growth.{AddsInodes}
 use Rattle.bp_calls.proofs.GrowthLaws.{longer_live, longer_stays, longer_taken, longer_reached, shorter_reached}
 use Rattle.bp_calls.proofs.TakenBlocks.{has_either, in_members, members_apart, of_members}
 
-module _ {kept : ℕ → Bool} (old new : Image) (taken : List ℕ) (wf : IsWellFormed old) (adds : AddsInodes old new taken) (blocks after inodes filled : Set) (exact : AreExact old kept blocks inodes)
+module _ {in_snapshot : ℕ → Bool} (old new : Image) (taken : List ℕ) (wf : IsWellFormed old) (adds : AddsInodes old new taken) (blocks after inodes filled : Set) (exact : AreExact old in_snapshot blocks inodes)
     (takes : members blocks ≡ taken ++ members after) (room : length after ≡ length blocks) (fills : Fills (size_of old 0 / inode_size) ((size_of old 0 + block_size) / inode_size) inodes filled) where
   -- ---- blocks
 
   apart : AreApart (taken ++ members after)
   apart = subst AreApart takes (members_apart blocks)
 
-  free_now : (b : ℕ) → has after b ≡ true → IsFreeBlock new kept b
+  free_now : (b : ℕ) → has after b ≡ true → IsFreeBlock new in_snapshot b
   free_now b is =
       let there : Has (members blocks) b = subst (λ bs. Has bs b) (sym takes) (has-behind taken (members after) b (in_members after b is)) in
-      let free : IsFreeBlock old kept b = exact.free_blocks.free b (of_members blocks b there) in
+      let free : IsFreeBlock old in_snapshot b = exact.free_blocks.free b (of_members blocks b there) in
       record {
         low = free.low;
         high = rw adds.meaning.trees.whole free.high;
@@ -35,7 +35,7 @@ module _ {kept : ℕ → Bool} (old new : Image) (taken : List ℕ) (wf : IsWell
         loose = free.loose;
       }
 
-  all_now : (b : ℕ) → IsFreeBlock new kept b → has after b ≡ true
+  all_now : (b : ℕ) → IsFreeBlock new in_snapshot b → has after b ≡ true
   all_now b free =
       let was : has blocks b ≡ true =
       exact.free_blocks.all b (record { low = free.low; high = rw adds.meaning.trees.whole at free.high; free = λ live. free.free (longer_stays old new taken wf adds b live); loose = free.loose }) in
@@ -74,7 +74,7 @@ module _ {kept : ℕ → Bool} (old new : Image) (taken : List ℕ) (wf : IsWell
       go (inl early) = fills.below k early ∙ exact.free_inodes.all k (record { low = free.low; high = early; free = λ reached. free.free (longer_reached old new taken wf adds k reached) })
       go (inr late) = fills.inside k late (omega (arith, free.high, adds.size))
 
-  pub exact_grown : AreExact new kept after filled
+  pub exact_grown : AreExact new in_snapshot after filled
   exact_grown = record {
     block_room = rw adds.meaning.trees.whole (room ∙ exact.block_room);
     inode_room = rw adds.meaning.trees.whole (fills.room ∙ exact.inode_room);

@@ -44,7 +44,7 @@ use Rattle.bp_changes.proofs.Named.{added_counts}
 use Rattle.bp_calls.proofs.SlotStores.{IsHidden}
 use Rattle.bp_calls.proofs.BehindStores.{KeepsGrown, behind_committed, behind_sets, behind_slot, behind_within, done_file, full_before, full_meaning, full_missing, full_size_at, full_there, full_well_formed, put_before, put_ready, put_row_back, put_well_formed_behind}
 
-module _ {kept : ℕ → Bool} (first second : Memory) (blocks after : Set) (i j : ℕ) (name : Name) (can : CanEnterBehind kept first blocks i j name) (puts : PutsBehind kept first second (members blocks) (members after) i j name) where
+module _ {in_snapshot : ℕ → Bool} (first second : Memory) (blocks after : Set) (i j : ℕ) (name : Name) (can : CanEnterBehind in_snapshot first blocks i j name) (puts : PutsBehind in_snapshot first second (members blocks) (members after) i j name) where
   pub put_free : IsFreeInode (current_words second) j
   put_free = record {
     low = can.free.low;
@@ -52,8 +52,8 @@ module _ {kept : ℕ → Bool} (first second : Memory) (blocks after : Set) (i j
     free = λ there. can.free.free (put_before first second blocks after i j name can.can puts j there);
   }
 
-module _ {kept : ℕ → Bool} (first second third last : Memory) (blocks after : Set) (i j place : ℕ) (name : Name) (kind : Kind) (can : CanEnterBehind kept first blocks i j name)
-    (puts : PutsBehind kept first second (members blocks) (members after) i j name) (filled : FillsInode second third j (kind_word kind)) (size_at : ContentStandsAt (current_words first) 0 (8 * i + 2) place)
+module _ {in_snapshot : ℕ → Bool} (first second third last : Memory) (blocks after : Set) (i j place : ℕ) (name : Name) (kind : Kind) (can : CanEnterBehind in_snapshot first blocks i j name)
+    (puts : PutsBehind in_snapshot first second (members blocks) (members after) i j name) (filled : FillsInode second third j (kind_word kind)) (size_at : ContentStandsAt (current_words first) 0 (8 * i + 2) place)
     (commits : Adds third last (commit place (size_of (current_words first) i + 256))) where
   abbrev image : Image
   image = current_words first
@@ -84,14 +84,14 @@ module _ {kept : ℕ → Bool} (first second third last : Memory) (blocks after 
   inode_at : ContentStandsAt mid 0 (8 * j + 0) at
   inode_at = inode_row mid j at filled.stands
 
-  inode_loose : kept (at / 512) ≡ false
+  inode_loose : in_snapshot (at / 512) ≡ false
   inode_loose = can.loose at (put_row_back first second blocks after i j name can.can puts j at can.free.high inode_at)
 
-  hidden : AddsMay (AnyAt (IsHidden kept mid)) 0 3 second third
-  hidden = may_weaker (AnyAt (IsWithin at 3)) (AnyAt (IsHidden kept mid)) 0 3 second third (inode_inside mid mid_well_formed j at [] mid_free inode_at inode_loose) filled.stores
+  hidden : AddsMay (AnyAt (IsHidden in_snapshot mid)) 0 3 second third
+  hidden = may_weaker (AnyAt (IsWithin at 3)) (AnyAt (IsHidden in_snapshot mid)) 0 3 second third (inode_inside mid mid_well_formed j at [] mid_free inode_at inode_loose) filled.stores
 
   trees : SameTrees mid full
-  trees = spare_trees mid full mid_well_formed (each_weaker (IsHidden kept mid) (IsSpare mid) mid full (λ p both. both.0) (each_after (AnyAt (IsHidden kept mid)) 0 3 second third hidden))
+  trees = spare_trees mid full mid_well_formed (each_weaker (IsHidden in_snapshot mid) (IsSpare mid) mid full (λ p both. both.0) (each_after (AnyAt (IsHidden in_snapshot mid)) 0 3 second third hidden))
 
   frame : (p : ℕ) → (IsWithin at 3 p → ⊥) → word full p ≡ word mid p
   frame p beside = may_frame (AnyAt (IsWithin at 3)) 0 3 second third filled.stores p (λ v within. beside within)
@@ -128,7 +128,7 @@ module _ {kept : ℕ → Bool} (first second third last : Memory) (blocks after 
   effect : EntersName i name kind image done
   effect = enters_over image full done wf meaning i (size_of full i / 256) j name kind can.free (behind_slot first second third last blocks after i j place 3 name can.can puts hidden full_ready keeps size_at commits) enters
 
-  pub behind_performs : PerformsWithin kept (name_need image i) 5 (stores_behind_growth (name_need image i)) first last (gains i (taken j)) (EntersName i name kind)
+  pub behind_performs : PerformsWithin in_snapshot (name_need image i) 5 (stores_behind_growth (name_need image i)) first last (gains i (taken j)) (EntersName i name kind)
   behind_performs =
       behind_within first second third last blocks after i j place 3 name can.can puts hidden full_ready keeps size_at commits (gains i (taken j)) (EntersName i name kind) (omega arith) refl
       (enters_well_formed full done well i (size_of full i / 256) j (kind_word kind) name enters) effect
@@ -152,7 +152,7 @@ module _ {kept : ℕ → Bool} (first second third last : Memory) (blocks after 
         | inr was ↦ was
       ]
 
-  pub behind_exact : length after ≡ length blocks → (inodes : Set) → AreExact image kept blocks inodes → AreExact (current_words last) kept after (without inodes j)
+  pub behind_exact : length after ≡ length blocks → (inodes : Set) → AreExact image in_snapshot blocks inodes → AreExact (current_words last) in_snapshot after (without inodes j)
   behind_exact room inodes exact =
       rw committed
       (behind_sets first second third last blocks after i j place 3 name can.can puts hidden full_ready keeps size_at commits done_before done_stays

@@ -53,10 +53,10 @@ inode_spare image wf j at free stands p v inside =
     let f : ℕ = p - at in
     spare_inode image wf j f p free (omega arith) (row_stands image 0 (8 * j + 0) f (8 * j + f) at p (omega arith) (omega arith) (omega arith) stands)
 
--- where the file has its words: nobody reads them, and they are in a live block that is not kept
-pub inode_inside : {kept : ℕ → Bool} (image : Image) → IsWellFormed image → (j at : ℕ) (took : List ℕ) → IsFreeInode image j → ContentStandsAt image 0 (8 * j + 0) at → kept (at / 512) ≡ false → (p v : ℕ) → AnyAt (IsWithin at 3) p v →
-    AnyAt (λ q. IsSpare image q × IsOpen image kept took q) p v
-inode_inside {kept = kept} image wf j at took free stands loose p v inside =
+-- where the file has its words: nobody reads them, and they are in a live block that is not in the snapshot
+pub inode_inside : {in_snapshot : ℕ → Bool} (image : Image) → IsWellFormed image → (j at : ℕ) (took : List ℕ) → IsFreeInode image j → ContentStandsAt image 0 (8 * j + 0) at → in_snapshot (at / 512) ≡ false → (p v : ℕ) → AnyAt (IsWithin at 3) p v →
+    AnyAt (λ q. IsSpare image q × IsOpen image in_snapshot took q) p v
+inode_inside {in_snapshot = in_snapshot} image wf j at took free stands loose p v inside =
     let low : at ≤ p = inside.low in
     let high : p < at + 3 = inside.high in
     let f : ℕ = p - at in
@@ -64,7 +64,7 @@ inode_inside {kept = kept} image wf j at took free stands loose p v inside =
     let in_file : j < inode_count image = free.high in (
       inode_spare image wf j at free stands p v inside,
       content_open image took 0 (8 * j + f) p inode_file (omega (arith, in_file)) (row_stands image 0 (8 * j + 0) f (8 * j + f) at p (omega arith) (omega arith) (omega arith) stands)
-          (subst (λ b. kept b ≡ false) block loose),
+          (subst (λ b. in_snapshot b ≡ false) block loose),
     )
 
 -- an entry of a tree that was read from an inode
@@ -74,8 +74,8 @@ entry_stands image i s entry root same at present =
     let leaf : node image root (height_of root) ((32 * s + 0) / 512) ≡ node image (root_of image i) (height_of (root_of image i)) ((32 * s + 0) / 512) = ap (λ r. node image r (height_of r) ((32 * s + 0) / 512)) same in
     record { present = λ null. present (leaf ∙ null); at = ap (λ b. 512 * b + (32 * s + 0) % 512) (sym leaf) ∙ sym at }
 
-module _ (kept : ℕ → Bool) (first second third last : Memory) (i s j entry : ℕ) (name : Name) (kind : Kind) (can : CanName (current_words first) i j name)
-    (found : empty_slot (current_words first) i ≡ Some s) (entry_at : ContentStandsAt (current_words first) i (32 * s + 0) entry) (loose_entry : HasLooseWord (current_words first) kept i (32 * s + 0)) (loose_inode : HasLooseWord (current_words first) kept 0 (8 * j + 0)) (filled : FillsInode first second j (kind_word kind))
+module _ (in_snapshot : ℕ → Bool) (first second third last : Memory) (i s j entry : ℕ) (name : Name) (kind : Kind) (can : CanName (current_words first) i j name)
+    (found : empty_slot (current_words first) i ≡ Some s) (entry_at : ContentStandsAt (current_words first) i (32 * s + 0) entry) (loose_entry : HasLooseWord (current_words first) in_snapshot i (32 * s + 0)) (loose_inode : HasLooseWord (current_words first) in_snapshot 0 (8 * j + 0)) (filled : FillsInode first second j (kind_word kind))
     (spells : AddsMay (AnyAt (IsWithin (entry + 1) 31)) 0 31 second third) (named : HasNameAt (current_words third) entry name)
     (commits : Adds third last (commit entry j)) where
   abbrev image : Image
@@ -90,7 +90,7 @@ module _ (kept : ℕ → Bool) (first second third last : Memory) (i s j entry :
   inode_at : ContentStandsAt image 0 (8 * j + 0) at
   inode_at = inode_row image j at filled.stands
 
-  loose : kept (entry / 512) ≡ false
+  loose : in_snapshot (entry / 512) ≡ false
   loose = loose_entry entry entry_at
 
   in_size : s < entry_count image i
@@ -102,10 +102,10 @@ module _ (kept : ℕ → Bool) (first second third last : Memory) (i s j entry :
   reached : IsReached image i
   reached = can.lacks.reached
 
-  all_hidden : AddsMay (AnyAt (IsHidden kept image)) 0 34 first third
-  all_hidden = may_twice (AnyAt (IsHidden kept image)) 0 3 first 0 31 second third
-      (may_weaker (AnyAt (IsWithin at 3)) (AnyAt (IsHidden kept image)) 0 3 first second (inode_inside image wf j at [] can.free inode_at (loose_inode at inode_at)) filled.stores)
-      (may_weaker (AnyAt (IsWithin (entry + 1) 31)) (AnyAt (IsHidden kept image)) 0 31 second third (name_hidden image wf i s entry reached can.lacks.directory found entry_at loose) spells)
+  all_hidden : AddsMay (AnyAt (IsHidden in_snapshot image)) 0 34 first third
+  all_hidden = may_twice (AnyAt (IsHidden in_snapshot image)) 0 3 first 0 31 second third
+      (may_weaker (AnyAt (IsWithin at 3)) (AnyAt (IsHidden in_snapshot image)) 0 3 first second (inode_inside image wf j at [] can.free inode_at (loose_inode at inode_at)) filled.stores)
+      (may_weaker (AnyAt (IsWithin (entry + 1) 31)) (AnyAt (IsHidden in_snapshot image)) 0 31 second third (name_hidden image wf i s entry reached can.lacks.directory found entry_at loose) spells)
 
   trees : SameTrees image mid
   trees = slot_trees first third last i s j entry 34 name can.lacks found entry_at loose all_hidden named commits
@@ -149,7 +149,7 @@ module _ (kept : ℕ → Bool) (first second third last : Memory) (i s j entry :
       subst (λ w. EntersName i name kind image w) (sym committed)
       (enters_over image mid (set mid entry j) wf trees.prepared.meaning i s j name kind can.free (slot_is first third last i s j entry 34 name can.lacks found entry_at loose all_hidden named commits) enters)
 
-  pub slot_performs : PerformsWithin kept (name_need image i) 5 (stores_behind_growth (name_need image i)) first last (gains i (taken j)) (EntersName i name kind)
+  pub slot_performs : PerformsWithin in_snapshot (name_need image i) 5 (stores_behind_growth (name_need image i)) first last (gains i (taken j)) (EntersName i name kind)
   slot_performs =
       slot_within first third last i s j entry 34 name can.lacks found entry_at loose all_hidden named commits (gains i (taken j)) (EntersName i name kind) (omega arith) refl refl
       (enters_well_formed mid (set mid entry j) mid_well_formed i s j (kind_word kind) name enters) (reached_stays mid (set mid entry j) mid_well_formed i s j enters.adds i ready.reached) effect

@@ -11,36 +11,36 @@ use Rattle.bp_layout.specs.Words.{Image, height_of}
 use Rattle.bp_layout.proofs.TreeLaws.{live_content}
 use Rattle.bp_tree.proofs.ExistingPaths.{AllThere, copied-one, word_path-there}
 
-module _ (image : Image) (wf : IsWellFormed image) (n off len : ℕ) (lies : LiesInWord image (suc n) off len) where
+module _ (image : Image) (wf : IsWellFormed image) (n offset len : ℕ) (lies : LiesInWord image (suc n) offset len) where
   abbrev change : Change
-  change = writes (suc n) off len
+  change = writes (suc n) offset len
 
   none_beyond : beyond image change ≡ []
-  none_beyond = rw (le-ltb (size_of image (suc n)) (off + len) lies.below) refl
+  none_beyond = rw (le-ltb (size_of image (suc n)) (offset + len) lies.below) refl
 
   keeps_height : (t : ℕ) → height_after image change t ≡ height_of (root_of image t)
   keeps_height t = ap (λ bs. fold (λ h (b : Beyond). if b.tree == t then height_with (root_of image t) (size_of image t) b.to else h) (height_of (root_of image t)) (bs ++ [])) none_beyond
 
-  one : touched image change ≡ content_path image change (suc n) (off / 8) ∷ []
+  one : touched image change ≡ content_path image change (suc n) (offset / 8) ∷ []
   one =
-      let last : (min (off + len) (size_of image (suc n)) - 1) / 8 - off / 8 ≡ 0 = omega (arith, lies.some, lies.below, lies.one_word) in
-      rw (lt-ltb off (size_of image (suc n)) (omega (arith, lies.some, lies.below)), last, le-ltb (size_of image (suc n)) (off + len) lies.below) refl
+      let last : (min (offset + len) (size_of image (suc n)) - 1) / 8 - offset / 8 ≡ 0 = omega (arith, lies.some, lies.below, lies.one_word) in
+      rw (lt-ltb offset (size_of image (suc n)) (omega (arith, lies.some, lies.below)), last, le-ltb (size_of image (suc n)) (offset + len) lies.below) refl
 
-  whole : AllThere (is_there_after image change) [] (content_path image change (suc n) (off / 8))
+  whole : AllThere (is_there_after image change) [] (content_path image change (suc n) (offset / 8))
   whole = rw (keeps_height (suc n))
-      (word_path-there image change wf (keeps_height 0) (suc n) (suc (height_of (root_of image (suc n)))) (off / 8) lies.reached (keeps_height (suc n))
-      (live_content (root_of image (suc n)) (size_of image (suc n)) (off / 8) (omega (arith, lies.some, lies.below))) (rw same at lies.has_block))
+      (word_path-there image change wf (keeps_height 0) (suc n) (suc (height_of (root_of image (suc n)))) (offset / 8) lies.reached (keeps_height (suc n))
+      (live_content (root_of image (suc n)) (size_of image (suc n)) (offset / 8) (omega (arith, lies.some, lies.below))) (rw same at lies.has_block))
     where
-      same : off / 4096 ≡ off / 8 / 512
+      same : offset / 4096 ≡ offset / 8 / 512
       same = omega arith
 
   none_written : need image change ≡ 0
   none_written =
       let made : length (flat_map (prepared_for image) (beyond image change)) ≡ 0 = ap (λ bs. length (flat_map (prepared_for image) bs)) none_beyond in
-      let copies : length (copied image change) ≡ 0 = ap length (copied-one image change (content_path image change (suc n) (off / 8)) one whole) in
+      let copies : length (copied image change) ≡ 0 = ap length (copied-one image change (content_path image change (suc n) (offset / 8)) one whole) in
       omega (arith, made, copies)
 
 -- told of any number
-pub none_writing : (image : Image) → IsWellFormed image → (i off len : ℕ) → LiesInWord image i off len → need image (writes i off len) ≡ 0
-none_writing image wf zero off len lies = absurd (omega (arith, lies.file))
-none_writing image wf (suc n) off len lies = none_written image wf n off len lies
+pub none_writing : (image : Image) → IsWellFormed image → (i offset len : ℕ) → LiesInWord image i offset len → need image (writes i offset len) ≡ 0
+none_writing image wf zero offset len lies = absurd (omega (arith, lies.file))
+none_writing image wf (suc n) offset len lies = none_written image wf n offset len lies

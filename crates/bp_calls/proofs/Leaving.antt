@@ -35,7 +35,7 @@ use Rattle.bp_layout.proofs.Reached.{reached-in_file}
 use Rattle.bp_layout.proofs.SameLaws.{same_self}
 use Rattle.bp_layout.proofs.TreeLaws.{KeepsPointers, has_block-kept, has_block-stays, sound-kept}
 use Rattle.bp_shapes.specs.Freed.{IsGivenUp}
-use Rattle.bp_shapes.specs.Sets.{AreExact, IsExact, kept_of}
+use Rattle.bp_shapes.specs.Sets.{AreExact, IsExact, in_snapshot_of}
 use Rattle.bp_shapes.proofs.Freed.{freed_blocks, remove_frees, removed_inode}
 use Rattle.bp_commit.specs.Performs.{PerformsThawed}
 use Rattle.bp_tree.proofs.ExistingPaths.{AllThere, content_path-there, copied-one, cover-one}
@@ -153,7 +153,7 @@ module _ {image : Image} {i s j place : ℕ} (can : CanLeave image i s j place) 
   gone_on b has = record { has = has_block-stays image last root size keeps b has; past = omega arith }
 
   -- where it is the last name of its inode, the blocks and the number come back
-  module _ {kept : ℕ → Bool} {blocks inodes : Set} (exact : AreExact image kept blocks inodes) where
+  module _ {in_snapshot : ℕ → Bool} {blocks inodes : Set} (exact : AreExact image in_snapshot blocks inodes) where
     can_give_blocks : CanGiveBack last root size blocks
     can_give_blocks = record {
       sound = sound-kept image last root size keeps (length-set image place 0) (wf.sound j named_reached);
@@ -178,16 +178,16 @@ module _ {image : Image} {i s j place : ℕ} (can : CanLeave image i s j place) 
         go (inl is) = absurd ((exact.free_inodes.free j is).free named_reached)
         go (inr not) = not
 
-    exact_last : IsLastName image i s j → (after : Set) → GivesBack kept (IsGivenUp last root size 0) blocks after → AreExact last kept after (with inodes j)
+    exact_last : IsLastName image i s j → (after : Set) → GivesBack in_snapshot (IsGivenUp last root size 0) blocks after → AreExact last in_snapshot after (with inodes j)
     exact_last last_name after gives = record {
       block_room = rw (length-set image place 0) (gives.room ∙ exact.block_room);
       inode_room = rw (length-set image place 0) (length-set inodes j true ∙ exact.inode_room);
-      free_blocks = freed_blocks image last wf (length-set image place 0) (HasBlock image root size) (remove_frees image wf i s j place can.unlink last_name can.stands) kept (has blocks) (has after) exact.free_blocks
+      free_blocks = freed_blocks image last wf (length-set image place 0) (HasBlock image root size) (remove_frees image wf i s j place can.unlink last_name can.stands) in_snapshot (has blocks) (has after) exact.free_blocks
           told.only told.still told.given;
       free_inodes = removed_inode image last wf i s j can.unlink removes last_name (has inodes) (has (with inodes j)) exact.free_inodes (has_with_same inodes j inode_in_room) (has_with_other inodes j);
     }
       where
-        told : GivesBack kept (HasBlock image root size) blocks after
+        told : GivesBack in_snapshot (HasBlock image root size) blocks after
         told = gives_as (IsGivenUp last root size 0) (HasBlock image root size) blocks after gone_back gone_on gives
 
   -- ---- where it has another name all stays
@@ -216,7 +216,7 @@ module _ {image : Image} {i s j place : ℕ} (can : CanLeave image i s j place) 
     blocks_kept : KeepsBlocks image last
     blocks_kept = store_blocks image wf i s 0 place reached entry.directory entry.in_size can.stands
 
-    exact_named : {kept : ℕ → Bool} (blocks inodes : Set) → AreExact image kept blocks inodes → AreExact last kept blocks inodes
+    exact_named : {in_snapshot : ℕ → Bool} (blocks inodes : Set) → AreExact image in_snapshot blocks inodes → AreExact last in_snapshot blocks inodes
     exact_named blocks inodes exact = record {
       block_room = rw (length-set image place 0) exact.block_room;
       inode_room = rw (length-set image place 0) exact.inode_room;
@@ -233,46 +233,46 @@ module _ (old new : Memory) {i s j place : ℕ} (can : CanLeave (current_words o
   stored : current_words new ≡ set (current_words old) place 0
   stored = current_words-adds old new (commit place 0) adds
 
-  -- the block of the entry is not kept, where nothing is left to thaw
-  leaving_loose : (kept : ℕ → Bool) → thawed (current_words old) kept (leaves i s) ≡ [] → kept (place / 512) ≡ false
-  leaving_loose kept clear =
+  -- the block of the entry is not in the snapshot, where nothing is left to thaw
+  leaving_loose : (in_snapshot : ℕ → Bool) → thawed (current_words old) in_snapshot (leaves i s) ≡ [] → in_snapshot (place / 512) ≡ false
+  leaving_loose in_snapshot clear =
       let image : Image = current_words old in
       let live : IsLivePointer (root_of image i) (size_of image i) (height_of (root_of image i)) ((32 * s + 0) / 512) =
       live_leaf (root_of image i) (size_of image i) ((32 * s + 0) / 512) (omega (arith, can.unlink.entry.in_size)) in
       let here : node image (root_of image i) (height_of (root_of image i)) ((32 * s + 0) / 512) ≡ place / 512 = omega (arith, can.stands.at) in
       let way : WordPath = tree_path (height_of (root_of image 0)) i (suc (height_of (root_of image i))) (32 * s + 0) in
       let among : Has (targets image (leaves i s)) way = subst (λ ps. Has ps way) (sym (leaving_targets image can.well_formed i s j can.unlink)) (inl refl) in
-      ap kept (sym here)
-      ∙ loose_word image can.well_formed kept i (height_of (root_of image i)) (32 * s + 0) can.unlink.reached live can.stands.present
-      (loose-on image kept (targets image (leaves i s)) clear way among (length way - 1))
+      ap in_snapshot (sym here)
+      ∙ loose_word image can.well_formed in_snapshot i (height_of (root_of image i)) (32 * s + 0) can.unlink.reached live can.stands.present
+      (loose-on image in_snapshot (targets image (leaves i s)) clear way among (length way - 1))
 
-  pub leaving_performs : (kept : ℕ → Bool) → thawed (current_words old) kept (leaves i s) ≡ [] → PerformsThawed kept old new (leaves i s) (λ image after. RemovesEntry image after i s)
-  leaving_performs kept clear =
-      performs_committed kept old new (leaves i s) (λ image after. RemovesEntry image after i s) place 0 2 1 []
+  pub leaving_performs : (in_snapshot : ℕ → Bool) → thawed (current_words old) in_snapshot (leaves i s) ≡ [] → PerformsThawed in_snapshot old new (leaves i s) (λ image after. RemovesEntry image after i s)
+  leaving_performs in_snapshot clear =
+      performs_committed in_snapshot old new (leaves i s) (λ image after. RemovesEntry image after i s) place 0 2 1 []
       (record {
         prepared = [];
         adds = adds;
         quiet = quiet_none Same (current_words old) (same_self (current_words old) can.well_formed);
         piece = IsPiece-commit place 0;
       })
-      (takes_none (current_words old) kept)
+      (takes_none (current_words old) in_snapshot)
       (rw stored (sym (at_cover can)))
       (omega arith) (omega arith)
       (sym (none_leaving (current_words old) can.well_formed i s j can.unlink.reached can.unlink.entry))
-      (in_live (content_live (current_words old) i (32 * s + 0) place can.unlink.reached (omega (arith, can.unlink.entry.in_size)) can.stands) (leaving_loose kept clear))
+      (in_live (content_live (current_words old) i (32 * s + 0) place can.unlink.reached (omega (arith, can.unlink.entry.in_size)) can.stands) (leaving_loose in_snapshot clear))
       (rw stored (last_well_formed can))
       (rw stored (removes can))
 
-  module _ {kept : ℕ → Bool} {blocks inodes : Set} (exact : AreExact (current_words old) kept blocks inodes) where
+  module _ {in_snapshot : ℕ → Bool} {blocks inodes : Set} (exact : AreExact (current_words old) in_snapshot blocks inodes) where
     pub can_give : CanGiveBack (current_words new) (root_of (current_words old) j) (size_of (current_words old) j) blocks
     can_give = rw stored (can_give_blocks can exact)
 
     pub leaving_exact : IsLastName (current_words old) i s j → (after : Set)
-        → GivesBack kept (IsGivenUp (current_words new) (root_of (current_words old) j) (size_of (current_words old) j) 0) blocks after
-        → AreExact (current_words new) kept after (with inodes j)
+        → GivesBack in_snapshot (IsGivenUp (current_words new) (root_of (current_words old) j) (size_of (current_words old) j) 0) blocks after
+        → AreExact (current_words new) in_snapshot after (with inodes j)
     leaving_exact last_name after gives = rw stored (exact_last can exact last_name after (rw stored at gives))
 
-    pub named_exact : HasOtherName (current_words old) i s j → AreExact (current_words new) kept blocks inodes
+    pub named_exact : HasOtherName (current_words old) i s j → AreExact (current_words new) in_snapshot blocks inodes
     named_exact more = rw stored (exact_named can more _ _ exact)
 
   pub leaving_counts : (counts : List ℕ) → AreCounts (current_words old) counts → j < length counts → (rest : ℕ) → slice_index counts j ≡ rest + 1 → AreCounts (current_words new) (set counts j rest)
@@ -285,14 +285,14 @@ module _ (old new : Memory) {i s j place : ℕ} (can : CanLeave (current_words o
 -- a call that stores it has taken the name out, where the sets of its parts are exact then and one name less is counted
 pub leaving_commits : {R : Type 0} (memory : R → Memory) (old new : Parts R) {i s j place : ℕ} (can : CanLeave (current_words (memory old.region)) i s j place)
     → Adds (memory old.region) (memory new.region) (commit place 0) → IsExact (current_words (memory old.region)) old
-    → thawed (current_words (memory old.region)) (kept_of old) (leaves i s) ≡ []
-    → AreExact (current_words (memory new.region)) (kept_of old) new.blocks new.inodes → new.frozen ≡ old.frozen
-    → j < length old.counts → (rest : ℕ) → slice_index old.counts j ≡ rest + 1 → new.counts ≡ set old.counts j rest
+    → thawed (current_words (memory old.region)) (in_snapshot_of old) (leaves i s) ≡ []
+    → AreExact (current_words (memory new.region)) (in_snapshot_of old) new.free_blocks new.free_inodes → new.snapshot_blocks ≡ old.snapshot_blocks
+    → j < length old.link_counts → (rest : ℕ) → slice_index old.link_counts j ≡ rest + 1 → new.link_counts ≡ set old.link_counts j rest
     → CommitsChange memory old new (leaves i s) (λ image after. RemovesEntry image after i s)
-leaving_commits memory old new {j = j} can adds exact clear sets frozen low rest some counts = record {
-  performs = leaving_performs (memory old.region) (memory new.region) can adds (kept_of old) clear;
-  frozen = frozen;
-  exact = exact_with _ _ old new exact sets frozen (leaving_whole (memory old.region) (memory new.region) can adds)
-      (rw counts (length-set old.counts j rest))
-      (rw counts (leaving_counts (memory old.region) (memory new.region) can adds old.counts exact.counts low rest some));
+leaving_commits memory old new {j = j} can adds exact clear sets snapshot_blocks low rest some counts = record {
+  performs = leaving_performs (memory old.region) (memory new.region) can adds (in_snapshot_of old) clear;
+  snapshot_blocks = snapshot_blocks;
+  exact = exact_with _ _ old new exact sets snapshot_blocks (leaving_whole (memory old.region) (memory new.region) can adds)
+      (rw counts (length-set old.link_counts j rest))
+      (rw counts (leaving_counts (memory old.region) (memory new.region) can adds old.link_counts exact.counts low rest some));
 }

@@ -56,7 +56,7 @@ pub mod ThawedRoom
 pub mod ThawedNeed
 pub mod LeavingThawed
 pub mod ThawedShows
-pub mod NothingKept
+pub mod NothingInSnapshot
 pub mod FewNames
 pub mod GrowthPerforms
 pub mod GrowthLoose

@@ -30,8 +30,8 @@ use Rattle.bp_calls.proofs.SetLaws.{free_inodes_stay}
 use Rattle.bp_calls.proofs.SlotStores.{IsHidden}
 use Rattle.bp_calls.proofs.BehindStores.{KeepsGrown, behind_committed, behind_sets, behind_slot, behind_within, done_file, full_before, full_file, full_meaning, full_missing, full_size_at, full_there, full_well_formed, put_ready}
 
-module _ {kept : ℕ → Bool} (first second last : Memory) (blocks after : Set) (i j place : ℕ) (name : Name) (can : CanLinkBehind kept first blocks i j name)
-    (puts : PutsBehind kept first second (members blocks) (members after) i j name) (size_at : ContentStandsAt (current_words first) 0 (8 * i + 2) place)
+module _ {in_snapshot : ℕ → Bool} (first second last : Memory) (blocks after : Set) (i j place : ℕ) (name : Name) (can : CanLinkBehind in_snapshot first blocks i j name)
+    (puts : PutsBehind in_snapshot first second (members blocks) (members after) i j name) (size_at : ContentStandsAt (current_words first) 0 (8 * i + 2) place)
     (commits : Adds second last (commit place (size_of (current_words first) i + 256))) where
   abbrev image : Image
   image = current_words first
@@ -47,8 +47,8 @@ module _ {kept : ℕ → Bool} (first second last : Memory) (blocks after : Set)
 
   -- ---- nothing is stored behind the preparation
 
-  none : AddsMay (AnyAt (IsHidden kept mid)) 0 0 second second
-  none = may_none (AnyAt (IsHidden kept mid)) second
+  none : AddsMay (AnyAt (IsHidden in_snapshot mid)) 0 0 second second
+  none = may_none (AnyAt (IsHidden in_snapshot mid)) second
 
   keeps : KeepsGrown mid mid i
   keeps = record { back = λ b has. has; stay = λ b has. has }
@@ -79,7 +79,7 @@ module _ {kept : ℕ → Bool} (first second last : Memory) (blocks after : Set)
   effect : LinksEntry i name j image done
   effect = links_entry_over image mid done wf meaning i (size_of mid i / 256) j name (behind_slot first second second last blocks after i j place 0 name can.can puts none mid_ready keeps size_at commits) same_file links
 
-  pub link_behind_performs : PerformsWithin kept (name_need image i) 5 (stores_behind_growth (name_need image i)) first last (gains i linked) (LinksEntry i name j)
+  pub link_behind_performs : PerformsWithin in_snapshot (name_need image i) 5 (stores_behind_growth (name_need image i)) first last (gains i linked) (LinksEntry i name j)
   link_behind_performs =
       behind_within first second second last blocks after i j place 0 name can.can puts none mid_ready keeps size_at commits (gains i linked) (LinksEntry i name j) (omega arith) refl
       (linking.linked_well_formed mid done well i (size_of mid i / 256) j links.adds) effect
@@ -92,7 +92,7 @@ module _ {kept : ℕ → Bool} (first second last : Memory) (blocks after : Set)
   done_stays : (t : ℕ) → IsReached image t → IsReached done t
   done_stays t there = linking.reached_stays mid done well i (size_of mid i / 256) j links.adds t (full_there first second second last blocks after i j place 0 name can.can puts none mid_ready keeps size_at commits t there)
 
-  pub link_behind_exact : length after ≡ length blocks → (inodes : Set) → AreExact image kept blocks inodes → AreExact (current_words last) kept after inodes
+  pub link_behind_exact : length after ≡ length blocks → (inodes : Set) → AreExact image in_snapshot blocks inodes → AreExact (current_words last) in_snapshot after inodes
   link_behind_exact room inodes exact =
       rw committed
       (behind_sets first second second last blocks after i j place 0 name can.can puts none mid_ready keeps size_at commits (λ t b there has. done_before t there) done_stays

@@ -31,9 +31,9 @@ use Rattle.bp_calls.proofs.EnteredOver.{links_entry_over, links_over}
 use Rattle.bp_changes.proofs.LinksName as linking
 use Rattle.bp_changes.proofs.Named.{linked_counts}
 
-module _ (kept : ℕ → Bool) (first third last : Memory) (i s j entry : ℕ) (name : Name) (can : CanLink (current_words first) i j name)
+module _ (in_snapshot : ℕ → Bool) (first third last : Memory) (i s j entry : ℕ) (name : Name) (can : CanLink (current_words first) i j name)
     (found : empty_slot (current_words first) i ≡ Some s) (entry_at : ContentStandsAt (current_words first) i (32 * s + 0) entry)
-    (loose_entry : HasLooseWord (current_words first) kept i (32 * s + 0)) (spells : AddsMay (AnyAt (IsWithin (entry + 1) 31)) 0 31 first third) (named : HasNameAt (current_words third) entry name)
+    (loose_entry : HasLooseWord (current_words first) in_snapshot i (32 * s + 0)) (spells : AddsMay (AnyAt (IsWithin (entry + 1) 31)) 0 31 first third) (named : HasNameAt (current_words third) entry name)
     (commits : Adds third last (commit entry j)) where
   abbrev image : Image
   image = current_words first
@@ -44,14 +44,14 @@ module _ (kept : ℕ → Bool) (first third last : Memory) (i s j entry : ℕ) (
   abbrev after : Image
   after = set mid entry j
 
-  loose : kept (entry / 512) ≡ false
+  loose : in_snapshot (entry / 512) ≡ false
   loose = loose_entry entry entry_at
 
   wf : IsWellFormed image
   wf = can.lacks.well_formed
 
-  hidden : AddsMay (AnyAt (IsHidden kept image)) 0 31 first third
-  hidden = may_weaker (AnyAt (IsWithin (entry + 1) 31)) (AnyAt (IsHidden kept image)) 0 31 first third (name_hidden image wf i s entry can.lacks.reached can.lacks.directory found entry_at loose) spells
+  hidden : AddsMay (AnyAt (IsHidden in_snapshot image)) 0 31 first third
+  hidden = may_weaker (AnyAt (IsWithin (entry + 1) 31)) (AnyAt (IsHidden in_snapshot image)) 0 31 first third (name_hidden image wf i s entry can.lacks.reached can.lacks.directory found entry_at loose) spells
 
   trees : SameTrees image mid
   trees = slot_trees first third last i s j entry 31 name can.lacks found entry_at loose hidden named commits
@@ -85,7 +85,7 @@ module _ (kept : ℕ → Bool) (first third last : Memory) (i s j entry : ℕ) (
       subst (λ w. LinksEntry i name j image w) (sym committed)
       (links_entry_over image mid after wf trees.prepared.meaning i s j name (slot_is first third last i s j entry 31 name can.lacks found entry_at loose hidden named commits) trees.prepared.inode_bytes links)
 
-  pub link_performs : PerformsWithin kept (name_need image i) 5 (stores_behind_growth (name_need image i)) first last (gains i linked) (LinksEntry i name j)
+  pub link_performs : PerformsWithin in_snapshot (name_need image i) 5 (stores_behind_growth (name_need image i)) first last (gains i linked) (LinksEntry i name j)
   link_performs =
       slot_within first third last i s j entry 31 name can.lacks found entry_at loose hidden named commits (gains i linked) (LinksEntry i name j) (omega arith) refl refl
       (linking.linked_well_formed mid after mid_well_formed i s j links.adds) (linking.reached_stays mid after mid_well_formed i s j links.adds i ready.reached) effect

@@ -43,7 +43,7 @@ growing_needs image wf zero size root long reached file longer one two = absurd 
 growing_needs image wf (suc n) size root long reached file longer one two =
     only_need image (resizes (suc n) size) n size size wf reached (only_grows image (suc n) size longer) ∙ sym (ap₂ (λ r s. length (nodes_for image r s size size)) one two)
 
-module _ {kept : ℕ → Bool} (old : Memory) (blocks inodes : Set) (n size : ℕ) (can : CanGrowFile kept old blocks inodes (suc n) size) where
+module _ {in_snapshot : ℕ → Bool} (old : Memory) (blocks inodes : Set) (n size : ℕ) (can : CanGrowFile in_snapshot old blocks inodes (suc n) size) where
   abbrev image : Image
   image = current_words old
 
@@ -54,13 +54,13 @@ module _ {kept : ℕ → Bool} (old : Memory) (blocks inodes : Set) (n size : �
   ends : targets image (resizes (suc n) size) ≡ cover_now image (resizes (suc n) size) ∷ root_path_now image (suc n) ∷ end_path_now image (suc n) ∷ []
   ends = rw (lt-ltb (size_of image (suc n)) size can.longer) refl
 
-  end_loose : HasLooseEnd image kept (suc n)
+  end_loose : HasLooseEnd image in_snapshot (suc n)
   end_loose =
-      let loose : (path : WordPath) → Has (targets image (resizes (suc n) size)) path → (shortest : ℕ) → IsLoose image kept shortest path = loose-on image kept (targets image (resizes (suc n) size)) can.clear in
-      loose_end image can.well_formed kept (suc n) can.reached
+      let loose : (path : WordPath) → Has (targets image (resizes (suc n) size)) path → (shortest : ℕ) → IsLoose image in_snapshot shortest path = loose-on image in_snapshot (targets image (resizes (suc n) size)) can.clear in
+      loose_end image can.well_formed in_snapshot (suc n) can.reached
       (loose (end_path_now image (suc n)) (subst (λ ps. Has ps (end_path_now image (suc n))) (sym ends) (inr (inr (inl refl)))) (length (root_path_now image (suc n)) - 1))
 
-  can_prepare : (path : WordPath) → path ≡ inode_path (height_of (root_of image 0)) (suc n) 1 → need image (resizes (suc n) size) ≤ length (members blocks) → CanPrepare kept old (members blocks) (suc n) path size size
+  can_prepare : (path : WordPath) → path ≡ inode_path (height_of (root_of image 0)) (suc n) 1 → need image (resizes (suc n) size) ≤ length (members blocks) → CanPrepare in_snapshot old (members blocks) (suc n) path size size
   can_prepare path leads enough = record {
     well = can.well_formed;
     reached = can.reached;
@@ -78,7 +78,7 @@ module _ {kept : ℕ → Bool} (old : Memory) (blocks inodes : Set) (n size : �
   }
 
   -- behind the preparation there is room for the store
-  room_left : (middle : Memory) (free_new bytes : List ℕ) → PreparesWith kept old middle (members blocks) free_new (suc n) size size bytes → (3 ≤ room_in middle) × (length middle.base ≡ length old.base)
+  room_left : (middle : Memory) (free_new bytes : List ℕ) → PreparesWith in_snapshot old middle (members blocks) free_new (suc n) size size bytes → (3 ≤ room_in middle) × (length middle.base ≡ length old.base)
   room_left middle free_new bytes prepared =
       let stores = behind_whole (size_of image (suc n)) size size max_height in
       let left = room_in-piece _ _ old middle prepared.adds.part.added prepared.adds.part.adds prepared.adds.part.piece in
@@ -86,28 +86,28 @@ module _ {kept : ℕ → Bool} (old : Memory) (blocks inodes : Set) (n size : �
       let has = can.room (omega (arith, needs, prepared.counted, all)) in
       (omega (arith, needs, stores, left, has), ap length (base-adds old middle prepared.adds.part.added prepared.adds.part.adds))
 
-  module _ (middle new : Memory) (rest : Set) (path : WordPath) (place : ℕ) (grows : GrowsTree kept old middle new (members blocks) (members rest) path n size size place []) (room : length rest ≡ length blocks) where
+  module _ (middle new : Memory) (rest : Set) (path : WordPath) (place : ℕ) (grows : GrowsTree in_snapshot old middle new (members blocks) (members rest) path n size size place []) (room : length rest ≡ length blocks) where
     only : OnlyGrows image (resizes (suc n) size) (suc n) size size
     only = only_grows image (suc n) size can.longer
 
     resized : ResizesFile (suc n) size image (current_words new)
     resized = record {
-      changes = grown_changes kept old middle new (members blocks) (members rest) path n size size place [] grows (resizes (suc n) size) only;
-      size_is = grown_size kept old middle new (members blocks) (members rest) path n size size place [] grows (resizes (suc n) size) only;
-      kept = λ o low was. grown_bytes kept old middle new (members blocks) (members rest) path n size size place [] grows (resizes (suc n) size) only o low ∙ grows.prepared.ready.kept o was;
-      zeros = λ o low past. grown_bytes kept old middle new (members blocks) (members rest) path n size size place [] grows (resizes (suc n) size) only o low ∙ grows.prepared.ready.bytes_are o past low ∙ given_none size o;
+      changes = grown_changes in_snapshot old middle new (members blocks) (members rest) path n size size place [] grows (resizes (suc n) size) only;
+      size_is = grown_size in_snapshot old middle new (members blocks) (members rest) path n size size place [] grows (resizes (suc n) size) only;
+      kept = λ o low was. grown_bytes in_snapshot old middle new (members blocks) (members rest) path n size size place [] grows (resizes (suc n) size) only o low ∙ grows.prepared.ready.kept o was;
+      zeros = λ o low past. grown_bytes in_snapshot old middle new (members blocks) (members rest) path n size size place [] grows (resizes (suc n) size) only o low ∙ grows.prepared.ready.bytes_are o past low ∙ given_none size o;
     }
 
-    performs : PerformsThawed kept old new (resizes (suc n) size) (ResizesFile (suc n) size)
+    performs : PerformsThawed in_snapshot old new (resizes (suc n) size) (ResizesFile (suc n) size)
     performs =
-        grown_performs kept old middle new (members blocks) (members rest) path n size size place [] grows (resizes (suc n) size) only (ResizesFile (suc n) size) resized
+        grown_performs in_snapshot old middle new (members blocks) (members rest) path n size size place [] grows (resizes (suc n) size) only (ResizesFile (suc n) size) resized
 
-    exact : AreExact (current_words new) kept rest inodes
+    exact : AreExact (current_words new) in_snapshot rest inodes
     exact =
         exact_taken image (current_words new) (suc n) can.well_formed resized.changes grows.prepared.taken blocks rest inodes can.exact grows.prepared.takes room
-        (grown_live kept old middle new (members blocks) (members rest) path n size size place [] grows (resizes (suc n) size) only)
-        (grown_stays kept old middle new (members blocks) (members rest) path n size size place [] grows (resizes (suc n) size) only)
-        (grown_taken kept old middle new (members blocks) (members rest) path n size size place [] grows (resizes (suc n) size) only)
+        (grown_live in_snapshot old middle new (members blocks) (members rest) path n size size place [] grows (resizes (suc n) size) only)
+        (grown_stays in_snapshot old middle new (members blocks) (members rest) path n size size place [] grows (resizes (suc n) size) only)
+        (grown_taken in_snapshot old middle new (members blocks) (members rest) path n size size place [] grows (resizes (suc n) size) only)
 
 -- ---- by the number of the inode
 
@@ -116,26 +116,26 @@ pub no_file : (image : Image) → kind_of image 0 ≡ 1 → ⊥
 no_file image one = omega (arith, one)
 
 -- a file that got longer
-pub record Grew (kept : ℕ → Bool) (old middle new : Memory) (blocks rest : Set) (path : WordPath) (i size place : ℕ) : Type 0 where
-  pub can : CanPrepare kept old (members blocks) i path size size
+pub record Grew (in_snapshot : ℕ → Bool) (old middle new : Memory) (blocks rest : Set) (path : WordPath) (i size place : ℕ) : Type 0 where
+  pub can : CanPrepare in_snapshot old (members blocks) i path size size
   pub stands : ContentStandsAt (current_words old) 0 (8 * i + 2) place
-  pub prepared : PreparesWith kept old middle (members blocks) (members rest) i size size []
+  pub prepared : PreparesWith in_snapshot old middle (members blocks) (members rest) i size size []
   pub room : length rest ≡ length blocks
   pub stored : Adds middle new (commit place size)
 
-module _ {kept : ℕ → Bool} (old : Memory) (blocks inodes : Set) where
-  pub prepares : (i size : ℕ) → CanGrowFile kept old blocks inodes i size → (path : WordPath) → path ≡ inode_path (height_of (root_of (current_words old) 0)) i 1 → need (current_words old) (resizes i size) ≤ length (members blocks) →
-      CanPrepare kept old (members blocks) i path size size
+module _ {in_snapshot : ℕ → Bool} (old : Memory) (blocks inodes : Set) where
+  pub prepares : (i size : ℕ) → CanGrowFile in_snapshot old blocks inodes i size → (path : WordPath) → path ≡ inode_path (height_of (root_of (current_words old) 0)) i 1 → need (current_words old) (resizes i size) ≤ length (members blocks) →
+      CanPrepare in_snapshot old (members blocks) i path size size
   prepares zero size can = absurd (no_file (current_words old) can.file)
   prepares (suc n) size can = can_prepare old blocks inodes n size can
 
-  pub room_behind : (middle : Memory) (free_new bytes : List ℕ) (i size : ℕ) → CanGrowFile kept old blocks inodes i size → PreparesWith kept old middle (members blocks) free_new i size size bytes → (3 ≤ room_in middle) × (length middle.base ≡ length old.base)
+  pub room_behind : (middle : Memory) (free_new bytes : List ℕ) (i size : ℕ) → CanGrowFile in_snapshot old blocks inodes i size → PreparesWith in_snapshot old middle (members blocks) free_new i size size bytes → (3 ≤ room_in middle) × (length middle.base ≡ length old.base)
   room_behind middle free_new bytes zero size can = absurd (no_file (current_words old) can.file)
   room_behind middle free_new bytes (suc n) size can = room_left old blocks inodes n size can middle free_new bytes
 
-  pub grew : (middle new : Memory) (rest : Set) (path : WordPath) (i size place : ℕ) → CanGrowFile kept old blocks inodes i size → Grew kept old middle new blocks rest path i size place →
-      PerformsThawed kept old new (resizes i size) (ResizesFile i size) × AreExact (current_words new) kept rest inodes
+  pub grew : (middle new : Memory) (rest : Set) (path : WordPath) (i size place : ℕ) → CanGrowFile in_snapshot old blocks inodes i size → Grew in_snapshot old middle new blocks rest path i size place →
+      PerformsThawed in_snapshot old new (resizes i size) (ResizesFile i size) × AreExact (current_words new) in_snapshot rest inodes
   grew middle new rest path zero size place can = absurd (no_file (current_words old) can.file)
   grew middle new rest path (suc n) size place can = λ done.
-      let grows : GrowsTree kept old middle new (members blocks) (members rest) path n size size place [] = record { can = done.can; is_file = can.file; stands = done.stands; prepared = done.prepared; stored = done.stored } in
+      let grows : GrowsTree in_snapshot old middle new (members blocks) (members rest) path n size size place [] = record { can = done.can; is_file = can.file; stands = done.stands; prepared = done.prepared; stored = done.stored } in
       (performs old blocks inodes n size can middle new rest path place grows done.room, exact old blocks inodes n size can middle new rest path place grows done.room)

@@ -56,11 +56,11 @@ entry_needs image wf i root size reached kind one two none = entry_need_is image
 
 -- ---- an inode is free
 
-module _ {kept : ℕ → Bool} (memory : Memory) (blocks inodes : Set) (i j : ℕ) (name : Name) (can : CanEnter kept memory blocks inodes i name) (least : IsLeast inodes j) where
+module _ {in_snapshot : ℕ → Bool} (memory : Memory) (blocks inodes : Set) (i j : ℕ) (name : Name) (can : CanEnter in_snapshot memory blocks inodes i name) (least : IsLeast inodes j) where
   pub can_name : CanName (current_words memory) i j name
   can_name = record { lacks = can.lacks; free = can.exact.free_inodes.free j least.is_in }
 
-  pub can_enter_behind : empty_slot (current_words memory) i ≡ None → CanEnterBehind kept memory blocks i j name
+  pub can_enter_behind : empty_slot (current_words memory) i ≡ None → CanEnterBehind in_snapshot memory blocks i j name
   can_enter_behind none = record {
     can = record {
       lacks = can.lacks;
@@ -77,8 +77,8 @@ module _ {kept : ℕ → Bool} (memory : Memory) (blocks inodes : Set) (i j : �
 
 -- ---- none is free, and the inode file has grown
 
-module _ {kept : ℕ → Bool} (old mid : Memory) (blocks inodes after filled : Set) (i : ℕ) (name : Name) (lacks : LacksName (current_words old) i name) (before : AreExact (current_words old) kept blocks inodes) (nobody : members inodes ≡ [])
-    (ready : IsThawedFor kept old blocks (enters i grown)) (grows : GrowsInodes kept old mid) (exact : AreExact (current_words mid) kept after filled) (left : length (members blocks) ≡ growth_need (current_words old) + length (members after)) where
+module _ {in_snapshot : ℕ → Bool} (old mid : Memory) (blocks inodes after filled : Set) (i : ℕ) (name : Name) (lacks : LacksName (current_words old) i name) (before : AreExact (current_words old) in_snapshot blocks inodes) (nobody : members inodes ≡ [])
+    (ready : IsThawedFor in_snapshot old blocks (enters i grown)) (grows : GrowsInodes in_snapshot old mid) (exact : AreExact (current_words mid) in_snapshot after filled) (left : length (members blocks) ≡ growth_need (current_words old) + length (members after)) where
   abbrev image : Image
   image = current_words old
 
@@ -109,13 +109,13 @@ module _ {kept : ℕ → Bool} (old mid : Memory) (blocks inodes after filled : 
           })) nobody)
       go (inr high) = high
 
-  taken_loose : (b : ℕ) → Has grows.taken b → kept b ≡ false
-  taken_loose b took = (each-has (IsFreeBlock image kept) grows.taken b grows.adds.takes.free took).loose
+  taken_loose : (b : ℕ) → Has grows.taken b → in_snapshot b ≡ false
+  taken_loose b took = (each-has (IsFreeBlock image in_snapshot) grows.taken b grows.adds.takes.free took).loose
 
   pub grown_slot : empty_slot longer i ≡ empty_slot image i
   grown_slot = empty_slot_over image longer lacks.well_formed grows.grown.meaning i lacks.reached lacks.directory
 
-  pub grown_enters : CanEnter kept mid after filled i name
+  pub grown_enters : CanEnter in_snapshot mid after filled i name
   grown_enters = record {
     lacks = record {
       well_formed = wf;
@@ -127,11 +127,11 @@ module _ {kept : ℕ → Bool} (old mid : Memory) (blocks inodes after filled : 
     exact = exact;
     some = has_members filled (inode_count image) (exact.free_inodes.all (inode_count image) first_free);
     enough = let needs = grown_need old mid grows lacks.well_formed i lacks.reached lacks.directory in omega (arith, ready.enough, needs, left);
-    loose = loose_entry_on image longer grows.taken lacks.well_formed grows.grown kept taken_loose i lacks.reached lacks.directory (directory_inode image i lacks.directory)
-        (entry_loose image lacks.well_formed i lacks.reached lacks.directory kept grown ready.clear);
+    loose = loose_entry_on image longer grows.taken lacks.well_formed grows.grown in_snapshot taken_loose i lacks.reached lacks.directory (directory_inode image i lacks.directory)
+        (entry_loose image lacks.well_formed i lacks.reached lacks.directory in_snapshot grown ready.clear);
     loose_inode = λ j least.
         let free : IsFreeInode longer j = exact.free_inodes.free j least.is_in in
-        new_inode_loose image longer grows.taken lacks.well_formed grows.grown kept taken_loose j (behind_old j free) free.high;
+        new_inode_loose image longer grows.taken lacks.well_formed grows.grown in_snapshot taken_loose j (behind_old j free) free.high;
     room = enough_room (length grows.taken) (growth_need image) (name_need longer i) (need image (enters i grown)) (room_in old) (room_in mid) grows.number
         (grown_need old mid grows lacks.well_formed i lacks.reached lacks.directory) (room_behind_growth old mid grows) ready.room;
   }
@@ -141,39 +141,39 @@ module _ {kept : ℕ → Bool} (old mid : Memory) (blocks inodes after filled : 
 
   -- whichever inode is the least that is free then
   pub grown_performs : (new : Memory) (kind : Kind) →
-      ((free : Option ℕ) → IsLeastFree longer free → PerformsWithin kept (name_need longer i) 5 (stores_behind_growth (name_need longer i)) mid new (enters i (entrant_of free)) (EntersName i name kind)) →
-      PerformsThawed kept old new (enters i grown) (EntersName i name kind)
+      ((free : Option ℕ) → IsLeastFree longer free → PerformsWithin in_snapshot (name_need longer i) 5 (stores_behind_growth (name_need longer i)) mid new (enters i (entrant_of free)) (EntersName i name kind)) →
+      PerformsThawed in_snapshot old new (enters i grown) (EntersName i name kind)
   grown_performs new kind done = go told.0 told.1
     where
       told : (free : Option ℕ) × IsLeastFree longer free
       told = tells longer after filled exact
 
-      go : (free : Option ℕ) → IsLeastFree longer free → PerformsThawed kept old new (enters i grown) (EntersName i name kind)
+      go : (free : Option ℕ) → IsLeastFree longer free → PerformsThawed in_snapshot old new (enters i grown) (EntersName i name kind)
       go None least = absurd (not_none longer after filled exact (has_members filled (inode_count image) (exact.free_inodes.all (inode_count image) first_free)) least)
       go (Some j) least =
           performs_grown old mid grows lacks.well_formed new i j (EntersName i name kind) (EntersName i name kind) lacks.reached lacks.directory (done (Some j) least)
           (entered_over image longer (current_words new) lacks.well_formed grows.grown.meaning i name kind lacks.directory)
 
 -- as many are free as the growth needs
-pub can_grow : {kept : ℕ → Bool} (old : Memory) (blocks inodes : Set) (i : ℕ) (name : Name) → LacksName (current_words old) i name → AreExact (current_words old) kept blocks inodes → IsThawedFor kept old blocks (enters i grown) →
-    CanGrowInodes kept old blocks inodes
-can_grow {kept = kept} old blocks inodes i name lacks exact ready =
+pub can_grow : {in_snapshot : ℕ → Bool} (old : Memory) (blocks inodes : Set) (i : ℕ) (name : Name) → LacksName (current_words old) i name → AreExact (current_words old) in_snapshot blocks inodes → IsThawedFor in_snapshot old blocks (enters i grown) →
+    CanGrowInodes in_snapshot old blocks inodes
+can_grow {in_snapshot = in_snapshot} old blocks inodes i name lacks exact ready =
     let needs = need_growing (current_words old) lacks.well_formed i lacks.reached lacks.directory in
     record {
       well_formed = lacks.well_formed;
       exact = exact;
       enough = omega (arith, needs, ready.enough);
-      loose = file_loose (current_words old) lacks.well_formed i lacks.reached lacks.directory kept grown ready.clear refl;
+      loose = file_loose (current_words old) lacks.well_formed i lacks.reached lacks.directory in_snapshot grown ready.clear refl;
       room = omega (arith, needs, ready.room);
     }
 
 -- ---- behind a thaw
 
 -- whichever inode is there
-pub within_call : {kept : ℕ → Bool} (old new : Memory) (change : Change) (i : ℕ) (Effect : Image → Image → Type 0) → need (current_words old) change ≡ name_need (current_words old) i →
-    PerformsWithin kept (name_need (current_words old) i) 5 (stores_behind_growth (name_need (current_words old) i)) old new change Effect → PerformsThawed kept old new change Effect
-within_call {kept = kept} old new change i Effect same done =
-    within_more kept needed 5 (stores_behind_growth needed) old new change Effect (subst (λ n. PerformsWithin kept n 5 (stores_behind_growth n) old new change Effect) (sym same) done) 8 (most_stores_thawed needed) (omega arith) few
+pub within_call : {in_snapshot : ℕ → Bool} (old new : Memory) (change : Change) (i : ℕ) (Effect : Image → Image → Type 0) → need (current_words old) change ≡ name_need (current_words old) i →
+    PerformsWithin in_snapshot (name_need (current_words old) i) 5 (stores_behind_growth (name_need (current_words old) i)) old new change Effect → PerformsThawed in_snapshot old new change Effect
+within_call {in_snapshot = in_snapshot} old new change i Effect same done =
+    within_more in_snapshot needed 5 (stores_behind_growth needed) old new change Effect (subst (λ n. PerformsWithin in_snapshot n 5 (stores_behind_growth n) old new change Effect) (sym same) done) 8 (most_stores_thawed needed) (omega arith) few
   where
     needed : ℕ
     needed = need (current_words old) change
@@ -185,8 +185,8 @@ within_call {kept = kept} old new change i Effect same done =
 pub room_entering : (needed has : ℕ) → room_for needed ≤ has + 2 → entering_room needed ≤ has
 room_entering needed has a = omega (arith, a)
 
-module _ {kept : ℕ → Bool} (old : Memory) (blocks inodes : Set) (i : ℕ) (name : Name) (lacks : LacksName (current_words old) i name) (exact : AreExact (current_words old) kept blocks inodes)
-    (ready : (free : Option ℕ) → IsLeastFree (current_words old) free → IsThawedFor kept old blocks (enters i (entrant_of free))) where
+module _ {in_snapshot : ℕ → Bool} (old : Memory) (blocks inodes : Set) (i : ℕ) (name : Name) (lacks : LacksName (current_words old) i name) (exact : AreExact (current_words old) in_snapshot blocks inodes)
+    (ready : (free : Option ℕ) → IsLeastFree (current_words old) free → IsThawedFor in_snapshot old blocks (enters i (entrant_of free))) where
   abbrev words : Image
   words = current_words old
 
@@ -203,45 +203,45 @@ module _ {kept : ℕ → Bool} (old : Memory) (blocks inodes : Set) (i : ℕ) (n
   told : (free : Option ℕ) × IsLeastFree words free
   told = tells words blocks inodes exact
 
-  pub none_ready : members inodes ≡ [] → IsThawedFor kept old blocks (enters i grown)
+  pub none_ready : members inodes ≡ [] → IsThawedFor in_snapshot old blocks (enters i grown)
   none_ready none = go told.0 told.1
     where
-      go : (free : Option ℕ) → IsLeastFree words free → IsThawedFor kept old blocks (enters i grown)
+      go : (free : Option ℕ) → IsLeastFree words free → IsThawedFor in_snapshot old blocks (enters i grown)
       go None least = ready None least
       go (Some j) least = absurd (not_some words blocks inodes exact none j least)
 
-  pub some_enters : members inodes ≢ [] → CanEnter kept old blocks inodes i name
+  pub some_enters : members inodes ≢ [] → CanEnter in_snapshot old blocks inodes i name
   some_enters some = go told.0 told.1
     where
-      go : (free : Option ℕ) → IsLeastFree words free → CanEnter kept old blocks inodes i name
+      go : (free : Option ℕ) → IsLeastFree words free → CanEnter in_snapshot old blocks inodes i name
       go None least = absurd (not_none words blocks inodes exact some least)
       go (Some j) least =
-          let here : IsThawedFor kept old blocks (enters i (taken j)) = ready (Some j) least in
+          let here : IsThawedFor in_snapshot old blocks (enters i (taken j)) = ready (Some j) least in
           record {
             lacks = lacks;
             exact = exact;
             some = some;
             enough = here.enough;
-            loose = entry_loose words lacks.well_formed i lacks.reached lacks.directory kept (taken j) here.clear;
+            loose = entry_loose words lacks.well_formed i lacks.reached lacks.directory in_snapshot (taken j) here.clear;
             loose_inode = λ k first.
-                inode_loose words lacks.well_formed i lacks.reached lacks.directory kept (taken j) here.clear k (ap entrant_of (is_least words blocks inodes exact k first (Some j) least)) (exact.free_inodes.free k first.is_in).high;
+                inode_loose words lacks.well_formed i lacks.reached lacks.directory in_snapshot (taken j) here.clear k (ap entrant_of (is_least words blocks inodes exact k first (Some j) least)) (exact.free_inodes.free k first.is_in).high;
             room = room_entering (name_need words i) (room_in old) here.room;
           }
 
   -- whatever is told of free inodes
   pub some_performs : (new : Memory) (Effect : Image → Image → Type 0) → members inodes ≢ [] →
-      ((free : Option ℕ) → IsLeastFree words free → PerformsWithin kept (name_need words i) 5 (stores_behind_growth (name_need words i)) old new (enters i (entrant_of free)) Effect) →
-      (free : Option ℕ) → IsLeastFree words free → PerformsThawed kept old new (enters i (entrant_of free)) Effect
-  some_performs new Effect some done = some_free some (λ free. PerformsThawed kept old new (enters i (entrant_of free)) Effect) (λ j least. within_call old new (enters i (taken j)) i Effect refl (done (Some j) least))
+      ((free : Option ℕ) → IsLeastFree words free → PerformsWithin in_snapshot (name_need words i) 5 (stores_behind_growth (name_need words i)) old new (enters i (entrant_of free)) Effect) →
+      (free : Option ℕ) → IsLeastFree words free → PerformsThawed in_snapshot old new (enters i (entrant_of free)) Effect
+  some_performs new Effect some done = some_free some (λ free. PerformsThawed in_snapshot old new (enters i (entrant_of free)) Effect) (λ j least. within_call old new (enters i (taken j)) i Effect refl (done (Some j) least))
 
-  pub none_performs : (new : Memory) (Effect : Image → Image → Type 0) → members inodes ≡ [] → PerformsThawed kept old new (enters i grown) Effect → (free : Option ℕ) → IsLeastFree words free →
-      PerformsThawed kept old new (enters i (entrant_of free)) Effect
-  none_performs new Effect none done = none_free none (λ free. PerformsThawed kept old new (enters i (entrant_of free)) Effect) done
+  pub none_performs : (new : Memory) (Effect : Image → Image → Type 0) → members inodes ≡ [] → PerformsThawed in_snapshot old new (enters i grown) Effect → (free : Option ℕ) → IsLeastFree words free →
+      PerformsThawed in_snapshot old new (enters i (entrant_of free)) Effect
+  none_performs new Effect none done = none_free none (λ free. PerformsThawed in_snapshot old new (enters i (entrant_of free)) Effect) done
 
 -- ---- the whole call
 
 -- the need of a new name, by whether an inode is free
-module _ {kept : ℕ → Bool} (image : Image) (wf : IsWellFormed image) (blocks inodes : Set) (exact : AreExact image kept blocks inodes) (i : ℕ) (reached : IsReached image i) (kind : kind_of image i ≡ 2) where
+module _ {in_snapshot : ℕ → Bool} (image : Image) (wf : IsWellFormed image) (blocks inodes : Set) (exact : AreExact image in_snapshot blocks inodes) (i : ℕ) (reached : IsReached image i) (kind : kind_of image i ≡ 2) where
   pub some_needs : members inodes ≢ [] → (needed : ℕ) → needed ≡ name_need image i → (free : Option ℕ) → IsLeastFree image free → need image (enters i (entrant_of free)) ≡ needed
   some_needs some needed is None least = absurd (not_none image blocks inodes exact some least)
   some_needs some needed is (Some j) least = sym is

@@ -31,8 +31,8 @@ content_live image t k place reached below stands =
       has = record { depth = height_of (root_of image t); index = k / 512; pointer = live_leaf _ _ _ below; named = named; not_null = λ null. stands.present (named ∙ null) };
     }
 
--- where that is not kept a call may store there
-pub content_open : {kept : ℕ → Bool} (image : Image) (taken : List ℕ) (t k place : ℕ) → IsReached image t → 4096 * (k / 512) < size_of image t → ContentStandsAt image t k place → kept (place / 512) ≡ false → IsOpen image kept taken place
+-- where that is not in the snapshot a call may store there
+pub content_open : {in_snapshot : ℕ → Bool} (image : Image) (taken : List ℕ) (t k place : ℕ) → IsReached image t → 4096 * (k / 512) < size_of image t → ContentStandsAt image t k place → in_snapshot (place / 512) ≡ false → IsOpen image in_snapshot taken place
 content_open image taken t k place reached below stands loose = in_live (content_live image t k place reached below stands) loose
 
 -- fewer values may stand

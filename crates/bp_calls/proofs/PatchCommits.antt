@@ -18,7 +18,7 @@ use Rattle.bp_changes.proofs.Overwrites.{keeps}
 use Rattle.bp_changes.proofs.ReachedOn.{reached_on}
 use Rattle.bp_changes.proofs.SameMeaning.{well_formed-same as meant_well_formed}
 use Rattle.bp_changes.proofs.ShapeLaws.{IsOfReached, need-shape}
-use Rattle.bp_shapes.specs.Sets.{AreExact, kept_of}
+use Rattle.bp_shapes.specs.Sets.{AreExact, in_snapshot_of}
 use Rattle.bp_free.specs.declared.parts.Parts.{Parts}
 use Rattle.bp_commit.specs.Performs.{IsOpen, PerformsThawed, room_for}
 use Rattle.pm_region.specs.Memory.{Memory, current_words, room_in}
@@ -38,7 +38,7 @@ use Rattle.bp_calls.specs.Overwritten.{AreRuns, CanOverwrite, CanOverwriteThawed
 use Rattle.bp_calls.specs.Mounted.{IsMounted}
 use Rattle.bp_calls.specs.Space.{HasRoomWhereFree, LacksBlocks}
 use Rattle.bp_calls.specs.ThawsFor.{ThawsFor}
-use Rattle.bp_calls.proofs.NothingKept.{clear_at_once, room_at_once}
+use Rattle.bp_calls.proofs.NothingInSnapshot.{clear_at_once, room_at_once}
 use Rattle.bp_calls.proofs.ThawedParts.{thawed_clear}
 use Rattle.bp_calls.proofs.FreeCounts.{free_members}
 use Rattle.bp_calls.proofs.PatchPaths.{patches_cover, patches_need, patches_way}
@@ -96,8 +96,8 @@ module _ {image : Image} {patches : List Patch} {touched : Touched} (touches : T
   overwrite_ways path (inl e) = subst (IsWayIn image) e (patches_way image wf patches touched overwrite_shape are none asks.each first_run.0 first_run.1 (at_run first_run.0 first_run.1))
   overwrite_ways path (inr never) = absurd never
 
-  module _ {kept : ℕ → Bool} (free : ℕ → Bool) (unheld : AreFreeBlocks image kept free) where
-    pub touched_can : CanCommit image (size_of image) kept touched free
+  module _ {in_snapshot : ℕ → Bool} (free : ℕ → Bool) (unheld : AreFreeBlocks image in_snapshot free) where
+    pub touched_can : CanCommit image (size_of image) in_snapshot touched free
     touched_can = patches_can image wf patches touched are none bare asks.few asks.each asks.some asks.short free unheld
 
     pub touched_leads : LeadsInside image touched
@@ -126,13 +126,13 @@ patches_on image after shape (patch ∷ patches) each = (one, patches_on image a
     one = record {
       reached = reached_on image after shape.meaning patch.inode each.0.reached;
       is_file = shape.meaning.kind patch.inode each.0.reached ∙ each.0.is_file;
-      within = subst (λ size. patch.off + length patch.bytes ≤ size) (sym (shape.sizes patch.inode each.0.reached)) each.0.within;
+      within = subst (λ size. patch.offset + length patch.bytes ≤ size) (sym (shape.sizes patch.inode each.0.reached)) each.0.within;
     }
 
 -- ---- where nothing is left to thaw
 
-module _ {kept : ℕ → Bool} {old : Memory} {blocks inodes : Set} {patches : List Patch} {touched : Touched}
-    (asks : CanOverwriteThawed kept old blocks inodes patches) (touches : TouchesPatches (current_words old) patches touched) where
+module _ {in_snapshot : ℕ → Bool} {old : Memory} {blocks inodes : Set} {patches : List Patch} {touched : Touched}
+    (asks : CanOverwriteThawed in_snapshot old blocks inodes patches) (touches : TouchesPatches (current_words old) patches touched) where
   abbrev image : Image
   image = current_words old
 
@@ -154,7 +154,7 @@ module _ {kept : ℕ → Bool} {old : Memory} {blocks inodes : Set} {patches : L
   at : (run : Run) → Has touched.runs.now run → IsInFile image run
   at = at_run touches
 
-  pub overwrite_can : CanCommit (current_words old) (size_of (current_words old)) kept touched (has blocks)
+  pub overwrite_can : CanCommit (current_words old) (size_of (current_words old)) in_snapshot touched (has blocks)
   overwrite_can = touched_can touches (has blocks) asks.exact.free_blocks
 
   first : (run : Run) × Has touched.runs.now run
@@ -171,21 +171,21 @@ module _ {kept : ℕ → Bool} {old : Memory} {blocks inodes : Set} {patches : L
       let room : room_for (need image change) ≤ room_in old + 2 = asks.room (omega (arith, need_is, enough)) in
       omega (arith, room, need_is, no_word)
 
-  pub overwrite_loose : HasLooseCover image kept touched
+  pub overwrite_loose : HasLooseCover image in_snapshot touched
   overwrite_loose =
       let file = at first.0 first.1 in
       let among : Has (targets image change) (commit_cover image touched) = inl (overwrites_now image (stretches_of patches) ∙ sym cover_is) in
-      run_loose image wf file.inode file.reached first.0 file.of kept touched shape first.1 (loose-on image kept (targets image change) asks.clear (commit_cover image touched) among (length (commit_cover image touched) - 1))
+      run_loose image wf file.inode file.reached first.0 file.of in_snapshot touched shape first.1 (loose-on image in_snapshot (targets image change) asks.clear (commit_cover image touched) among (length (commit_cover image touched) - 1))
 
   pub overwrite_lacks : (copies free : ℕ) → copies ≡ copied_count (current_words old) touched → free ≡ length (members blocks) → free < copies →
-      LacksBlocks (current_words old) kept (need (current_words old) (overwrites (stretches_of patches))) (record { need = copies; free = free })
+      LacksBlocks (current_words old) in_snapshot (need (current_words old) (overwrites (stretches_of patches))) (record { need = copies; free = free })
   overwrite_lacks copies free counted number fewer = record {
     needed = sym (counted ∙ need_is);
-    free = subst (HasFree image kept) (sym number) (free_members image kept blocks asks.exact.free_blocks asks.exact.block_room);
+    free = subst (HasFree image in_snapshot) (sym number) (free_members image in_snapshot blocks asks.exact.free_blocks asks.exact.block_room);
     fewer = fewer;
   }
 
-  module _ (new : Memory) (after : Set) (done : CommitsTouched (size_of (current_words old)) kept touched old new blocks after) where
+  module _ (new : Memory) (after : Set) (done : CommitsTouched (size_of (current_words old)) in_snapshot touched old new blocks after) where
     pub overwrites_files : OverwritesFiles patches (current_words old) (current_words new)
     overwrites_files =
         patches_overwrite image (current_words new) wf touched (has blocks) overwrite_can no_word at
@@ -195,16 +195,16 @@ module _ {kept : ℕ → Bool} {old : Memory} {blocks inodes : Set} {patches : L
     leaves : leaves_of touched.runs.now ≤ 47
     leaves = omega (arith, leaves_few image patches touched.runs.now touches.runs, asked.short, asked.few)
 
-    open_cover : IsOpen image kept done.taken (cover_word image touched)
-    open_cover = let file = at first.0 first.1 in run_open image wf file.inode file.reached first.0 file.of kept touched shape first.1 overwrite_loose done.taken
+    open_cover : IsOpen image in_snapshot done.taken (cover_word image touched)
+    open_cover = let file = at first.0 first.1 in run_open image wf file.inode file.reached first.0 file.of in_snapshot touched shape first.1 overwrite_loose done.taken
 
-    pub overwrite_performs : PerformsThawed kept old new (overwrites (stretches_of patches)) (OverwritesFiles patches)
+    pub overwrite_performs : PerformsThawed in_snapshot old new (overwrites (stretches_of patches)) (OverwritesFiles patches)
     overwrite_performs =
         commit_performs old new change (OverwritesFiles patches) (size_of image) touched blocks after done cover_is need_is
         (let few = stores_few image (size_of image) touched (has blocks) wf overwrite_can in omega (arith, few, leaves, no_word, need_is))
         open_cover (well_formed-same image (current_words new) wf (keeps image (current_words new) patches overwrites_files)) overwrites_files
 
-    pub overwrite_exact : length after ≡ length blocks → AreExact (current_words new) kept after inodes
+    pub overwrite_exact : length after ≡ length blocks → AreExact (current_words new) in_snapshot after inodes
     overwrite_exact room =
         commit_exact image (current_words new) wf (keeps image (current_words new) patches overwrites_files) (size_of image)
         (sizes_stay image (current_words new) wf touched (has blocks) overwrite_can no_word at (IsTurned (job_of touched) (length (commit_cover image touched))) done.words)
@@ -213,8 +213,8 @@ module _ {kept : ℕ → Bool} {old : Memory} {blocks inodes : Set} {patches : L
 -- ---- at once, and behind a thaw
 
 module _ {R : Type 0} (memory : R → Memory) (patches : List Patch) (old : Parts R) (mounted : IsMounted (current_words (memory old.region)) old) (can : CanOverwrite (current_words (memory old.region)) patches) where
-  pub overwrites_at_once : length (members old.frozen) ≡ 0 → HasRoomWhereFree (memory old.region) (kept_of old) old.blocks (overwrites (stretches_of patches)) →
-      CanOverwriteThawed (kept_of old) (memory old.region) old.blocks old.inodes patches
+  pub overwrites_at_once : length (members old.snapshot_blocks) ≡ 0 → HasRoomWhereFree (memory old.region) (in_snapshot_of old) old.free_blocks (overwrites (stretches_of patches)) →
+      CanOverwriteThawed (in_snapshot_of old) (memory old.region) old.free_blocks old.free_inodes patches
   overwrites_at_once none room = record {
     well_formed = mounted.well_formed;
     exact = mounted.exact.sets;
@@ -231,7 +231,7 @@ module _ {R : Type 0} (memory : R → Memory) (patches : List Patch) (old : Part
     needs_alike = need-shape (current_words (memory old.region)) (current_words (memory middle.region)) mounted.well_formed done.thaws.shape (overwrites (stretches_of patches)) overwrites_of
 
     pub overwrites_thawed : room_for (need (current_words (memory old.region)) (overwrites (stretches_of patches))) ≤ room_in (memory middle.region) + 2 →
-        CanOverwriteThawed (kept_of middle) (memory middle.region) middle.blocks middle.inodes patches
+        CanOverwriteThawed (in_snapshot_of middle) (memory middle.region) middle.free_blocks middle.free_inodes patches
     overwrites_thawed room = record {
       well_formed = meant_well_formed (current_words (memory old.region)) (current_words (memory middle.region)) mounted.well_formed done.thaws.shape.meaning;
       exact = done.exact.sets;
@@ -245,6 +245,6 @@ module _ {R : Type 0} (memory : R → Memory) (patches : List Patch) (old : Part
       room = λ enough. omega (arith, room, needs_alike);
     }
 
-    pub overwrites_enough : need (current_words (memory old.region)) (overwrites (stretches_of patches)) ≤ length (members middle.blocks) →
-        need (current_words (memory middle.region)) (overwrites (stretches_of patches)) ≤ length (members middle.blocks)
+    pub overwrites_enough : need (current_words (memory old.region)) (overwrites (stretches_of patches)) ≤ length (members middle.free_blocks) →
+        need (current_words (memory middle.region)) (overwrites (stretches_of patches)) ≤ length (members middle.free_blocks)
     overwrites_enough enough = omega (arith, enough, needs_alike)

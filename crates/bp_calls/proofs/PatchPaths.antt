@@ -43,19 +43,19 @@ module _ (image : Image) where
   low_inode zero kind = absurd (omega (arith, kind))
   low_inode (suc n) kind = omega arith
 
-  one_path : (patch : Patch) (run : Run) → IsPatchIn image patch → IsRunFor image patch.inode patch.off patch.bytes run → (k : ℕ) → run_path run k ≡ content_path_at heights patch.inode k
+  one_path : (patch : Patch) (run : Run) → IsPatchIn image patch → IsRunFor image patch.inode patch.offset patch.bytes run → (k : ℕ) → run_path run k ≡ content_path_at heights patch.inode k
   one_path patch run is for_it k =
       ap (λ (p : WordPath). p ++ digits (suc run.height) k) for_it.root
       ∙ ap (λ h. inode_path (heights 0) patch.inode 1 ++ digits (suc h) k) for_it.height
       ∙ sym (tree_word patch.inode k (low_inode patch.inode is.is_file))
 
-  paths_of_patch : (patch : Patch) (run : Run) → IsPatchIn image patch → 1 ≤ length patch.bytes → IsRunFor image patch.inode patch.off patch.bytes run → paths_of_run run ≡ stretch_paths heights (stretch_of patch)
+  paths_of_patch : (patch : Patch) (run : Run) → IsPatchIn image patch → 1 ≤ length patch.bytes → IsRunFor image patch.inode patch.offset patch.bytes run → paths_of_run run ≡ stretch_paths heights (stretch_of patch)
   paths_of_patch patch run is some for_it =
-      let words : ℕ → ℕ → List WordPath = λ off len. map (run_path run) (range_with_len (off / 8) (suc ((off + len - 1) / 8 - off / 8))) in
+      let words : ℕ → ℕ → List WordPath = λ offset len. map (run_path run) (range_with_len (offset / 8) (suc ((offset + len - 1) / 8 - offset / 8))) in
       let count : length run.bytes.now ≡ length patch.bytes = ap (λ (xs : List ℕ). length xs) for_it.bytes_are in
       rw (ne_eqb (length patch.bytes) 0 (λ e. omega (arith, e, some)))
       (ap₂ words for_it.from count
-      ∙ map-same (run_path run) (content_path_at heights patch.inode) (patch.off / 8) (suc ((patch.off + length patch.bytes - 1) / 8 - patch.off / 8)) (λ k low high. one_path patch run is for_it k))
+      ∙ map-same (run_path run) (content_path_at heights patch.inode) (patch.offset / 8) (suc ((patch.offset + length patch.bytes - 1) / 8 - patch.offset / 8)) (λ k low high. one_path patch run is for_it k))
 
   paths_of_patches : (patches : List Patch) (runs : List Run) → AreRuns image patches runs → Each (IsPatchIn image) patches → run_paths runs ≡ flat_map (stretch_paths heights) (stretches_of patches)
   paths_of_patches _ _ none each = refl
@@ -82,25 +82,25 @@ module _ (image : Image) (wf : IsWellFormed image) (patches : List Patch) (commi
 
   -- the path of the first word of one of the runs
   abbrev word_path : WordPath
-  word_path = inode_path (height_of (root_of image 0)) (suc at.inode) 1 ++ digits (suc (height_of (root_of image (suc at.inode)))) (run.off / 8)
+  word_path = inode_path (height_of (root_of image 0)) (suc at.inode) 1 ++ digits (suc (height_of (root_of image (suc at.inode)))) (run.offset / 8)
 
-  begins : Begins shared (run_path run (run.off / 8))
-  begins = all-begin (all_paths commits) (run_path run (run.off / 8)) (has-of-run commits shape run (run.off / 8) has (omega arith) (omega (arith, at.of.some)))
+  begins : Begins shared (run_path run (run.offset / 8))
+  begins = all-begin (all_paths commits) (run_path run (run.offset / 8)) (has-of-run commits shape run (run.offset / 8) has (omega arith) (omega (arith, at.of.some)))
 
-  path_is : run_path run (run.off / 8) ≡ word_path
+  path_is : run_path run (run.offset / 8) ≡ word_path
   path_is =
-      ap (λ (p : WordPath). p ++ digits (suc run.height) (run.off / 8)) at.of.root
-      ∙ ap (λ h. inode_path (height_of (root_of image 0)) (suc at.inode) 1 ++ digits (suc h) (run.off / 8)) at.of.height
+      ap (λ (p : WordPath). p ++ digits (suc run.height) (run.offset / 8)) at.of.root
+      ∙ ap (λ h. inode_path (height_of (root_of image 0)) (suc at.inode) 1 ++ digits (suc h) (run.offset / 8)) at.of.height
 
   front : (d : ℕ) → d ≤ length (common_all (all_paths commits)) → take d (common_all (all_paths commits)) ≡ take d word_path
-  front d low = ap (take d) (sym begins.same) ∙ take-take d (length shared) (run_path run (run.off / 8)) low ∙ ap (take d) path_is
+  front d low = ap (take d) (sym begins.same) ∙ take-take d (length shared) (run_path run (run.offset / 8)) low ∙ ap (take d) path_is
 
   agree : (d : ℕ) → d < length (common_all (all_paths commits)) → ((e : ℕ) → e < d → is_pointed image (take e (common_all (all_paths commits))) ≡ true) →
       is_there_after image change (take d (common_all (all_paths commits))) ≡ is_pointed image (take d (common_all (all_paths commits)))
   agree d low exists =
       let long : length shared ≤ length word_path = subst (λ (p : WordPath). length shared ≤ length p) path_is begins.long in
       rw (front d (omega (arith, low)))
-      (word_agrees image wf at.inode at.reached change refl refl (λ t. refl) (run.off / 8) (omega (arith, at.of.below, at.of.some)) d (omega (arith, low, long))
+      (word_agrees image wf at.inode at.reached change refl refl (λ t. refl) (run.offset / 8) (omega (arith, at.of.below, at.of.some)) d (omega (arith, low, long))
       (λ e less. ap (is_pointed image) (sym (front e (omega (arith, less, low)))) ∙ exists e less))
 
   same_paths : all_paths commits ≡ touched image change
@@ -109,9 +109,9 @@ module _ (image : Image) (wf : IsWellFormed image) (patches : List Patch) (commi
   -- the cover is a way
   pub patches_way : IsWayIn image (cover_now image change)
   patches_way =
-      let word_way : IsWayIn image word_path = content_way image wf (suc at.inode) (run.off / 8) at.reached (omega (arith, at.of.below, at.of.some)) in
+      let word_way : IsWayIn image word_path = content_way image wf (suc at.inode) (run.offset / 8) at.reached (omega (arith, at.of.below, at.of.some)) in
       subst (λ (paths : List WordPath). IsWayIn image (cover_of (is_there_now image) paths)) same_paths
-      (cover_way image wf (all_paths commits) (run_path run (run.off / 8)) (has-of-run commits shape run (run.off / 8) has (omega arith) (omega (arith, at.of.some)))
+      (cover_way image wf (all_paths commits) (run_path run (run.offset / 8)) (has-of-run commits shape run (run.offset / 8) has (omega arith) (omega (arith, at.of.some)))
       (subst (IsWayIn image) (sym path_is) word_way))
 
   pub patches_cover : commit_cover image commits ≡ cover image change

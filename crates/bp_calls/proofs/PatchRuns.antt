@@ -31,7 +31,7 @@ pub record IsInFile (image : Image) (run : Run) : Type 0 where
   pub of : IsRunOf image (suc inode) run
 
 module _ (image : Image) where
-  in_file : (patch : Patch) (run : Run) → IsPatchIn image patch → 1 ≤ length patch.bytes → length patch.bytes ≤ max_batch → IsRunFor image patch.inode patch.off patch.bytes run → IsInFile image run
+  in_file : (patch : Patch) (run : Run) → IsPatchIn image patch → 1 ≤ length patch.bytes → length patch.bytes ≤ max_batch → IsRunFor image patch.inode patch.offset patch.bytes run → IsInFile image run
   in_file patch run is some short for_it = go patch.inode refl
     where
       count : length run.bytes.now ≡ length patch.bytes
@@ -48,7 +48,7 @@ module _ (image : Image) where
           height = subst (λ i. run.height ≡ height_of (root_of image i)) e for_it.height;
           some = omega (arith, some, count);
           few = omega (arith, short, count);
-          below = subst (λ i. run.off + length run.bytes.now ≤ size_of image i) e (omega (arith, for_it.from, count, is.within));
+          below = subst (λ i. run.offset + length run.bytes.now ≤ size_of image i) e (omega (arith, for_it.from, count, is.within));
           counts = subst (λ i. size_of image i ≤ run.size) e (omega (arith, for_it.size));
         };
       }
@@ -107,7 +107,7 @@ module _ (image : Image) (wf : IsWellFormed image) (patches : List Patch) (touch
         some = omega (arith, leaves_some image touched.runs.now one.0 one.1);
       }
 
-  pub patches_can : {kept : ℕ → Bool} (free : ℕ → Bool) → AreFreeBlocks image kept free → CanCommit image (size_of image) kept touched free
+  pub patches_can : {in_snapshot : ℕ → Bool} (free : ℕ → Bool) → AreFreeBlocks image in_snapshot free → CanCommit image (size_of image) in_snapshot touched free
   patches_can free exact =
       runs_can image wf touched patches_shape free exact (no_trees (IsTreeIn image (size_of image)) bare) no_words (λ run has. let at = run_at run has in run_in image wf at.inode at.reached run at.of)
 
@@ -119,7 +119,7 @@ runs_pass image _ patch _ none no_byte = empty no_byte none
 runs_pass image _ patch _ (empty {patch = before} {patches} {runs} was rest) no_byte = empty was (runs_pass image patches patch runs rest no_byte)
 runs_pass image _ patch _ (more {patch = before} {patches} {run} {runs} some for_it rest) no_byte = more some for_it (runs_pass image patches patch runs rest no_byte)
 
-pub runs_more : (image : Image) (patches : List Patch) (patch : Patch) (runs : List Run) (run : Run) → AreRuns image patches runs → 1 ≤ length patch.bytes → IsRunFor image patch.inode patch.off patch.bytes run →
+pub runs_more : (image : Image) (patches : List Patch) (patch : Patch) (runs : List Run) (run : Run) → AreRuns image patches runs → 1 ≤ length patch.bytes → IsRunFor image patch.inode patch.offset patch.bytes run →
     AreRuns image (patches ++ patch ∷ []) (runs ++ run ∷ [])
 runs_more image _ patch _ run none here is = more here is none
 runs_more image _ patch _ run (empty {patch = before} {patches} {runs} was rest) here is = empty was (runs_more image patches patch runs run rest here is)
@@ -140,7 +140,7 @@ module _ (image : Image) (patches : List GivenPatch) (i : ℕ) where
   next_passes other runs low are no_byte = subst (λ ps. AreRuns image ps runs) (sym (next other low)) (runs_pass image (patches_seen (take i patches)) (patch_seen (get_or patches i other)) runs are no_byte)
 
   pub next_run : (other : GivenPatch) (runs after : List Run) (run : Run) → i < length patches → AreRuns image (patches_seen (take i patches)) runs → after ≡ runs ++ run ∷ [] → 1 ≤ length (get_or patches i other).bytes.now →
-      IsRunFor image (get_or patches i other).inode (get_or patches i other).off (get_or patches i other).bytes.now run → AreRuns image (patches_seen (take (i + 1) patches)) after
+      IsRunFor image (get_or patches i other).inode (get_or patches i other).offset (get_or patches i other).bytes.now run → AreRuns image (patches_seen (take (i + 1) patches)) after
   next_run other runs after run low are pushed some for_it =
       subst (AreRuns image (patches_seen (take (i + 1) patches))) (sym pushed)
       (subst (λ ps. AreRuns image ps (runs ++ run ∷ [])) (sym (next other low)) (runs_more image (patches_seen (take i patches)) (patch_seen (get_or patches i other)) runs run are some for_it))

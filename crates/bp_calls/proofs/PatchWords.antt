@@ -57,14 +57,14 @@ module _ (image : Image) (wf : IsWellFormed image) where
 -- the run lies in the tree with this root path, and this is one of its words
 pub record Covers (root : WordPath) (k : ℕ) (run : Run) : Type 0 where
   pub tree : run.root.items ≡ root
-  pub low : run.off / 8 ≤ k
+  pub low : run.offset / 8 ≤ k
   pub high : k ≤ (run_end run - 1) / 8
 
 module _ (root : WordPath) (k : ℕ) where
   covers : (run : Run) → Covers root k run ⊎ (Covers root k run → ⊥)
-  covers run = go (bytes_eq run.root.items root) refl (cases_lt k (run.off / 8)) (cases_lt ((run_end run - 1) / 8) k)
+  covers run = go (bytes_eq run.root.items root) refl (cases_lt k (run.offset / 8)) (cases_lt ((run_end run - 1) / 8) k)
     where
-      go : (b : Bool) → bytes_eq run.root.items root ≡ b → (k < run.off / 8) ⊎ (run.off / 8 ≤ k) → ((run_end run - 1) / 8 < k) ⊎ (k ≤ (run_end run - 1) / 8) → Covers root k run ⊎ (Covers root k run → ⊥)
+      go : (b : Bool) → bytes_eq run.root.items root ≡ b → (k < run.offset / 8) ⊎ (run.offset / 8 ≤ k) → ((run_end run - 1) / 8 < k) ⊎ (k ≤ (run_end run - 1) / 8) → Covers root k run ⊎ (Covers root k run → ⊥)
       go true e (inr low) (inr high) = inl (record { tree = (bytes_eq-Decides run.root.items root).0 e; low = low; high = high })
       go false e first last = inr (λ is. differ ((bytes_eq-Decides run.root.items root).1 is.tree) e)
         where
@@ -90,9 +90,9 @@ module _ (root : WordPath) (k : ℕ) where
   -- where none does the word stays
   pub laid_stays : (runs : List Run) (old : ℕ) → ((run : Run) → Has runs run → Covers root k run → ⊥) → laid_word runs root k old ≡ old
   laid_stays [] old nowhere = refl
-  laid_stays (first ∷ runs) old nowhere = ap (laid_word runs root k) (go (bytes_eq first.root.items root) refl (cases_lt k (first.off / 8)) (cases_lt ((run_end first - 1) / 8) k)) ∙ laid_stays runs old (λ run has. nowhere run (inr has))
+  laid_stays (first ∷ runs) old nowhere = ap (laid_word runs root k) (go (bytes_eq first.root.items root) refl (cases_lt k (first.offset / 8)) (cases_lt ((run_end first - 1) / 8) k)) ∙ laid_stays runs old (λ run has. nowhere run (inr has))
     where
-      go : (b : Bool) → bytes_eq first.root.items root ≡ b → (k < first.off / 8) ⊎ (first.off / 8 ≤ k) → ((run_end first - 1) / 8 < k) ⊎ (k ≤ (run_end first - 1) / 8) →
+      go : (b : Bool) → bytes_eq first.root.items root ≡ b → (k < first.offset / 8) ⊎ (first.offset / 8 ≤ k) → ((run_end first - 1) / 8 < k) ⊎ (k ≤ (run_end first - 1) / 8) →
           cond (bytes_eq first.root.items root) (run_word first k old) old ≡ old
       go false e before behind = rw e refl
       go true e (inl before) behind = rw e (run_word-outside first k old (inl (omega (arith, before))))
@@ -105,7 +105,7 @@ module _ (image : Image) (wf : IsWellFormed image) (i : ℕ) (reached : IsReache
   abbrev root : WordPath
   root = inode_path (height_of (root_of image 0)) i 1
 
-  one_laid : (patch : Patch) (run : Run) → IsPatchIn image patch → IsRunFor image patch.inode patch.off patch.bytes run → (old : ℕ) →
+  one_laid : (patch : Patch) (run : Run) → IsPatchIn image patch → IsRunFor image patch.inode patch.offset patch.bytes run → (old : ℕ) →
       byte_of (cond (bytes_eq run.root.items (inode_path (height_of (root_of image 0)) i 1)) (run_word run k old) old) c ≡ patched_by patch i (8 * k + c) (byte_of old c)
   one_laid patch run is for_it old = go (cases_eq patch.inode i) (bytes_eq run.root.items root) refl
     where
@@ -114,7 +114,7 @@ module _ (image : Image) (wf : IsWellFormed image) (i : ℕ) (reached : IsReache
       go (inl here) b e =
           let same : bytes_eq run.root.items root ≡ true = (bytes_eq-Decides run.root.items root).1 (for_it.root ∙ ap (λ j. inode_path (height_of (root_of image 0)) j 1) here) in
           let there : (patch.inode == i) ≡ true = eq-eqb patch.inode i here in
-          rw (same, there) (byte-run_word run k old c low for_it.small ∙ ap₂ (λ off bytes. byte_over off bytes (8 * k + c) (byte_of old c)) for_it.from for_it.bytes_are)
+          rw (same, there) (byte-run_word run k old c low for_it.small ∙ ap₂ (λ offset bytes. byte_over offset bytes (8 * k + c) (byte_of old c)) for_it.from for_it.bytes_are)
       go (inr apart) false e = rw e (sym (byte_elsewhere patch i (8 * k + c) (byte_of old c) apart))
       go (inr apart) true e =
           absurd (apart (same_inode image wf patch.inode i is.reached reached (sym for_it.root ∙ (bytes_eq-Decides run.root.items root).0 e)))
@@ -123,9 +123,9 @@ module _ (image : Image) (wf : IsWellFormed image) (i : ℕ) (reached : IsReache
       byte_of (laid_word runs (inode_path (height_of (root_of image 0)) i 1) k old) c ≡ patched patches i (8 * k + c) (byte_of old c)
   bytes_laid _ _ none each old = refl
   bytes_laid _ _ (empty {patch} {patches} {runs} no_byte rest) each old =
-      bytes_laid patches runs rest each.1 old ∙ ap (patched patches i (8 * k + c)) (sym (stays (cases_lt (8 * k + c) patch.off)))
+      bytes_laid patches runs rest each.1 old ∙ ap (patched patches i (8 * k + c)) (sym (stays (cases_lt (8 * k + c) patch.offset)))
     where
-      stays : (8 * k + c < patch.off) ⊎ (patch.off ≤ 8 * k + c) → patched_by patch i (8 * k + c) (byte_of old c) ≡ byte_of old c
+      stays : (8 * k + c < patch.offset) ⊎ (patch.offset ≤ 8 * k + c) → patched_by patch i (8 * k + c) (byte_of old c) ≡ byte_of old c
       stays (inl before) = byte_before patch i (8 * k + c) (byte_of old c) before
       stays (inr from) = byte_past patch i (8 * k + c) (byte_of old c) (omega (arith, no_byte, from))
   bytes_laid _ _ (more {patch} {patches} {run = first} {runs} some for_it rest) each old =
@@ -134,7 +134,7 @@ module _ (image : Image) (wf : IsWellFormed image) (i : ℕ) (reached : IsReache
 
 -- ---- the words
 
-module _ {kept : ℕ → Bool} (old new : Image) (wf : IsWellFormed old) (touched : Touched) (free : ℕ → Bool) (can : CanCommit old (size_of old) kept touched free) (no_word : length touched.words.now ≡ 0)
+module _ {in_snapshot : ℕ → Bool} (old new : Image) (wf : IsWellFormed old) (touched : Touched) (free : ℕ → Bool) (can : CanCommit old (size_of old) in_snapshot touched free) (no_word : length touched.words.now ≡ 0)
     (at : (run : Run) → Has touched.runs.now run → IsInFile old run) (turned : Trail → Type 0) (stage : IsCommitted old new (IsTreePointer old (size_of old)) (IsTreeWord old (size_of old)) turned (after_commit old (job_of touched))) where
   -- the trail of a word by the run's path is that of the content word
   run_trail : (run : Run) (has : Has touched.runs.now run) (k : ℕ) → trail_of (run_path run k) (length (run_path run k)) ≡ word_trail old (suc (at run has).inode) k
@@ -146,7 +146,7 @@ module _ {kept : ℕ → Bool} (old new : Image) (wf : IsWellFormed old) (touche
       ∙ ap (λ h. along (root_trail (height_of (word old 2)) (suc file.inode)) (suc h) k) file.of.height
 
   -- a word of no run stays
-  stays_apart : (t k : ℕ) → ((run : Run) (has : Has touched.runs.now run) (l : ℕ) → run.off / 8 ≤ l → l ≤ (run_end run - 1) / 8 →
+  stays_apart : (t k : ℕ) → ((run : Run) (has : Has touched.runs.now run) (l : ℕ) → run.offset / 8 ≤ l → l ≤ (run_end run - 1) / 8 →
       word_trail old t k ≡ word_trail old (suc (at run has).inode) l → ⊥) →
       after_commit old (job_of touched) (word_trail old t k) ≡ content_word old (root_of old t) k
   stays_apart t k other =
@@ -159,7 +159,7 @@ module _ {kept : ℕ → Bool} (old new : Image) (wf : IsWellFormed old) (touche
   stays : (t k : ℕ) → IsReached old t → 8 * k < size_of old t → (kind_of old t ≡ 1 → ⊥) → after_commit old (job_of touched) (word_trail old t k) ≡ content_word old (root_of old t) k
   stays t k also low no_file = stays_apart t k apart
     where
-      apart : (run : Run) (has : Has touched.runs.now run) (l : ℕ) → run.off / 8 ≤ l → l ≤ (run_end run - 1) / 8 → word_trail old t k ≡ word_trail old (suc (at run has).inode) l → ⊥
+      apart : (run : Run) (has : Has touched.runs.now run) (l : ℕ) → run.offset / 8 ≤ l → l ≤ (run_end run - 1) / 8 → word_trail old t k ≡ word_trail old (suc (at run has).inode) l → ⊥
       apart run has l first last same =
           let file = at run has in
           let here = same_word old (size_of old) can.forest t k (suc file.inode) l also file.reached low (omega (arith, last, file.of.below, file.of.some)) same in
@@ -198,7 +198,7 @@ module _ {kept : ℕ → Bool} (old new : Image) (wf : IsWellFormed old) (touche
           ∙ ap (laid_word touched.runs.now (inode_path (height_of (root_of old 0)) (suc m) 1) k) (word-tree old (suc m) (suc (height_of (root_of old (suc m)))) k)
       go (inr nowhere) = stays_apart (suc m) k apart ∙ sym (laid_stays (inode_path (height_of (root_of old 0)) (suc m) 1) k touched.runs.now (content_word old (root_of old (suc m)) k) nowhere)
         where
-          apart : (run : Run) (has : Has touched.runs.now run) (l : ℕ) → run.off / 8 ≤ l → l ≤ (run_end run - 1) / 8 →
+          apart : (run : Run) (has : Has touched.runs.now run) (l : ℕ) → run.offset / 8 ≤ l → l ≤ (run_end run - 1) / 8 →
               word_trail old (suc m) k ≡ word_trail old (suc (at run has).inode) l → ⊥
           apart run has l first last same =
               let file = at run has in

@@ -35,8 +35,8 @@ wider image root size more b low has = record {
   not_null = has.not_null;
 }
 
-module _ {kept : ℕ → Bool} (old middle : Memory) (blocks inodes after : Set) (x from to : ℕ) (bytes : List ℕ) (wf : IsWellFormed (current_words old)) (exact : AreExact (current_words old) kept blocks inodes)
-    (reached : IsReached (current_words old) x) (some : x ≢ 0) (past : size_of (current_words old) x ≤ to) (prepared : PreparesWith kept old middle (members blocks) (members after) x from to bytes)
+module _ {in_snapshot : ℕ → Bool} (old middle : Memory) (blocks inodes after : Set) (x from to : ℕ) (bytes : List ℕ) (wf : IsWellFormed (current_words old)) (exact : AreExact (current_words old) in_snapshot blocks inodes)
+    (reached : IsReached (current_words old) x) (some : x ≢ 0) (past : size_of (current_words old) x ≤ to) (prepared : PreparesWith in_snapshot old middle (members blocks) (members after) x from to bytes)
     (bound : ℕ → ℕ) (bound_here : bound x ≡ to) (bound_other : (t : ℕ) → (t ≡ x → ⊥) → bound t ≡ size_of (current_words middle) t) where
   abbrev image : Image
   image = current_words old
@@ -133,14 +133,14 @@ module _ {kept : ℕ → Bool} (old middle : Memory) (blocks inodes after : Set)
       }
 
   -- the blocks that are left in the set were free, and the preparation did not take them
-  pub still_free : (b : ℕ) → has after b ≡ true → IsFreeBlock (current_words old) kept b × (Has prepared.taken b → ⊥)
+  pub still_free : (b : ℕ) → has after b ≡ true → IsFreeBlock (current_words old) in_snapshot b × (Has prepared.taken b → ⊥)
   still_free b is =
       let there : Has (members blocks) b = subst (λ bs. Has bs b) (sym prepared.takes) (has-behind prepared.taken (members after) b (in_members after b is)) in (
         exact.free_blocks.free b (of_members blocks b there),
         λ took. apart_parts prepared.taken (members after) b (subst AreApart prepared.takes (members_apart blocks)) took (in_members after b is),
       )
 
-  pub prepared_exact : AreUnheld (current_words middle) (IsReached (current_words middle)) bound kept (has after)
+  pub prepared_exact : AreUnheld (current_words middle) (IsReached (current_words middle)) bound in_snapshot (has after)
   prepared_exact = record {
     free = λ b is.
         let free = still_free b is in
@@ -160,7 +160,7 @@ module _ {kept : ℕ → Bool} (old middle : Memory) (blocks inodes after : Set)
   }
 
   -- so the sets are exact under these sizes
-  pub prepared_sets : length after ≡ length blocks → AreExactFor (current_words middle) (IsReached (current_words middle)) bound kept after inodes
+  pub prepared_sets : length after ≡ length blocks → AreExactFor (current_words middle) (IsReached (current_words middle)) bound in_snapshot after inodes
   prepared_sets room = record {
     block_room = rw prepared.ready.meaning.trees.whole (room ∙ exact.block_room);
     inode_room = rw prepared.ready.meaning.trees.whole exact.inode_room;

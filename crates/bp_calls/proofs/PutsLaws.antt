@@ -48,9 +48,9 @@ module _ (old : Memory) (blocks : Set) (j : ℕ) (name : Name) where
   abbrev image : Image
   image = current_words old
 
-  module _ {kept : ℕ → Bool} where
-    prepares : (n : ℕ) → CanPutBehind kept old blocks (suc n) name → (path : WordPath) → path ≡ inode_path (height_of (root_of image 0)) (suc n) 1 →
-        CanPrepare kept old (members blocks) (suc n) path (size_of image (suc n)) (size_of image (suc n) + 256)
+  module _ {in_snapshot : ℕ → Bool} where
+    prepares : (n : ℕ) → CanPutBehind in_snapshot old blocks (suc n) name → (path : WordPath) → path ≡ inode_path (height_of (root_of image 0)) (suc n) 1 →
+        CanPrepare in_snapshot old (members blocks) (suc n) path (size_of image (suc n)) (size_of image (suc n) + 256)
     prepares n can path is = record {
       well = can.lacks.well_formed;
       reached = can.lacks.reached;
@@ -70,21 +70,21 @@ module _ (old : Memory) (blocks : Set) (j : ℕ) (name : Name) where
         go needed asked room a b = omega (arith, a, b)
 
     -- given the size that was read
-    pub put_prepares : (i : ℕ) → CanPutBehind kept old blocks i name → (path : WordPath) → path ≡ inode_path (height_of (root_of image 0)) i 1 → (size : ℕ) → size ≡ size_of image i →
-        CanPrepare kept old (members blocks) i path size (size + 256)
+    pub put_prepares : (i : ℕ) → CanPutBehind in_snapshot old blocks i name → (path : WordPath) → path ≡ inode_path (height_of (root_of image 0)) i 1 → (size : ℕ) → size ≡ size_of image i →
+        CanPrepare in_snapshot old (members blocks) i path size (size + 256)
     put_prepares zero can path is size e = absurd (directory_inode image 0 can.lacks.directory refl)
     put_prepares (suc n) can path is size e = rw e (prepares n can path is)
 
 -- the bytes of an entry are prepared behind the last one of a directory, by the size that was read
-pub record PreparesEntry (kept : ℕ → Bool) (old new : Memory) (blocks : Set) (rest : List ℕ) (i size j : ℕ) (name : Name) : Type 0 where
+pub record PreparesEntry (in_snapshot : ℕ → Bool) (old new : Memory) (blocks : Set) (rest : List ℕ) (i size j : ℕ) (name : Name) : Type 0 where
   pub bytes : List ℕ
-  pub can : CanPutBehind kept old blocks i name
+  pub can : CanPutBehind in_snapshot old blocks i name
   pub sized : size ≡ size_of (current_words old) i
   pub entry : AreEntryBytes j name bytes
-  pub prepared : PreparesWith kept old new (members blocks) rest i size (size + 256) bytes
+  pub prepared : PreparesWith in_snapshot old new (members blocks) rest i size (size + 256) bytes
 
-module _ {kept : ℕ → Bool} {old new : Memory} {blocks : Set} {rest : List ℕ} {i size j : ℕ} {name : Name}
-    (puts : PreparesEntry kept old new blocks rest i size j name) where
+module _ {in_snapshot : ℕ → Bool} {old new : Memory} {blocks : Set} {rest : List ℕ} {i size j : ℕ} {name : Name}
+    (puts : PreparesEntry in_snapshot old new blocks rest i size j name) where
   open puts use {bytes, can, sized as e, entry, prepared}
 
   pub put_well_formed : IsWellFormed (current_words new)
@@ -117,7 +117,7 @@ module _ {kept : ℕ → Bool} {old new : Memory} {blocks : Set} {rest : List �
     pub put_count : count ≡ length name
     put_count = second ∙ rw is second_is
 
-    pub put_done : PutsBehind kept old new (members blocks) rest i j name
+    pub put_done : PutsBehind in_snapshot old new (members blocks) rest i j name
     put_done = record {
       bytes = bytes;
       prepared = rw e at prepared;

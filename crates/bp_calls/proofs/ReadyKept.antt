@@ -101,7 +101,7 @@ module _ (old new : Image) (wf : IsWellFormed old) (trees : SameTrees old new) (
     reached = reached_after old new wf trees.prepared (suc n) ready.reached;
     directory = kind_after old new wf trees.prepared (suc n) ready.reached ∙ ready.directory;
     sound = subst₂ (λ r s. IsSound new r (s + 256)) (sym root_stays) (sym size_stays) (sound-kept old new root more keeps trees.prepared.meaning.trees.whole ready.sound);
-    low = rw (root_stays, version_stays old new trees.prepared.meaning.trees.marked) ready.low;
+    low = rw (root_stays, version_stays old new trees.prepared.meaning.trees.has_magic) ready.low;
     full = subst₂ (λ r s. IsFull new r (s + 256)) (sym root_stays) (sym size_stays) (full-kept old new root more keeps ready.full);
     apart = λ u b reached other has also.
         ready.apart u b (reached_before old new wf trees.prepared u reached) other (more_back b has) (trees.prepared.blocks.back u b (reached_before old new wf trees.prepared u reached) also);

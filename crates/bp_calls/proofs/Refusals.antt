@@ -52,7 +52,7 @@ first_in set (suc n) = go (first_in set n) (cases_Bool (set n))
         at k (inl less) low = none k less
         at k (inr high) low = let here : k ≡ n = omega (arith, high, low) in subst (λ x. set x ≡ false) (sym here) not
 
-module _ {kept : ℕ → Bool} (image : Image) (blocks inodes : Set) (exact : AreExact image kept blocks inodes) where
+module _ {in_snapshot : ℕ → Bool} (image : Image) (blocks inodes : Set) (exact : AreExact image in_snapshot blocks inodes) where
   -- where the set has a number an inode is free
   pub not_none : members inodes ≢ [] → IsLeastFree image None → ⊥
   not_none some (no_least nobody) = let one = some_number inodes some in nobody one.0 (exact.free_inodes.free one.0 one.1)

@@ -80,21 +80,21 @@ module _ (image : Image) (wf : IsWellFormed image) (n : ℕ) (reached : IsReache
   run_in = record { inode = n; reached = reached; root = root_path_trail (height_of (root_of image 0)) n run.root.items is.root; height = is.height; below = is.below; counts = is.counts }
 
   -- the pointers on the path of its first word
-  run_live : (d : ℕ) → d < length (run_path run (run.off / 8)) → IsTreePointer image (size_of image) (trail_of (run_path run (run.off / 8)) d)
+  run_live : (d : ℕ) → d < length (run_path run (run.offset / 8)) → IsTreePointer image (size_of image) (trail_of (run_path run (run.offset / 8)) d)
   run_live d low =
-      let short : d ≤ length (run_way run 0) = omega (arith, low, length-run_path run (run.off / 8), length-run_way run 0) in
-      subst (IsTreePointer image (size_of image)) (front-run_way run 0 (run.off / 8) d (omega arith) short)
+      let short : d ≤ length (run_way run 0) = omega (arith, low, length-run_path run (run.offset / 8), length-run_way run 0) in
+      subst (IsTreePointer image (size_of image)) (front-run_way run 0 (run.offset / 8) d (omega arith) short)
       (leaf-fronts image (size_of image) (wf_forest image wf) run run_is run_in 0 d (omega arith) short)
 
   -- so the word of the cover, whatever else is touched, is one where a call may store
-  pub run_open : (kept : ℕ → Bool) (touched : Touched) → IsTouched touched → Has touched.runs.now run → HasLooseCover image kept touched → (taken : List ℕ) → IsOpen image kept taken (cover_word image touched)
-  run_open kept touched shape has loose taken =
-      cover_open kept image wf touched shape (run_path run (run.off / 8)) (has-of-run touched shape run (run.off / 8) has (omega arith) (omega (arith, is.some))) run_live loose taken
+  pub run_open : (in_snapshot : ℕ → Bool) (touched : Touched) → IsTouched touched → Has touched.runs.now run → HasLooseCover image in_snapshot touched → (taken : List ℕ) → IsOpen image in_snapshot taken (cover_word image touched)
+  run_open in_snapshot touched shape has loose taken =
+      cover_open in_snapshot image wf touched shape (run_path run (run.offset / 8)) (has-of-run touched shape run (run.offset / 8) has (omega arith) (omega (arith, is.some))) run_live loose taken
 
-  -- and it is not kept, where nothing is kept on the way to it
-  pub run_loose : (kept : ℕ → Bool) (touched : Touched) → IsTouched touched → Has touched.runs.now run → IsLoose image kept (length (commit_cover image touched) - 1) (commit_cover image touched) → HasLooseCover image kept touched
-  run_loose kept touched shape has loose =
-      loose_cover kept image wf touched shape (run_path run (run.off / 8)) (has-of-run touched shape run (run.off / 8) has (omega arith) (omega (arith, is.some))) run_live loose
+  -- and it is not in the snapshot, where nothing is in the snapshot on the way to it
+  pub run_loose : (in_snapshot : ℕ → Bool) (touched : Touched) → IsTouched touched → Has touched.runs.now run → IsLoose image in_snapshot (length (commit_cover image touched) - 1) (commit_cover image touched) → HasLooseCover image in_snapshot touched
+  run_loose in_snapshot touched shape has loose =
+      loose_cover in_snapshot image wf touched shape (run_path run (run.offset / 8)) (has-of-run touched shape run (run.offset / 8) has (omega arith) (omega (arith, is.some))) run_live loose
 
 -- the bytes of one write have few leaves
 pub few_leaves : (run : Run) → length run.bytes.now ≤ max_write → run_leaves run ≤ 257
@@ -103,43 +103,43 @@ few_leaves run short = omega (arith, short)
 -- ---- the file
 
 module _ (run : Run) (o byte_there : ℕ) where
-  pub laid_before : o < run.off → run_byte run o byte_there ≡ byte_there
-  laid_before before = rw (lt-leb run.off o before) refl
+  pub laid_before : o < run.offset → run_byte run o byte_there ≡ byte_there
+  laid_before before = rw (lt-leb run.offset o before) refl
 
-  pub laid_inside : run.off ≤ o → o < run_end run → run_byte run o byte_there ≡ slice_index run.bytes.now (o - run.off)
-  laid_inside low high = rw (le-leb run.off o low, lt-ltb o (run_end run) high) refl
+  pub laid_inside : run.offset ≤ o → o < run_end run → run_byte run o byte_there ≡ slice_index run.bytes.now (o - run.offset)
+  laid_inside low high = rw (le-leb run.offset o low, lt-ltb o (run_end run) high) refl
 
   pub laid_past : run_end run ≤ o → run_byte run o byte_there ≡ byte_there
-  laid_past past = rw (le-leb run.off o (omega (arith, past)), le-ltb o (run_end run) past) refl
+  laid_past past = rw (le-leb run.offset o (omega (arith, past)), le-ltb o (run_end run) past) refl
 
 -- a byte of the file, where the run has those of the new bytes that lie below its size
-pub run_writes : (run : Run) (bytes : List ℕ) (size : ℕ) (old : ℕ → ℕ) → run.bytes.now ≡ take (size - run.off) bytes → (o : ℕ) → o < size → run_byte run o (old o) ≡ written_byte run.off bytes size old o
-run_writes run bytes size old first o low = go (cases_lt o run.off) (cases_lt o (run.off + length bytes))
+pub run_writes : (run : Run) (bytes : List ℕ) (size : ℕ) (old : ℕ → ℕ) → run.bytes.now ≡ take (size - run.offset) bytes → (o : ℕ) → o < size → run_byte run o (old o) ≡ written_byte run.offset bytes size old o
+run_writes run bytes size old first o low = go (cases_lt o run.offset) (cases_lt o (run.offset + length bytes))
   where
-    count : length run.bytes.now ≡ length (take (size - run.off) bytes)
+    count : length run.bytes.now ≡ length (take (size - run.offset) bytes)
     count = ap (λ (xs : List ℕ). length xs) first
 
-    go : (o < run.off) ⊎ (run.off ≤ o) → (o < run.off + length bytes) ⊎ (run.off + length bytes ≤ o) → run_byte run o (old o) ≡ written_byte run.off bytes size old o
-    go (inl before) _ = laid_before run o (old o) before ∙ sym (written_before run.off bytes size old o before low)
+    go : (o < run.offset) ⊎ (run.offset ≤ o) → (o < run.offset + length bytes) ⊎ (run.offset + length bytes ≤ o) → run_byte run o (old o) ≡ written_byte run.offset bytes size old o
+    go (inl before) _ = laid_before run o (old o) before ∙ sym (written_before run.offset bytes size old o before low)
     go (inr from_here) (inl inside) =
-        laid_inside run o (old o) from_here (omega (arith, count, length-take (size - run.off) bytes, low, from_here, inside))
-        ∙ ap (λ (xs : List ℕ). slice_index xs (o - run.off)) first
-        ∙ get_or-take (size - run.off) bytes (o - run.off) 0 (omega (arith, low, from_here))
-        ∙ sym (written_inside run.off bytes size old o from_here inside)
+        laid_inside run o (old o) from_here (omega (arith, count, length-take (size - run.offset) bytes, low, from_here, inside))
+        ∙ ap (λ (xs : List ℕ). slice_index xs (o - run.offset)) first
+        ∙ get_or-take (size - run.offset) bytes (o - run.offset) 0 (omega (arith, low, from_here))
+        ∙ sym (written_inside run.offset bytes size old o from_here inside)
     go (inr from_here) (inr past) =
-        laid_past run o (old o) (omega (arith, count, length-take (size - run.off) bytes, past)) ∙ sym (written_past run.off bytes size old o past low)
+        laid_past run o (old o) (omega (arith, count, length-take (size - run.offset) bytes, past)) ∙ sym (written_past run.offset bytes size old o past low)
 
 -- The bytes below the old size are those of the run laid over the old ones, and those from there on the rest of the new ones.
-module _ (image new : Image) (i : ℕ) (run : Run) (bytes : List ℕ) (changes : ChangesFile image new i) (first : run.bytes.now ≡ take (size_of image i - run.off) bytes) (starts : run.off ≤ size_of image i)
-    (size : size_of new i ≡ max (size_of image i) (run.off + length bytes))
+module _ (image new : Image) (i : ℕ) (run : Run) (bytes : List ℕ) (changes : ChangesFile image new i) (first : run.bytes.now ≡ take (size_of image i - run.offset) bytes) (starts : run.offset ≤ size_of image i)
+    (size : size_of new i ≡ max (size_of image i) (run.offset + length bytes))
     (laid : (o : ℕ) → o < size_of image i → byte new (root_of new i) o ≡ run_byte run o (byte image (root_of image i) o))
-    (behind : (o : ℕ) → size_of image i ≤ o → o < size_of new i → byte new (root_of new i) o ≡ slice_index bytes (o - run.off)) where
-  pub commit_writes_file : WritesFile i run.off bytes image new
+    (behind : (o : ℕ) → size_of image i ≤ o → o < size_of new i → byte new (root_of new i) o ≡ slice_index bytes (o - run.offset)) where
+  pub commit_writes_file : WritesFile i run.offset bytes image new
   commit_writes_file = record { changes = changes; size = size; bytes_are = λ o low. go o low (cases_lt o (size_of image i)) }
     where
-      go : (o : ℕ) → o < size_of new i → (o < size_of image i) ⊎ (size_of image i ≤ o) → byte new (root_of new i) o ≡ written_byte run.off bytes (size_of image i) (byte image (root_of image i)) o
+      go : (o : ℕ) → o < size_of new i → (o < size_of image i) ⊎ (size_of image i ≤ o) → byte new (root_of new i) o ≡ written_byte run.offset bytes (size_of image i) (byte image (root_of image i)) o
       go o low (inl below) = laid o below ∙ run_writes run bytes (size_of image i) (byte image (root_of image i)) first o below
-      go o low (inr past) = behind o past low ∙ sym (written_inside run.off bytes (size_of image i) (byte image (root_of image i)) o (omega (arith, past, starts)) (omega (arith, low, past, size)))
+      go o low (inr past) = behind o past low ∙ sym (written_inside run.offset bytes (size_of image i) (byte image (root_of image i)) o (omega (arith, past, starts)) (omega (arith, low, past, size)))
 
 -- ---- the sets
 
@@ -157,7 +157,7 @@ module _ (image new : Image) (wf : IsWellFormed image) (keeps : KeepsDirectories
     has = subst (λ s. HasBlock new (root_of new one.tree) s b) (sym (sizes one.tree one.reached)) one.has;
   }
 
-  pub commit_exact : {kept : ℕ → Bool} (blocks after inodes : Set) → AreExactFor image (IsReached image) bound kept blocks inodes → length after ≡ length blocks → AreUnheld new (IsReached image) bound kept (has after) → AreExact new kept after inodes
+  pub commit_exact : {in_snapshot : ℕ → Bool} (blocks after inodes : Set) → AreExactFor image (IsReached image) bound in_snapshot blocks inodes → length after ≡ length blocks → AreUnheld new (IsReached image) bound in_snapshot (has after) → AreExact new in_snapshot after inodes
   commit_exact blocks after inodes exact room unheld = record {
     block_room = rw keeps.trees.whole (room ∙ exact.block_room);
     inode_room = rw keeps.trees.whole exact.inode_room;

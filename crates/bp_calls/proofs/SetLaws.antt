@@ -50,8 +50,8 @@ still_in numbers i k there is = go (cases_eq k i)
 
 -- ---- free numbers
 
-pub free_blocks_stay : {kept : ℕ → Bool} (old new : Image) (numbers : ℕ → Bool) → length new ≡ length old → ((b : ℕ) → IsLiveBlock new b → IsLiveBlock old b) → ((b : ℕ) → IsLiveBlock old b → IsLiveBlock new b) →
-    AreFreeBlocks old kept numbers → AreFreeBlocks new kept numbers
+pub free_blocks_stay : {in_snapshot : ℕ → Bool} (old new : Image) (numbers : ℕ → Bool) → length new ≡ length old → ((b : ℕ) → IsLiveBlock new b → IsLiveBlock old b) → ((b : ℕ) → IsLiveBlock old b → IsLiveBlock new b) →
+    AreFreeBlocks old in_snapshot numbers → AreFreeBlocks new in_snapshot numbers
 free_blocks_stay old new numbers whole back stay are = record {
   free = λ b is. let free = are.free b is in record { low = free.low; high = rw whole free.high; free = λ live. free.free (back b live); loose = free.loose };
   all = λ b free. are.all b (record { low = free.low; high = rw whole at free.high; free = λ live. free.free (stay b live); loose = free.loose });
@@ -82,8 +82,8 @@ free_inodes_taken old new numbers taken bytes there here cases stay are = record
 -- ---- over a preparation
 
 -- where what is reached is what it was, and each tree has the blocks that it had
-pub exact_kept : {kept : ℕ → Bool} (old new : Image) → length new ≡ length old → size_of new 0 ≡ size_of old 0 → ((t : ℕ) → IsReached new t → IsReached old t) → ((t : ℕ) → IsReached old t → IsReached new t) → KeepsBlocks old new →
-    (blocks inodes : Set) → AreExact old kept blocks inodes → AreExact new kept blocks inodes
+pub exact_kept : {in_snapshot : ℕ → Bool} (old new : Image) → length new ≡ length old → size_of new 0 ≡ size_of old 0 → ((t : ℕ) → IsReached new t → IsReached old t) → ((t : ℕ) → IsReached old t → IsReached new t) → KeepsBlocks old new →
+    (blocks inodes : Set) → AreExact old in_snapshot blocks inodes → AreExact new in_snapshot blocks inodes
 exact_kept old new whole same_file back stay keeps blocks inodes exact = record {
   block_room = rw whole exact.block_room;
   inode_room = rw whole exact.inode_room;
@@ -93,12 +93,12 @@ exact_kept old new whole same_file back stay keeps blocks inodes exact = record 
   free_inodes = free_inodes_stay old new (has inodes) same_file back stay exact.free_inodes;
 }
 
-pub exact_prepared : {kept : ℕ → Bool} (old new : Image) → IsWellFormed old → IsPrepared old new → (blocks inodes : Set) → AreExact old kept blocks inodes → AreExact new kept blocks inodes
+pub exact_prepared : {in_snapshot : ℕ → Bool} (old new : Image) → IsWellFormed old → IsPrepared old new → (blocks inodes : Set) → AreExact old in_snapshot blocks inodes → AreExact new in_snapshot blocks inodes
 exact_prepared old new wf prepared = exact_kept old new prepared.meaning.trees.whole prepared.inode_bytes (reached_before old new wf prepared) (reached_after old new wf prepared) prepared.blocks
 
 -- ---- over one more name
 
-module _ {kept : ℕ → Bool} (old new : Image) (wf : IsWellFormed old) (i s j : ℕ) (adds : AddsNames old new i s j) (blocks inodes : Set) (exact : AreExact old kept blocks inodes) (free : IsFreeInode old j) (same_file : size_of new 0 ≡ size_of old 0) where
+module _ {in_snapshot : ℕ → Bool} (old new : Image) (wf : IsWellFormed old) (i s j : ℕ) (adds : AddsNames old new i s j) (blocks inodes : Set) (exact : AreExact old in_snapshot blocks inodes) (free : IsFreeInode old j) (same_file : size_of new 0 ≡ size_of old 0) where
   no_new_block : (t b : ℕ) → t ≡ j → HasBlock new (root_of new t) (size_of new t) b → ⊥
   no_new_block t b e has = empty_has_none new (root_of new t) b (rw (ap (size_of new) e ∙ adds.new_size) at has)
 
@@ -118,7 +118,7 @@ module _ {kept : ℕ → Bool} (old new : Image) (wf : IsWellFormed old) (i s j 
       free_inodes_taken old new inodes j same_file (exact.free_inodes.all j free) (IsReached.named s (reached_stays old new wf i s j adds i adds.reached) adds.entry)
       (reached_cases old new wf i s j adds) (reached_stays old new wf i s j adds) exact.free_inodes
 
-  pub exact_added : KeepsBlocks old new → AreExact new kept blocks (without inodes j)
+  pub exact_added : KeepsBlocks old new → AreExact new in_snapshot blocks (without inodes j)
   exact_added keeps = record {
     block_room = rw adds.trees.whole exact.block_room;
     inode_room = rw adds.trees.whole (length_without inodes j ∙ exact.inode_room);
@@ -129,14 +129,14 @@ module _ {kept : ℕ → Bool} (old new : Image) (wf : IsWellFormed old) (i s j 
   }
 
 -- an inumber came into a ready entry: of an inode that was free, or of a file that has a name
-module _ {kept : ℕ → Bool} (old : Image) (wf : IsWellFormed old) (i s j place : ℕ) (name : Name) (ready : IsReadyEntry old i s name) (form : IsName name) (missing : slot_named old i name ≡ None)
-    (stands : ContentStandsAt old i (32 * s + 0) place) (blocks inodes : Set) (exact : AreExact old kept blocks inodes) where
-  pub exact_entered : (kind : ℕ) → IsNewInode old j kind → AreExact (set old place j) kept blocks (without inodes j)
+module _ {in_snapshot : ℕ → Bool} (old : Image) (wf : IsWellFormed old) (i s j place : ℕ) (name : Name) (ready : IsReadyEntry old i s name) (form : IsName name) (missing : slot_named old i name ≡ None)
+    (stands : ContentStandsAt old i (32 * s + 0) place) (blocks inodes : Set) (exact : AreExact old in_snapshot blocks inodes) where
+  pub exact_entered : (kind : ℕ) → IsNewInode old j kind → AreExact (set old place j) in_snapshot blocks (without inodes j)
   exact_entered kind fresh =
       exact_added old (set old place j) wf i s j (entered old wf i s j place name ready form missing stands kind fresh).adds blocks inodes exact fresh.free
       (entered_file old wf i s j place name ready form missing stands) (entered_blocks old wf i s j place name ready form missing stands)
 
-  pub exact_linked : IsReached old j → kind_of old j ≡ 1 → AreExact (set old place j) kept blocks inodes
+  pub exact_linked : IsReached old j → kind_of old j ≡ 1 → AreExact (set old place j) in_snapshot blocks inodes
   exact_linked there file =
       exact_kept old (set old place j) links.trees.whole links.inode_bytes (linking.reached_back old (set old place j) wf i s j links) (linking.reached_stays old (set old place j) wf i s j links)
       (entered_blocks old wf i s j place name ready form missing stands) blocks inodes exact

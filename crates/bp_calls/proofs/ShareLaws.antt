@@ -10,14 +10,14 @@ use Rattle.bp_calls.proofs.EnterTargets.{entry_loose}
 use Rattle.bp_calls.proofs.NeedLaws.{need_behind}
 use Rattle.bp_calls.proofs.NewNames.{room_entering}
 
-module _ {kept : ℕ → Bool} (memory : Memory) (blocks inodes : Set) (i j : ℕ) (name : Name) (can : CanShare kept memory blocks inodes i j name) where
-  pub link_loose : HasLooseEntry (current_words memory) kept i
-  link_loose = entry_loose (current_words memory) can.link.lacks.well_formed i can.link.lacks.reached can.link.lacks.directory kept linked can.thawed.clear
+module _ {in_snapshot : ℕ → Bool} (memory : Memory) (blocks inodes : Set) (i j : ℕ) (name : Name) (can : CanShare in_snapshot memory blocks inodes i j name) where
+  pub link_loose : HasLooseEntry (current_words memory) in_snapshot i
+  link_loose = entry_loose (current_words memory) can.link.lacks.well_formed i can.link.lacks.reached can.link.lacks.directory in_snapshot linked can.thawed.clear
 
   pub link_room : entering_room (name_need (current_words memory) i) ≤ room_in memory
   link_room = room_entering (name_need (current_words memory) i) (room_in memory) can.thawed.room
 
-  pub can_link_behind : empty_slot (current_words memory) i ≡ None → CanLinkBehind kept memory blocks i j name
+  pub can_link_behind : empty_slot (current_words memory) i ≡ None → CanLinkBehind in_snapshot memory blocks i j name
   can_link_behind none =
       let needs = need_behind (current_words memory) i can.link.lacks.well_formed can.link.lacks.reached can.link.lacks.directory none in
       record {

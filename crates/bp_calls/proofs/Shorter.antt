@@ -88,15 +88,15 @@ none_shrinking image wf (suc n) size reached file smaller = needed_smaller image
 -- ---- the store
 
 -- a file whose size word is stored to
-pub record Shrinks (image : Image) (kept : ℕ → Bool) (blocks inodes : Set) (i size place : ℕ) : Type 0 where
+pub record Shrinks (image : Image) (in_snapshot : ℕ → Bool) (blocks inodes : Set) (i size place : ℕ) : Type 0 where
   pub well_formed : IsWellFormed image
-  pub exact : AreExact image kept blocks inodes
+  pub exact : AreExact image in_snapshot blocks inodes
   pub reached : IsReached image i
   pub is_file : kind_of image i ≡ 1
   pub smaller : size < size_of image i
   pub stands : ContentStandsAt image 0 (8 * i + 2) place
 
-module _ {kept : ℕ → Bool} (image : Image) (blocks inodes : Set) (n size place : ℕ) (shrinks : Shrinks image kept blocks inodes (suc n) size place) where
+module _ {in_snapshot : ℕ → Bool} (image : Image) (blocks inodes : Set) (n size place : ℕ) (shrinks : Shrinks image in_snapshot blocks inodes (suc n) size place) where
   abbrev file : ℕ
   file = suc n
 
@@ -185,18 +185,18 @@ module _ {kept : ℕ → Bool} (image : Image) (blocks inodes : Set) (n size pla
     past = gone.past;
   }
 
-  exact_last : (after : Set) → GivesBack kept (IsGivenUp last (root_of image file) (size_of image file) size) blocks after → AreExact last kept after inodes
+  exact_last : (after : Set) → GivesBack in_snapshot (IsGivenUp last (root_of image file) (size_of image file) size) blocks after → AreExact last in_snapshot after inodes
   exact_last after gives = record {
     block_room = rw (length-set image place size) (gives.room ∙ shrinks.exact.block_room);
     inode_room = rw (length-set image place size) shrinks.exact.inode_room;
     free_blocks = freed_blocks image last wf (length-set image place size) (IsGivenUp image (root_of image file) (size_of image file) size)
-        (resize_frees image wf n size place can (omega (arith, shrinks.smaller))) kept (has blocks) (has after) shrinks.exact.free_blocks
+        (resize_frees image wf n size place can (omega (arith, shrinks.smaller))) in_snapshot (has blocks) (has after) shrinks.exact.free_blocks
         told.only told.still told.given;
     free_inodes = free_inodes_stay image last (has inodes) (changes.size 0 inode_file (λ e. suc-ne-zero n (sym e)))
         (changed.reached-back image last file wf changes) (changed.reached-on image last file wf changes) shrinks.exact.free_inodes;
   }
     where
-      told : GivesBack kept (IsGivenUp image (root_of image file) (size_of image file) size) blocks after
+      told : GivesBack in_snapshot (IsGivenUp image (root_of image file) (size_of image file) size) blocks after
       told = gives_as (IsGivenUp last (root_of image file) (size_of image file) size) (IsGivenUp image (root_of image file) (size_of image file) size) blocks after given_up_back given_up_on gives
 
   -- the store is at the cover
@@ -206,20 +206,20 @@ module _ {kept : ℕ → Bool} (image : Image) (blocks inodes : Set) (n size pla
       ap (address last) (covered_smaller image wf n size shrinks.reached (omega (arith, shrinks.smaller)) ∙ ap (λ r. inode_path (height_of r) file 2) (sym stays))
       ∙ inode_address last file 2 place (stands_stored image wf 0 (8 * file + 2) place size inode_file low shrinks.stands stays)
 
-module _ {kept : ℕ → Bool} (old new : Memory) (blocks inodes : Set) (n size place : ℕ) (shrinks : Shrinks (current_words old) kept blocks inodes (suc n) size place) (adds : Adds old new (commit place size)) where
+module _ {in_snapshot : ℕ → Bool} (old new : Memory) (blocks inodes : Set) (n size place : ℕ) (shrinks : Shrinks (current_words old) in_snapshot blocks inodes (suc n) size place) (adds : Adds old new (commit place size)) where
   stored : current_words new ≡ set (current_words old) place size
   stored = current_words-adds old new (commit place size) adds
 
-  pub shorter_performs : kept (place / 512) ≡ false → PerformsThawed kept old new (resizes (suc n) size) (ResizesFile (suc n) size)
+  pub shorter_performs : in_snapshot (place / 512) ≡ false → PerformsThawed in_snapshot old new (resizes (suc n) size) (ResizesFile (suc n) size)
   shorter_performs loose =
-      performs_committed kept old new (resizes (suc n) size) (ResizesFile (suc n) size) place size 2 1 []
+      performs_committed in_snapshot old new (resizes (suc n) size) (ResizesFile (suc n) size) place size 2 1 []
       (record {
         prepared = [];
         adds = adds;
         quiet = quiet_none Same (current_words old) (same_self (current_words old) shrinks.well_formed);
         piece = IsPiece-commit place size;
       })
-      (takes_none (current_words old) kept)
+      (takes_none (current_words old) in_snapshot)
       (rw stored (sym (at_cover (current_words old) blocks inodes n size place shrinks)))
       (omega arith) (omega arith)
       (sym (needed_smaller (current_words old) shrinks.well_formed n size shrinks.reached (omega (arith, shrinks.smaller))))
@@ -235,7 +235,7 @@ pub record CanGiveBack (image : Image) (root size : ℕ) (blocks : Set) : Type 0
   pub room : length blocks ≡ block_count image
   pub taken : (b : ℕ) → HasBlock image root size b → has blocks b ≡ false
 
-pub can_give_back : {kept : ℕ → Bool} (old new : Memory) (blocks inodes : Set) (i size place root was : ℕ) → root ≡ root_of (current_words old) i → was ≡ size_of (current_words old) i → Shrinks (current_words old) kept blocks inodes i size place → Adds old new (commit place size) →
+pub can_give_back : {in_snapshot : ℕ → Bool} (old new : Memory) (blocks inodes : Set) (i size place root was : ℕ) → root ≡ root_of (current_words old) i → was ≡ size_of (current_words old) i → Shrinks (current_words old) in_snapshot blocks inodes i size place → Adds old new (commit place size) →
     CanGiveBack (current_words new) root was blocks
 can_give_back old new blocks inodes zero size place root was at here shrinks adds = absurd (no_file (current_words old) shrinks.is_file)
 can_give_back old new blocks inodes (suc n) size place root was at here shrinks adds = rw (at, here, stored old new blocks inodes n size place shrinks adds) (record {
@@ -244,8 +244,8 @@ can_give_back old new blocks inodes (suc n) size place root was at here shrinks 
   taken = still_taken (current_words old) blocks inodes n size place shrinks;
 })
 
-pub shrunk : {kept : ℕ → Bool} (old new : Memory) (blocks after inodes : Set) (i size place root was : ℕ) → root ≡ root_of (current_words old) i → was ≡ size_of (current_words old) i → Shrinks (current_words old) kept blocks inodes i size place → Adds old new (commit place size) →
-    kept (place / 512) ≡ false → GivesBack kept (IsGivenUp (current_words new) root was size) blocks after → PerformsThawed kept old new (resizes i size) (ResizesFile i size) × AreExact (current_words new) kept after inodes
+pub shrunk : {in_snapshot : ℕ → Bool} (old new : Memory) (blocks after inodes : Set) (i size place root was : ℕ) → root ≡ root_of (current_words old) i → was ≡ size_of (current_words old) i → Shrinks (current_words old) in_snapshot blocks inodes i size place → Adds old new (commit place size) →
+    in_snapshot (place / 512) ≡ false → GivesBack in_snapshot (IsGivenUp (current_words new) root was size) blocks after → PerformsThawed in_snapshot old new (resizes i size) (ResizesFile i size) × AreExact (current_words new) in_snapshot after inodes
 shrunk old new blocks after inodes zero size place root was at here shrinks adds loose gives = absurd (no_file (current_words old) shrinks.is_file)
 shrunk old new blocks after inodes (suc n) size place root was at here shrinks adds loose gives = (
   shorter_performs old new blocks inodes n size place shrinks adds loose,

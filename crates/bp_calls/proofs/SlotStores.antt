@@ -35,25 +35,25 @@ use Rattle.bp_calls.proofs.ReadBack.{name_read}
 use Rattle.bp_calls.proofs.Spares.{no_inode_file, row_stands, spare_entry}
 use Rattle.bp_calls.proofs.Trees.{SameTrees, spare_trees, word_kept, stands_kept}
 
--- nobody reads the word, and it is in a live block that is not kept
+-- nobody reads the word, and it is in a live block that is not in the snapshot
 abbrev pub IsHidden : (ℕ → Bool) → Image → ℕ → Type 0
-IsHidden kept image p = IsSpare image p × IsOpen image kept [] p
+IsHidden in_snapshot image p = IsSpare image p × IsOpen image in_snapshot [] p
 
 -- stores to the words of an empty entry that spell its name
-pub name_hidden : {kept : ℕ → Bool} (image : Image) → IsWellFormed image → (i s entry : ℕ) → IsReached image i → kind_of image i ≡ 2 → empty_slot image i ≡ Some s → ContentStandsAt image i (32 * s + 0) entry →
-    kept (entry / 512) ≡ false → (p v : ℕ) → AnyAt (IsWithin (entry + 1) 31) p v → AnyAt (IsHidden kept image) p v
-name_hidden {kept = kept} image wf i s entry reached directory found entry_at loose p v inside =
+pub name_hidden : {in_snapshot : ℕ → Bool} (image : Image) → IsWellFormed image → (i s entry : ℕ) → IsReached image i → kind_of image i ≡ 2 → empty_slot image i ≡ Some s → ContentStandsAt image i (32 * s + 0) entry →
+    in_snapshot (entry / 512) ≡ false → (p v : ℕ) → AnyAt (IsWithin (entry + 1) 31) p v → AnyAt (IsHidden in_snapshot image) p v
+name_hidden {in_snapshot = in_snapshot} image wf i s entry reached directory found entry_at loose p v inside =
     let low : entry + 1 ≤ p = inside.low in
     let high : p < entry + 1 + 31 = inside.high in
     let f : ℕ = p - entry in
     let there : s < entry_count image i = (found_empty image i s found).0 in
     let stands : ContentStandsAt image i (32 * s + f) p = row_stands image i (32 * s + 0) f (32 * s + f) entry p (omega arith) (omega arith) (omega arith) entry_at in
     let block : entry / 512 ≡ p / 512 = omega (arith, low, high, entry_at.at) in
-    (spare_entry image wf i s f p reached directory there (found_empty image i s found).1 (omega arith) (omega arith) stands, content_open image [] i (32 * s + f) p reached (omega (arith, there)) stands (subst (λ b. kept b ≡ false) block loose))
+    (spare_entry image wf i s f p reached directory there (found_empty image i s found).1 (omega arith) (omega arith) stands, content_open image [] i (32 * s + f) p reached (omega (arith, there)) stands (subst (λ b. in_snapshot b ≡ false) block loose))
 
-module _ {kept : ℕ → Bool} (first third last : Memory) (i s j entry more : ℕ) (name : Name) (lacks : LacksName (current_words first) i name)
-    (found : empty_slot (current_words first) i ≡ Some s) (entry_at : ContentStandsAt (current_words first) i (32 * s + 0) entry) (loose : kept (entry / 512) ≡ false)
-    (stored : AddsMay (AnyAt (IsHidden kept (current_words first))) 0 more first third) (named : HasNameAt (current_words third) entry name)
+module _ {in_snapshot : ℕ → Bool} (first third last : Memory) (i s j entry more : ℕ) (name : Name) (lacks : LacksName (current_words first) i name)
+    (found : empty_slot (current_words first) i ≡ Some s) (entry_at : ContentStandsAt (current_words first) i (32 * s + 0) entry) (loose : in_snapshot (entry / 512) ≡ false)
+    (stored : AddsMay (AnyAt (IsHidden in_snapshot (current_words first))) 0 more first third) (named : HasNameAt (current_words third) entry name)
     (commits : Adds third last (commit entry j)) where
   abbrev image : Image
   image = current_words first
@@ -79,11 +79,11 @@ module _ {kept : ℕ → Bool} (first third last : Memory) (i s j entry more : �
   word_stands : (f : ℕ) → f < 32 → ContentStandsAt image i (32 * s + f) (entry + f)
   word_stands f few = row_stands image i (32 * s + 0) f (32 * s + f) entry (entry + f) (omega arith) refl (omega (arith, few)) entry_at
 
-  trees_of : (other : Image) → EachMay (AnyAt (IsHidden kept image)) image other → SameTrees image other
-  trees_of other all = spare_trees image other wf (each_weaker (IsHidden kept image) (IsSpare image) image other (λ p both. both.0) all)
+  trees_of : (other : Image) → EachMay (AnyAt (IsHidden in_snapshot image)) image other → SameTrees image other
+  trees_of other all = spare_trees image other wf (each_weaker (IsHidden in_snapshot image) (IsSpare image) image other (λ p both. both.0) all)
 
   pub slot_trees : SameTrees image mid
-  slot_trees = trees_of mid (each_after (AnyAt (IsHidden kept image)) 0 more first third stored)
+  slot_trees = trees_of mid (each_after (AnyAt (IsHidden in_snapshot image)) 0 more first third stored)
 
   pub slot_mid : IsWellFormed mid
   slot_mid = prepared_well_formed image mid wf slot_trees.prepared
@@ -145,16 +145,16 @@ module _ {kept : ℕ → Bool} (first third last : Memory) (i s j entry more : �
         (stands_stored mid slot_mid i (32 * s + 0) entry j mid_reached mid_below slot_entry
         (root_stays mid slot_mid i (32 * s + 0) entry j mid_reached not_file mid_below slot_entry i mid_in_file))
 
-    in_two : Effect image (current_words last) → PerformsWithin kept (name_need image i) 2 (more + 1) first last change Effect
+    in_two : Effect image (current_words last) → PerformsWithin in_snapshot (name_need image i) 2 (more + 1) first last change Effect
     in_two effect =
-        subst (λ n. PerformsWithin kept n 2 (more + 1) first last change Effect) needs
-        (within_stores kept first last change Effect (AnyAt (IsHidden kept image)) more third entry j [] (λ other all. prepared_same image other wf (trees_of other all).prepared) stored commits tt tt tt
+        subst (λ n. PerformsWithin in_snapshot n 2 (more + 1) first last change Effect) needs
+        (within_stores in_snapshot first last change Effect (AnyAt (IsHidden in_snapshot image)) more third entry j [] (λ other all. prepared_same image other wf (trees_of other all).prepared) stored commits tt tt tt
         (λ p v both. both.1) (sym (subst (λ w. address w (cover image change) ≡ entry) (sym slot_committed) covered_after)) (sym (needs ∙ need_in_slot image i wf reached lacks.directory s found))
         (content_open image [] i (32 * s + 0) entry reached (omega (arith, in_size)) entry_at loose) (subst IsWellFormed (sym slot_committed) well_formed) effect)
 
-    pub slot_within : Effect image (current_words last) → PerformsWithin kept (name_need image i) 5 (stores_behind_growth (name_need image i)) first last change Effect
+    pub slot_within : Effect image (current_words last) → PerformsWithin in_snapshot (name_need image i) 5 (stores_behind_growth (name_need image i)) first last change Effect
     slot_within effect =
-        within_more kept (name_need image i) 2 (more + 1) first last change Effect (in_two effect) 5 (stores_behind_growth (name_need image i)) (omega arith) (enough (name_need image i))
+        within_more in_snapshot (name_need image i) 2 (more + 1) first last change Effect (in_two effect) 5 (stores_behind_growth (name_need image i)) (omega arith) (enough (name_need image i))
       where
         enough : (needed : ℕ) → more + 1 ≤ stores_behind_growth needed
         enough needed = omega (arith, few)

@@ -37,8 +37,8 @@ has_either (x ∷ xs) ys b (inr later) = elim (has_either xs ys b later) [ inl e
 
 -- ---- free blocks may be taken
 
-module _ {kept : ℕ → Bool} (image : Image) (blocks inodes : Set) (exact : AreExact image kept blocks inodes) where
-  free_of : (b : ℕ) → Has (members blocks) b → IsFreeBlock image kept b
+module _ {in_snapshot : ℕ → Bool} (image : Image) (blocks inodes : Set) (exact : AreExact image in_snapshot blocks inodes) where
+  free_of : (b : ℕ) → Has (members blocks) b → IsFreeBlock image in_snapshot b
   free_of b there = exact.free_blocks.free b (of_members blocks b there)
 
   pub usable_members : (count : ℕ) → block_count image ≡ count → IsUsable count (members blocks)
@@ -48,20 +48,20 @@ module _ {kept : ℕ → Bool} (image : Image) (blocks inodes : Set) (exact : Ar
     apart = members_apart blocks;
   }
 
-  pub members_free : Each (IsFreeBlock image kept) (members blocks)
-  members_free = each-of (IsFreeBlock image kept) (members blocks) free_of
+  pub members_free : Each (IsFreeBlock image in_snapshot) (members blocks)
+  members_free = each-of (IsFreeBlock image in_snapshot) (members blocks) free_of
 
 -- ---- a call takes some of them
 
-module _ {kept : ℕ → Bool} (old new : Image) (whole : length new ≡ length old) (taken : List ℕ) (blocks after inodes : Set) (exact : AreExact old kept blocks inodes) (takes : members blocks ≡ taken ++ members after)
+module _ {in_snapshot : ℕ → Bool} (old new : Image) (whole : length new ≡ length old) (taken : List ℕ) (blocks after inodes : Set) (exact : AreExact old in_snapshot blocks inodes) (takes : members blocks ≡ taken ++ members after)
     (back : (b : ℕ) → IsLiveBlock new b → IsLiveBlock old b ⊎ Has taken b) (stays : (b : ℕ) → IsLiveBlock old b → IsLiveBlock new b) (took : (b : ℕ) → Has taken b → IsLiveBlock new b) where
   apart : AreApart (taken ++ members after)
   apart = subst AreApart takes (members_apart blocks)
 
-  free_now : (b : ℕ) → has after b ≡ true → IsFreeBlock new kept b
+  free_now : (b : ℕ) → has after b ≡ true → IsFreeBlock new in_snapshot b
   free_now b is =
       let there : Has (members blocks) b = subst (λ bs. Has bs b) (sym takes) (has-behind taken (members after) b (in_members after b is)) in
-      let free : IsFreeBlock old kept b = free_of old blocks inodes exact b there in
+      let free : IsFreeBlock old in_snapshot b = free_of old blocks inodes exact b there in
       record {
         low = free.low;
         high = rw whole free.high;
@@ -69,17 +69,17 @@ module _ {kept : ℕ → Bool} (old new : Image) (whole : length new ≡ length 
         loose = free.loose;
       }
 
-  all_now : (b : ℕ) → IsFreeBlock new kept b → has after b ≡ true
+  all_now : (b : ℕ) → IsFreeBlock new in_snapshot b → has after b ≡ true
   all_now b free =
       let was : has blocks b ≡ true = exact.free_blocks.all b (record { low = free.low; high = rw whole at free.high; free = λ live. free.free (stays b live); loose = free.loose }) in
       elim (has_either taken (members after) b (subst (λ bs. Has bs b) takes (in_members blocks b was))) [ inl early ↦ absurd (free.free (took b early)) | inr late ↦ of_members after b late ]
 
-  pub free_taken : AreFreeBlocks new kept (has after)
+  pub free_taken : AreFreeBlocks new in_snapshot (has after)
   free_taken = record { free = free_now; all = all_now }
 
 -- so where a file takes them
-pub exact_taken : {kept : ℕ → Bool} (old new : Image) (x : ℕ) → IsWellFormed old → ChangesFile old new x → (taken : List ℕ) (blocks after inodes : Set) → AreExact old kept blocks inodes → members blocks ≡ taken ++ members after →
-    length after ≡ length blocks → ((b : ℕ) → IsLiveBlock new b → IsLiveBlock old b ⊎ Has taken b) → ((b : ℕ) → IsLiveBlock old b → IsLiveBlock new b) → ((b : ℕ) → Has taken b → IsLiveBlock new b) → AreExact new kept after inodes
+pub exact_taken : {in_snapshot : ℕ → Bool} (old new : Image) (x : ℕ) → IsWellFormed old → ChangesFile old new x → (taken : List ℕ) (blocks after inodes : Set) → AreExact old in_snapshot blocks inodes → members blocks ≡ taken ++ members after →
+    length after ≡ length blocks → ((b : ℕ) → IsLiveBlock new b → IsLiveBlock old b ⊎ Has taken b) → ((b : ℕ) → IsLiveBlock old b → IsLiveBlock new b) → ((b : ℕ) → Has taken b → IsLiveBlock new b) → AreExact new in_snapshot after inodes
 exact_taken old new x wf changes taken blocks after inodes exact takes room back stays took = record {
   block_room = rw changes.trees.whole (room ∙ exact.block_room);
   inode_room = rw changes.trees.whole exact.inode_room;

@@ -33,8 +33,8 @@ directory_some image zero kind = absurd (omega (arith, kind))
 directory_some image (suc n) kind = omega arith
 
 -- the path of a word of a reached tree is no longer than a path can be
-pub content_fits : (image : Image) → IsWellFormed image → (t off : ℕ) → IsReached image t → off < size_of image t → height_of (root_of image 0) + height_of (root_of image t) ≤ 2 * max_height
-content_fits image wf t off reached below =
+pub content_fits : (image : Image) → IsWellFormed image → (t offset : ℕ) → IsReached image t → offset < size_of image t → height_of (root_of image 0) + height_of (root_of image t) ≤ 2 * max_height
+content_fits image wf t offset reached below =
     let top : height_of (root_of image 0) ≤ max_height = (wf.sound 0 inode_file).low (omega (arith, wf.some_inodes)) in
     let low : height_of (root_of image t) ≤ max_height = (wf.sound t reached).low (omega (arith, below)) in
     omega (arith, top, low)
@@ -187,10 +187,10 @@ module _ (image : Image) (wf : IsWellFormed image) (i size : ℕ) (reached : IsR
       go (inl e) = subst (IsWayIn image) e (inode_way image wf i 2 reached (omega arith))
       go (inr never) = absurd never
 
-  -- where nothing is left to thaw the block of its size is not kept
-  pub shrinking_loose : (kept : ℕ → Bool) (place : ℕ) → ContentStandsAt image 0 (8 * i + 2) place → thawed image kept (resizes i size) ≡ [] → kept (place / 512) ≡ false
-  shrinking_loose kept place stands clear =
+  -- where nothing is left to thaw the block of its size is not in the snapshot
+  pub shrinking_loose : (in_snapshot : ℕ → Bool) (place : ℕ) → ContentStandsAt image 0 (8 * i + 2) place → thawed image in_snapshot (resizes i size) ≡ [] → in_snapshot (place / 512) ≡ false
+  shrinking_loose in_snapshot place stands clear =
       let inside : i < inode_count image = reached-in_file image wf i reached in
       let among : Has (targets image (resizes i size)) size_way = subst (λ ps. Has ps size_way) (sym shrinking_targets) (inl refl) in
       let here : node image (root_of image 0) (height_of (root_of image 0)) ((8 * i + 2) / 512) ≡ place / 512 = omega (arith, stands.at) in
-      ap kept (sym here) ∙ loose_inode_word image wf kept i 2 inside (omega arith) (loose-on image kept (targets image (resizes i size)) clear size_way among (length size_way - 1))
+      ap in_snapshot (sym here) ∙ loose_inode_word image wf in_snapshot i 2 inside (omega arith) (loose-on image in_snapshot (targets image (resizes i size)) clear size_way among (length size_way - 1))

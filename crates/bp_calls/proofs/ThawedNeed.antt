@@ -1,4 +1,5 @@
--- A change before which kept blocks are thawed: what is known of it then, and the blocks and the room that it has behind the thaw.
+-- A change before which blocks of the snapshot are thawed: what is known of it then, and the blocks and the room that
+-- it has behind the thaw.
 use Rattle.std.proofs.Common.{◌≡◌, ℕ, ◌+◌, ◌<◌, ◌≤◌, List, length, refl, sym, ◌∙◌, subst, arith}
 use Rattle.bp_calls.specs.Mounted.{IsMounted}
 use Rattle.bp_calls.specs.Space.{HasRoomThawed, HasRoomWhereFree, LacksBlocks, LacksSpace}
@@ -17,26 +18,26 @@ use Rattle.bp_layout.specs.Need.{Change, need}
 use Rattle.bp_layout.specs.Thaw.{targets}
 use Rattle.bp_layout.specs.WordPaths.{WordPath}
 use Rattle.bp_layout.specs.Words.{Image}
-use Rattle.bp_shapes.specs.Sets.{kept_of}
+use Rattle.bp_shapes.specs.Sets.{in_snapshot_of}
 use Rattle.bp_thaw.specs.Fronts.{IsWayIn}
 use Rattle.pm_region.specs.Memory.{Memory, current_words, room_in}
 
 module _ {R : Type 0} (memory : R → Memory) (change : Change) (more : ℕ) (old : Parts R) (needs : need (current_words (memory old.region)) change ≡ more)
-    (room : HasRoomWhereFree (memory old.region) (kept_of old) old.blocks change) (mounted : IsMounted (current_words (memory old.region)) old)
+    (room : HasRoomWhereFree (memory old.region) (in_snapshot_of old) old.free_blocks change) (mounted : IsMounted (current_words (memory old.region)) old)
     (of : IsOfReached (current_words (memory old.region)) change) (new : Parts R) (done : ThawsBefore memory old new change)
-    (enough : thaw_count memory (targets (current_words (memory old.region)) change) old + more ≤ length (members old.blocks)) where
+    (enough : thaw_count memory (targets (current_words (memory old.region)) change) old + more ≤ length (members old.free_blocks)) where
   -- the change takes as many blocks as before the thaw
   same_need : need (current_words (memory new.region)) change ≡ more
   same_need = need-shape (current_words (memory old.region)) (current_words (memory new.region)) mounted.well_formed done.thaws.shape change of ∙ needs
 
   -- the log has room for it
-  pub has_room : HasRoomThawed (memory new.region) new.blocks change
+  pub has_room : HasRoomThawed (memory new.region) new.free_blocks change
   has_room _ =
       subst (λ n. room_for n ≤ room_in (memory new.region) + 2) (sym same_need) (room_left memory change more old needs room mounted of new done enough)
 
   -- and enough blocks are free
-  pub has_enough : need (current_words (memory new.region)) change ≤ length (members new.blocks)
-  has_enough = subst (λ n. n ≤ length (members new.blocks)) (sym same_need) (enough_left memory change more old needs room mounted of new done enough)
+  pub has_enough : need (current_words (memory new.region)) change ≤ length (members new.free_blocks)
+  has_enough = subst (λ n. n ≤ length (members new.free_blocks)) (sym same_need) (enough_left memory change more old needs room mounted of new done enough)
 
 -- the change may be made over these parts, and takes `more` blocks besides those that are thawed
 pub record IsPlanned {R : Type 0} (memory : R → Memory) (change : Change) (more : ℕ) (old : Parts R) : Type 0 where
@@ -44,7 +45,7 @@ pub record IsPlanned {R : Type 0} (memory : R → Memory) (change : Change) (mor
   pub reached : IsOfReached (current_words (memory old.region)) change
   pub leads : (path : WordPath) → Has (targets (current_words (memory old.region)) change) path → IsWayIn (current_words (memory old.region)) path
   pub needs : need (current_words (memory old.region)) change ≡ more
-  pub room : HasRoomWhereFree (memory old.region) (kept_of old) old.blocks change
+  pub room : HasRoomWhereFree (memory old.region) (in_snapshot_of old) old.free_blocks change
 
 module _ {R : Type 0} {memory : R → Memory} {change : Change} {more : ℕ} {old : Parts R} (plan : IsPlanned memory change more old) where
   abbrev image : Image
@@ -63,7 +64,7 @@ module _ {R : Type 0} {memory : R → Memory} {change : Change} {more : ℕ} {ol
         subst (λ (ps : List WordPath). HasRoomToThaw memory ps old more) (sym are) (room_to_thaw memory change more old plan.needs plan.room)
 
     -- where both take more blocks than are free, the change lacks space
-    pub lacks_both : (lacks : NoSpace) → LacksBlocksToThaw memory ways old more lacks → LacksSpace image (kept_of old) change lacks
+    pub lacks_both : (lacks : NoSpace) → LacksBlocksToThaw memory ways old more lacks → LacksSpace image (in_snapshot_of old) change lacks
     lacks_both lacks has =
         lacks_all memory change more old plan.needs plan.room lacks
         (subst (λ (ps : List WordPath). LacksBlocksToThaw memory ps old more lacks) are has)
@@ -73,17 +74,17 @@ module _ {R : Type 0} {memory : R → Memory} {change : Change} {more : ℕ} {ol
       pub thaws_before : ThawsBefore memory old new change
       thaws_before = subst (λ (ps : List WordPath). ThawsFor memory ps old new) are thaws
 
-      module _ (enough : thaw_count memory ways old + more ≤ length (members old.blocks)) where
+      module _ (enough : thaw_count memory ways old + more ≤ length (members old.free_blocks)) where
         -- as many blocks were free as both take
-        free_for_both : thaw_count memory (targets image change) old + more ≤ length (members old.blocks)
-        free_for_both = subst (λ (ps : List WordPath). thaw_count memory ps old + more ≤ length (members old.blocks)) are enough
+        free_for_both : thaw_count memory (targets image change) old + more ≤ length (members old.free_blocks)
+        free_for_both = subst (λ (ps : List WordPath). thaw_count memory ps old + more ≤ length (members old.free_blocks)) are enough
 
         -- so the log has room for the change
         pub room_behind : room_for more ≤ room_in (memory new.region) + 2
         room_behind = room_left memory change more old plan.needs plan.room plan.mounted plan.reached new thaws_before free_for_both
 
         -- enough blocks are free for it
-        pub enough_behind : more ≤ length (members new.blocks)
+        pub enough_behind : more ≤ length (members new.free_blocks)
         enough_behind = enough_left memory change more old plan.needs plan.room plan.mounted plan.reached new thaws_before free_for_both
 
         -- and nothing is left to thaw
@@ -96,33 +97,33 @@ module _ {R : Type 0} {memory : R → Memory} {change : Change} {more : ℕ} {ol
               room = has_room memory change more old plan.needs plan.room plan.mounted plan.reached new thaws_before free_for_both enough;
             }
 
-  -- ## Where no block is kept
+  -- ## Where no block is in the snapshot
 
-  module _ (none : length (members old.frozen) ≡ 0) where
+  module _ (none : length (members old.snapshot_blocks) ≡ 0) where
     -- nothing is thawed then
     nothing_thawed : thaw_count memory (targets image change) old ≡ 0
     nothing_thawed = nothing memory change more old plan.needs plan.room plan.mounted plan.reached none
 
     -- the change lacks space where it takes more blocks than are free
-    pub lacks_unthawed : (lacks : NoSpace) → LacksBlocks image (kept_of old) more lacks → LacksSpace image (kept_of old) change lacks
+    pub lacks_unthawed : (lacks : NoSpace) → LacksBlocks image (in_snapshot_of old) more lacks → LacksSpace image (in_snapshot_of old) change lacks
     lacks_unthawed lacks has = lacks_both refl lacks (record { needed = omega (arith, nothing_thawed, has.needed); free = has.free; fewer = has.fewer })
 
     -- the same of a number of free blocks
-    pub few_unthawed : (free : ℕ) → free ≡ length (members old.blocks) → free < more
-        → LacksSpace image (kept_of old) change (record { need = more; free = free })
+    pub few_unthawed : (free : ℕ) → free ≡ length (members old.free_blocks) → free < more
+        → LacksSpace image (in_snapshot_of old) change (record { need = more; free = free })
     few_unthawed free is fewer =
         let sets = plan.mounted.exact.sets in
         lacks_unthawed (record { need = more; free = free })
-        (record { needed = refl; free = rw is (free_members image (kept_of old) old.blocks sets.free_blocks sets.block_room); fewer = fewer })
+        (record { needed = refl; free = rw is (free_members image (in_snapshot_of old) old.free_blocks sets.free_blocks sets.block_room); fewer = fewer })
 
-    module _ (enough : more ≤ length (members old.blocks)) where
+    module _ (enough : more ≤ length (members old.free_blocks)) where
       -- and else the log has room for it
-      pub room_unkept : room_for more ≤ room_in (memory old.region)
-      room_unkept = room_unthawed memory change more old plan.needs plan.room plan.mounted plan.reached none enough
+      pub room_outside_snapshot : room_for more ≤ room_in (memory old.region)
+      room_outside_snapshot = room_unthawed memory change more old plan.needs plan.room plan.mounted plan.reached none enough
 
       -- nothing has to be thawed before it
       pub thaws_unthawed : ThawsBefore memory old old change
-      thaws_unthawed = unthawed memory change more old plan.needs plan.room plan.mounted plan.reached none plan.leads (omega (arith, room_unkept))
+      thaws_unthawed = unthawed memory change more old plan.needs plan.room plan.mounted plan.reached none plan.leads (omega (arith, room_outside_snapshot))
 
       -- and it is ready
       pub ready_unthawed : AreThawedFor memory old change

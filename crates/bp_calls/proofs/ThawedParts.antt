@@ -21,10 +21,10 @@ use Rattle.bp_layout.specs.Names.{AreCounts}
 use Rattle.bp_layout.specs.Need.{Change}
 use Rattle.bp_layout.specs.Reached.IsReached.{inode_file}
 use Rattle.bp_layout.specs.Same.{Same}
-use Rattle.bp_layout.specs.Thaw.{fronts_of, is_kept_at, is_there_now, targets, thawed, thawed_on}
+use Rattle.bp_layout.specs.Thaw.{fronts_of, is_in_snapshot_at, is_there_now, targets, thawed, thawed_on}
 use Rattle.bp_layout.specs.WordPaths.{WordPath, address}
 use Rattle.bp_layout.specs.Words.{Image, block_of, word}
-use Rattle.bp_shapes.specs.Sets.{AreExact, kept_of}
+use Rattle.bp_shapes.specs.Sets.{AreExact, in_snapshot_of}
 use Rattle.bp_thaw.specs.Fronts.{IsWayIn}
 use Rattle.bp_thaw.specs.Thaws.{Thaws}
 use Rattle.bp_thaw.proofs.Whole.{thaws_nothing}
@@ -35,13 +35,13 @@ use Rattle.pm_region.proofs.SafeLaws.{room_after_quiet}
 
 module _ {R : Type 0} (memory : R → Memory) (paths : List WordPath) (old : Parts R) (mounted : IsMounted (current_words (memory old.region)) old) where
   -- where it takes what it takes of the free blocks alone, the parts stay exact
-  pub thaws_for : (new : Parts R) → Thaws (kept_of old) paths (memory old.region) (memory new.region) old.blocks new.blocks → length new.blocks ≡ length old.blocks → new.inodes ≡ old.inodes → new.counts ≡ old.counts → new.frozen ≡ old.frozen →
+  pub thaws_for : (new : Parts R) → Thaws (in_snapshot_of old) paths (memory old.region) (memory new.region) old.free_blocks new.free_blocks → length new.free_blocks ≡ length old.free_blocks → new.free_inodes ≡ old.free_inodes → new.link_counts ≡ old.link_counts → new.snapshot_blocks ≡ old.snapshot_blocks →
       ThawsFor memory paths old new
-  thaws_for new thaws size inodes counts frozen = record {
+  thaws_for new thaws size inodes counts snapshot_blocks = record {
     thaws = thaws;
-    exact = exact_with image after old new mounted.exact sets frozen same.trees.whole (ap (λ (ns : List ℕ). length ns) counts)
-        (subst (λ ns. HasCounts ns) (sym counts) (meaning_counts image after mounted.well_formed same old.counts mounted.exact.counts));
-    frozen = frozen;
+    exact = exact_with image after old new mounted.exact sets snapshot_blocks same.trees.whole (ap (λ (ns : List ℕ). length ns) counts)
+        (subst (λ ns. HasCounts ns) (sym counts) (meaning_counts image after mounted.well_formed same old.link_counts mounted.exact.counts));
+    snapshot_blocks = snapshot_blocks;
   }
     where
       image : Image
@@ -56,20 +56,20 @@ module _ {R : Type 0} (memory : R → Memory) (paths : List WordPath) (old : Par
       HasCounts : List ℕ → Type 0
       HasCounts ns = AreCounts after ns
 
-      sets : AreExact after (kept_of old) new.blocks new.inodes
+      sets : AreExact after (in_snapshot_of old) new.free_blocks new.free_inodes
       sets = record {
         block_room = size ∙ mounted.exact.sets.block_room ∙ ap (λ n. n / 512) (sym same.trees.whole);
         inode_room = ap (λ (s : Set). length s) inodes ∙ mounted.exact.sets.inode_room ∙ ap (λ n. 64 * (n / 512)) (sym same.trees.whole);
         free_blocks = thaws.free;
         free_inodes = subst (λ (s : Set). AreFreeInodes after (has s)) (sym inodes)
-            (free_inodes_stay image after (has old.inodes) (thaws.shape.sizes 0 inode_file) (reached-back image after mounted.well_formed same) (reached_on image after same) mounted.exact.sets.free_inodes);
+            (free_inodes_stay image after (has old.free_inodes) (thaws.shape.sizes 0 inode_file) (reached-back image after mounted.well_formed same) (reached_on image after same) mounted.exact.sets.free_inodes);
       }
 
-  -- ---- where no block is kept
+  -- ---- where no block is in the snapshot
 
-  nothing_at : (image : Image) (kept : ℕ → Bool) → ((b : ℕ) → kept b ≡ false) → (fronts : List WordPath) → filter (is_kept_at image kept) fronts ≡ []
-  nothing_at image kept none [] = refl
-  nothing_at image kept none (front ∷ fronts) = rw (with_false (is_there_now image front) (none (block_of (word image (address image front))))) (nothing_at image kept none fronts)
+  nothing_at : (image : Image) (in_snapshot : ℕ → Bool) → ((b : ℕ) → in_snapshot b ≡ false) → (fronts : List WordPath) → filter (is_in_snapshot_at image in_snapshot) fronts ≡ []
+  nothing_at image in_snapshot none [] = refl
+  nothing_at image in_snapshot none (front ∷ fronts) = rw (with_false (is_there_now image front) (none (block_of (word image (address image front))))) (nothing_at image in_snapshot none fronts)
     where
       with_false : (b : Bool) {c : Bool} → c ≡ false → (b && c) ≡ false
       with_false true e = e
@@ -79,18 +79,18 @@ module _ {R : Type 0} (memory : R → Memory) (paths : List WordPath) (old : Par
   no_members [] none = refl
   no_members (x ∷ xs) none = absurd (omega (arith, none))
 
-  pub nothing_kept : length (members old.frozen) ≡ 0 → thawed_on (current_words (memory old.region)) (kept_of old) paths ≡ []
-  nothing_kept none = nothing_at (current_words (memory old.region)) (kept_of old) (none_in old.frozen (no_members (members old.frozen) none)) (fronts_of [] paths)
+  pub nothing_in_snapshot : length (members old.snapshot_blocks) ≡ 0 → thawed_on (current_words (memory old.region)) (in_snapshot_of old) paths ≡ []
+  nothing_in_snapshot none = nothing_at (current_words (memory old.region)) (in_snapshot_of old) (none_in old.snapshot_blocks (no_members (members old.snapshot_blocks) none)) (fronts_of [] paths)
 
-  pub thaws_none : ((path : WordPath) → Has paths path → IsWayIn (current_words (memory old.region)) path) → 2 ≤ room_in (memory old.region) → length (members old.frozen) ≡ 0 → ThawsFor memory paths old old
+  pub thaws_none : ((path : WordPath) → Has paths path → IsWayIn (current_words (memory old.region)) path) → 2 ≤ room_in (memory old.region) → length (members old.snapshot_blocks) ≡ 0 → ThawsFor memory paths old old
   thaws_none ways room none =
-      let nothing : thawed_on (current_words (memory old.region)) (kept_of old) paths ≡ [] = nothing_kept none in
-      let zero_thawed : length (thawed_on (current_words (memory old.region)) (kept_of old) paths) ≡ 0 = ap length nothing in
+      let nothing : thawed_on (current_words (memory old.region)) (in_snapshot_of old) paths ≡ [] = nothing_in_snapshot none in
+      let zero_thawed : length (thawed_on (current_words (memory old.region)) (in_snapshot_of old) paths) ≡ 0 = ap length nothing in
       record {
-        thaws = thaws_nothing (kept_of old) paths (memory old.region) old.blocks
+        thaws = thaws_nothing (in_snapshot_of old) paths (memory old.region) old.free_blocks
             (record { well_formed = mounted.well_formed; ways = ways; free = mounted.exact.sets.free_blocks; enough = omega (arith, zero_thawed); room = omega (arith, zero_thawed, room) }) nothing;
         exact = mounted.exact;
-        frozen = refl;
+        snapshot_blocks = refl;
       }
 
 -- ---- a change behind it
@@ -107,16 +107,16 @@ module _ {R : Type 0} (memory : R → Memory) (change : Change) (old middle : Pa
   mounted_thawed = record { well_formed = well_formed-same image after mounted.well_formed done.thaws.shape.meaning; exact = done.exact }
 
   -- nothing is left to thaw
-  pub thawed_clear : thawed after (kept_of middle) change ≡ []
+  pub thawed_clear : thawed after (in_snapshot_of middle) change ≡ []
   thawed_clear =
-      subst (λ (frozen : Set). thawed after (has frozen) change ≡ []) (sym done.frozen)
-      (subst (λ (ps : List WordPath). thawed_on after (kept_of old) ps ≡ []) (sym (targets-shape image after mounted.well_formed done.thaws.shape change of)) done.thaws.clear)
+      subst (λ (snapshot_blocks : Set). thawed after (has snapshot_blocks) change ≡ []) (sym done.snapshot_blocks)
+      (subst (λ (ps : List WordPath). thawed_on after (in_snapshot_of old) ps ≡ []) (sym (targets-shape image after mounted.well_formed done.thaws.shape change of)) done.thaws.clear)
 
   pub room_thawed : room_in (memory old.region) ≤ room_in (memory middle.region) + (2 + (512 + 1) * length done.thaws.taken)
   room_thawed = room_after_quiet Same 2 ((512 + 1) * length done.thaws.taken) (memory old.region) (memory middle.region) done.thaws.adds.part
 
-  pub performed_thawed : (new : Parts R) (Effect : Image → Image → Type 0) → PerformsThawed (kept_of middle) (memory middle.region) (memory new.region) change Effect →
-      Performs (kept_of old) (memory old.region) (memory new.region) change (AfterThaw Effect)
+  pub performed_thawed : (new : Parts R) (Effect : Image → Image → Type 0) → PerformsThawed (in_snapshot_of middle) (memory middle.region) (memory new.region) change Effect →
+      Performs (in_snapshot_of old) (memory old.region) (memory new.region) change (AfterThaw Effect)
   performed_thawed new Effect rest =
-      performs_thawed (kept_of old) (memory old.region) (memory middle.region) done.thaws.taken done.thaws.adds done.thaws.live done.thaws.used done.thaws.stay mounted.well_formed done.thaws.shape (memory new.region) change Effect of done.thaws.number
-      (subst (λ (frozen : Set). PerformsThawed (has frozen) (memory middle.region) (memory new.region) change Effect) done.frozen rest)
+      performs_thawed (in_snapshot_of old) (memory old.region) (memory middle.region) done.thaws.taken done.thaws.adds done.thaws.live done.thaws.used done.thaws.stay mounted.well_formed done.thaws.shape (memory new.region) change Effect of done.thaws.number
+      (subst (λ (snapshot_blocks : Set). PerformsThawed (has snapshot_blocks) (memory middle.region) (memory new.region) change Effect) done.snapshot_blocks rest)

@@ -47,7 +47,7 @@ module _ (image after : Image) (wf : IsWellFormed image) (shape : SameShape imag
         parsed = finds.parsed;
         inode = found_thawed image after wf shape.meaning finds.path i finds.inode;
         is_file = shape.meaning.kind i reached ∙ finds.is_file;
-        within = subst (λ size. piece.off + length piece.bytes ≤ size) (sym (shape.sizes i reached)) finds.within;
+        within = subst (λ size. piece.offset + length piece.bytes ≤ size) (sym (shape.sizes i reached)) finds.within;
       }
 
   pub patches_thawed : (pieces : List Piece) (patches : List Patch) → ArePatches image pieces patches → ArePatches after pieces patches

@@ -38,62 +38,62 @@ use Rattle.bp_calls.proofs.PreparedRoom.{preparation_room}
 -- ---- one byte
 
 -- behind the new bytes the old ones stay
-pub written_past : (off : ℕ) (bytes : List ℕ) (size : ℕ) (old : ℕ → ℕ) (o : ℕ) → off + length bytes ≤ o → o < size → written_byte off bytes size old o ≡ old o
-written_past off bytes size old o past below = rw (le-leb off o (omega (arith, past)), le-ltb o (off + length bytes) past, lt-ltb o size below) refl
+pub written_past : (offset : ℕ) (bytes : List ℕ) (size : ℕ) (old : ℕ → ℕ) (o : ℕ) → offset + length bytes ≤ o → o < size → written_byte offset bytes size old o ≡ old o
+written_past offset bytes size old o past below = rw (le-leb offset o (omega (arith, past)), le-ltb o (offset + length bytes) past, lt-ltb o size below) refl
 
-module _ (off : ℕ) (bytes : List ℕ) (size : ℕ) (old : ℕ → ℕ) (o : ℕ) where
-  pub written_inside : off ≤ o → o < off + length bytes → written_byte off bytes size old o ≡ slice_index bytes (o - off)
-  written_inside low high = rw (le-leb off o low, lt-ltb o (off + length bytes) high) refl
+module _ (offset : ℕ) (bytes : List ℕ) (size : ℕ) (old : ℕ → ℕ) (o : ℕ) where
+  pub written_inside : offset ≤ o → o < offset + length bytes → written_byte offset bytes size old o ≡ slice_index bytes (o - offset)
+  written_inside low high = rw (le-leb offset o low, lt-ltb o (offset + length bytes) high) refl
 
-  pub written_before : o < off → o < size → written_byte off bytes size old o ≡ old o
-  written_before low below = rw (lt-leb off o low, lt-ltb o size below) refl
+  pub written_before : o < offset → o < size → written_byte offset bytes size old o ≡ old o
+  written_before low below = rw (lt-leb offset o low, lt-ltb o size below) refl
 
-  pub written_between : o < off → size ≤ o → written_byte off bytes size old o ≡ 0
-  written_between low past = rw (lt-leb off o low, le-ltb o size past) refl
+  pub written_between : o < offset → size ≤ o → written_byte offset bytes size old o ≡ 0
+  written_between low past = rw (lt-leb offset o low, le-ltb o size past) refl
 
 -- ---- what the change touches
 
-only_grows : (image : Image) (i off len : ℕ) → size_of image i ≤ off → 1 ≤ len → OnlyGrows image (writes i off len) i off (off + len)
-only_grows image i off len behind some = record {
+only_grows : (image : Image) (i offset len : ℕ) → size_of image i ≤ offset → 1 ≤ len → OnlyGrows image (writes i offset len) i offset (offset + len)
+only_grows image i offset len behind some = record {
   prepares =
-      let top : max off (size_of image i) ≡ off = omega (arith, behind) in
-      rw (lt-ltb (size_of image i) (off + len) (omega (arith, behind, some)), top) refl;
+      let top : max offset (size_of image i) ≡ offset = omega (arith, behind) in
+      rw (lt-ltb (size_of image i) (offset + len) (omega (arith, behind, some)), top) refl;
   no_inodes = refl;
-  touches = rw (le-ltb off (size_of image i) behind, lt-ltb (size_of image i) (off + len) (omega (arith, behind, some))) refl;
+  touches = rw (le-ltb offset (size_of image i) behind, lt-ltb (size_of image i) (offset + len) (omega (arith, behind, some))) refl;
 }
 
 -- so many blocks it takes, told by the root word and the size of its tree
-pub behind_needs : (image : Image) → IsWellFormed image → (i off len root size : ℕ) → IsReached image i → kind_of image i ≡ 1 → size_of image i ≤ off → 1 ≤ len → root ≡ root_of image i → size ≡ size_of image i →
-    need image (writes i off len) ≡ length (nodes_for image root size off (off + len))
-behind_needs image wf zero off len root size reached file behind some one two = absurd (omega (arith, file))
-behind_needs image wf (suc n) off len root size reached file behind some one two =
-    only_need image (writes (suc n) off len) n off (off + len) wf reached (only_grows image (suc n) off len behind some) ∙ sym (ap₂ (λ r s. length (nodes_for image r s off (off + len))) one two)
+pub behind_needs : (image : Image) → IsWellFormed image → (i offset len root size : ℕ) → IsReached image i → kind_of image i ≡ 1 → size_of image i ≤ offset → 1 ≤ len → root ≡ root_of image i → size ≡ size_of image i →
+    need image (writes i offset len) ≡ length (nodes_for image root size offset (offset + len))
+behind_needs image wf zero offset len root size reached file behind some one two = absurd (omega (arith, file))
+behind_needs image wf (suc n) offset len root size reached file behind some one two =
+    only_need image (writes (suc n) offset len) n offset (offset + len) wf reached (only_grows image (suc n) offset len behind some) ∙ sym (ap₂ (λ r s. length (nodes_for image r s offset (offset + len))) one two)
 
 -- ---- the call
 
-module _ {kept : ℕ → Bool} (old : Memory) (blocks inodes : Set) (n off : ℕ) (bytes : List ℕ) (can : CanWriteThawed kept old blocks inodes (suc n) off bytes) (behind : size_of (current_words old) (suc n) ≤ off) where
+module _ {in_snapshot : ℕ → Bool} (old : Memory) (blocks inodes : Set) (n offset : ℕ) (bytes : List ℕ) (can : CanWriteThawed in_snapshot old blocks inodes (suc n) offset bytes) (behind : size_of (current_words old) (suc n) ≤ offset) where
   abbrev image : Image
   image = current_words old
 
   abbrev end : ℕ
-  end = off + length bytes
+  end = offset + length bytes
 
   abbrev need_here : ℕ
-  need_here = length (nodes_for image (root_of image (suc n)) (size_of image (suc n)) off end)
+  need_here = length (nodes_for image (root_of image (suc n)) (size_of image (suc n)) offset end)
 
-  pub behind_need : need image (writes (suc n) off (length bytes)) ≡ need_here
-  behind_need = only_need image (writes (suc n) off (length bytes)) n off end can.into.well_formed can.into.can.reached (only_grows image (suc n) off (length bytes) behind can.into.can.some)
+  pub behind_need : need image (writes (suc n) offset (length bytes)) ≡ need_here
+  behind_need = only_need image (writes (suc n) offset (length bytes)) n offset end can.into.well_formed can.into.can.reached (only_grows image (suc n) offset (length bytes) behind can.into.can.some)
 
   -- the ways to the end of the file are loose
-  ends : targets image (writes (suc n) off (length bytes)) ≡ cover_now image (writes (suc n) off (length bytes)) ∷ root_path_now image (suc n) ∷ end_path_now image (suc n) ∷ []
+  ends : targets image (writes (suc n) offset (length bytes)) ≡ cover_now image (writes (suc n) offset (length bytes)) ∷ root_path_now image (suc n) ∷ end_path_now image (suc n) ∷ []
   ends = rw (lt-ltb (size_of image (suc n)) end (let some = can.into.can.some in omega (arith, behind, some))) refl
 
-  end_loose : HasLooseEnd image kept (suc n)
+  end_loose : HasLooseEnd image in_snapshot (suc n)
   end_loose =
-      loose_end image can.into.well_formed kept (suc n) can.into.can.reached
-      (loose-on image kept (targets image (writes (suc n) off (length bytes))) can.clear (end_path_now image (suc n)) (subst (λ ps. Has ps (end_path_now image (suc n))) (sym ends) (inr (inr (inl refl)))) (length (root_path_now image (suc n)) - 1))
+      loose_end image can.into.well_formed in_snapshot (suc n) can.into.can.reached
+      (loose-on image in_snapshot (targets image (writes (suc n) offset (length bytes))) can.clear (end_path_now image (suc n)) (subst (λ ps. Has ps (end_path_now image (suc n))) (sym ends) (inr (inr (inl refl)))) (length (root_path_now image (suc n)) - 1))
 
-  pub behind_prepares : need_here ≤ length (members blocks) → (path : WordPath) → path ≡ inode_path (height_of (root_of image 0)) (suc n) 1 → CanPrepare kept old (members blocks) (suc n) path off end
+  pub behind_prepares : need_here ≤ length (members blocks) → (path : WordPath) → path ≡ inode_path (height_of (root_of image 0)) (suc n) 1 → CanPrepare in_snapshot old (members blocks) (suc n) path offset end
   behind_prepares enough path is = record {
     well = can.into.well_formed;
     reached = can.into.can.reached;
@@ -107,89 +107,89 @@ module _ {kept : ℕ → Bool} (old : Memory) (blocks inodes : Set) (n off : ℕ
     loose = end_loose;
     enough = enough;
     room = let room = can.room (omega (arith, behind_need, enough)) in
-        preparation_room _ _ _ _ behind_need (room_behind_whole (size_of image (suc n)) off end max_height) room;
+        preparation_room _ _ _ _ behind_need (room_behind_whole (size_of image (suc n)) offset end max_height) room;
   }
 
-  module _ (middle new : Memory) (after : Set) (path : WordPath) (place : ℕ) (prepares : CanPrepare kept old (members blocks) (suc n) path off end) (stands : ContentStandsAt image 0 (8 * suc n + 2) place)
-      (prepared : PreparesWith kept old middle (members blocks) (members after) (suc n) off end bytes) (stored : Adds middle new (commit place end)) where
-    only : OnlyGrows image (writes (suc n) off (length bytes)) (suc n) off end
-    only = only_grows image (suc n) off (length bytes) behind can.into.can.some
+  module _ (middle new : Memory) (after : Set) (path : WordPath) (place : ℕ) (prepares : CanPrepare in_snapshot old (members blocks) (suc n) path offset end) (stands : ContentStandsAt image 0 (8 * suc n + 2) place)
+      (prepared : PreparesWith in_snapshot old middle (members blocks) (members after) (suc n) offset end bytes) (stored : Adds middle new (commit place end)) where
+    only : OnlyGrows image (writes (suc n) offset (length bytes)) (suc n) offset end
+    only = only_grows image (suc n) offset (length bytes) behind can.into.can.some
 
-    grows : GrowsTree kept old middle new (members blocks) (members after) path n off end place bytes
+    grows : GrowsTree in_snapshot old middle new (members blocks) (members after) path n offset end place bytes
     grows = record { can = prepares; is_file = can.into.can.file; stands = stands; prepared = prepared; stored = stored }
 
     size_is : size_of (current_words new) (suc n) ≡ end
-    size_is = grown_size kept old middle new (members blocks) (members after) path n off end place bytes grows (writes (suc n) off (length bytes)) only
+    size_is = grown_size in_snapshot old middle new (members blocks) (members after) path n offset end place bytes grows (writes (suc n) offset (length bytes)) only
 
-    byte_is : (o : ℕ) → o < end → byte (current_words new) (root_of (current_words new) (suc n)) o ≡ written_byte off bytes (size_of image (suc n)) (byte image (root_of image (suc n))) o
+    byte_is : (o : ℕ) → o < end → byte (current_words new) (root_of (current_words new) (suc n)) o ≡ written_byte offset bytes (size_of image (suc n)) (byte image (root_of image (suc n))) o
     byte_is o low =
-        grown_bytes kept old middle new (members blocks) (members after) path n off end place bytes grows (writes (suc n) off (length bytes)) only o low
-        ∙ go (cases_lt o (size_of image (suc n))) (cases_lt o off)
+        grown_bytes in_snapshot old middle new (members blocks) (members after) path n offset end place bytes grows (writes (suc n) offset (length bytes)) only o low
+        ∙ go (cases_lt o (size_of image (suc n))) (cases_lt o offset)
       where
-        go : (o < size_of image (suc n)) ⊎ (size_of image (suc n) ≤ o) → (o < off) ⊎ (off ≤ o) →
-            byte (current_words middle) (root_of (current_words middle) (suc n)) o ≡ written_byte off bytes (size_of image (suc n)) (byte image (root_of image (suc n))) o
+        go : (o < size_of image (suc n)) ⊎ (size_of image (suc n) ≤ o) → (o < offset) ⊎ (offset ≤ o) →
+            byte (current_words middle) (root_of (current_words middle) (suc n)) o ≡ written_byte offset bytes (size_of image (suc n)) (byte image (root_of image (suc n))) o
         go (inl below) where_is =
-            prepared.ready.kept o below ∙ sym (written_before off bytes (size_of image (suc n)) (byte image (root_of image (suc n))) o (omega (arith, below, behind)) below)
+            prepared.ready.kept o below ∙ sym (written_before offset bytes (size_of image (suc n)) (byte image (root_of image (suc n))) o (omega (arith, below, behind)) below)
         go (inr past) (inl before) =
-            prepared.ready.bytes_are o past low ∙ given-before off bytes o before ∙ sym (written_between off bytes (size_of image (suc n)) (byte image (root_of image (suc n))) o before past)
+            prepared.ready.bytes_are o past low ∙ given-before offset bytes o before ∙ sym (written_between offset bytes (size_of image (suc n)) (byte image (root_of image (suc n))) o before past)
         go (inr past) (inr inside) =
-            prepared.ready.bytes_are o past low ∙ given-there off bytes o inside ∙ sym (written_inside off bytes (size_of image (suc n)) (byte image (root_of image (suc n))) o inside low)
+            prepared.ready.bytes_are o past low ∙ given-there offset bytes o inside ∙ sym (written_inside offset bytes (size_of image (suc n)) (byte image (root_of image (suc n))) o inside low)
 
-    pub behind_writes : WritesFile (suc n) off bytes image (current_words new)
+    pub behind_writes : WritesFile (suc n) offset bytes image (current_words new)
     behind_writes = record {
-      changes = grown_changes kept old middle new (members blocks) (members after) path n off end place bytes grows (writes (suc n) off (length bytes)) only;
+      changes = grown_changes in_snapshot old middle new (members blocks) (members after) path n offset end place bytes grows (writes (suc n) offset (length bytes)) only;
       size = omega (arith, size_is, behind);
       bytes_are = λ o low. byte_is o (omega (arith, low, size_is));
     }
 
-    pub behind_performs : PerformsThawed kept old new (writes (suc n) off (length bytes)) (WritesFile (suc n) off bytes)
+    pub behind_performs : PerformsThawed in_snapshot old new (writes (suc n) offset (length bytes)) (WritesFile (suc n) offset bytes)
     behind_performs =
-        grown_performs kept old middle new (members blocks) (members after) path n off end place bytes grows (writes (suc n) off (length bytes)) only (WritesFile (suc n) off bytes) behind_writes
+        grown_performs in_snapshot old middle new (members blocks) (members after) path n offset end place bytes grows (writes (suc n) offset (length bytes)) only (WritesFile (suc n) offset bytes) behind_writes
 
-    pub behind_exact : length after ≡ length blocks → AreExact (current_words new) kept after inodes
+    pub behind_exact : length after ≡ length blocks → AreExact (current_words new) in_snapshot after inodes
     unfolding grows
     behind_exact room =
         exact_taken image (current_words new) (suc n) can.into.well_formed behind_writes.changes prepared.taken blocks after inodes can.into.exact prepared.takes room
-        (grown_live kept old middle new (members blocks) (members after) path n off end place bytes grows (writes (suc n) off (length bytes)) only)
-        (grown_stays kept old middle new (members blocks) (members after) path n off end place bytes grows (writes (suc n) off (length bytes)) only)
-        (grown_taken kept old middle new (members blocks) (members after) path n off end place bytes grows (writes (suc n) off (length bytes)) only)
+        (grown_live in_snapshot old middle new (members blocks) (members after) path n offset end place bytes grows (writes (suc n) offset (length bytes)) only)
+        (grown_stays in_snapshot old middle new (members blocks) (members after) path n offset end place bytes grows (writes (suc n) offset (length bytes)) only)
+        (grown_taken in_snapshot old middle new (members blocks) (members after) path n offset end place bytes grows (writes (suc n) offset (length bytes)) only)
 
 -- ---- by the number of the inode
 
-module _ (old : Memory) (blocks inodes : Set) (off : ℕ) (bytes : List ℕ) where
-  not_inodes : {kept : ℕ → Bool} (P : Type 0) → CanWriteThawed kept old blocks inodes 0 off bytes → P
+module _ (old : Memory) (blocks inodes : Set) (offset : ℕ) (bytes : List ℕ) where
+  not_inodes : {in_snapshot : ℕ → Bool} (P : Type 0) → CanWriteThawed in_snapshot old blocks inodes 0 offset bytes → P
   not_inodes P can = absurd (omega (arith, can.into.can.file))
 
-  pub behind_can : {kept : ℕ → Bool} (i : ℕ) (path : WordPath) → CanWriteThawed kept old blocks inodes i off bytes → size_of (current_words old) i ≤ off → need (current_words old) (writes i off (length bytes)) ≤ length (members blocks) →
-      path ≡ inode_path (height_of (root_of (current_words old) 0)) i 1 → CanPrepare kept old (members blocks) i path off (off + length bytes)
+  pub behind_can : {in_snapshot : ℕ → Bool} (i : ℕ) (path : WordPath) → CanWriteThawed in_snapshot old blocks inodes i offset bytes → size_of (current_words old) i ≤ offset → need (current_words old) (writes i offset (length bytes)) ≤ length (members blocks) →
+      path ≡ inode_path (height_of (root_of (current_words old) 0)) i 1 → CanPrepare in_snapshot old (members blocks) i path offset (offset + length bytes)
   behind_can zero path can = λ behind enough is. not_inodes _ can
-  behind_can (suc n) path can = λ behind enough is. behind_prepares old blocks inodes n off bytes can behind (omega (arith, enough, behind_need old blocks inodes n off bytes can behind)) path is
+  behind_can (suc n) path can = λ behind enough is. behind_prepares old blocks inodes n offset bytes can behind (omega (arith, enough, behind_need old blocks inodes n offset bytes can behind)) path is
 
   module _ (middle : Memory) (after : Set) where
-    pub prepared_base : {kept : ℕ → Bool} (i : ℕ) → PreparesWith kept old middle (members blocks) (members after) i off (off + length bytes) bytes → length middle.base ≡ length old.base
+    pub prepared_base : {in_snapshot : ℕ → Bool} (i : ℕ) → PreparesWith in_snapshot old middle (members blocks) (members after) i offset (offset + length bytes) bytes → length middle.base ≡ length old.base
     prepared_base i prepared = ap length (base-adds old middle _ prepared.adds.part.adds)
 
-    pub prepared_room : {kept : ℕ → Bool} (i : ℕ) → CanWriteThawed kept old blocks inodes i off bytes → size_of (current_words old) i ≤ off → PreparesWith kept old middle (members blocks) (members after) i off (off + length bytes) bytes → 3 ≤ room_in middle
+    pub prepared_room : {in_snapshot : ℕ → Bool} (i : ℕ) → CanWriteThawed in_snapshot old blocks inodes i offset bytes → size_of (current_words old) i ≤ offset → PreparesWith in_snapshot old middle (members blocks) (members after) i offset (offset + length bytes) bytes → 3 ≤ room_in middle
     prepared_room zero can = λ behind prepared. not_inodes _ can
     prepared_room (suc n) can = λ behind prepared.
-        let left = room_after_quiet Same 2 (prep_stores (size_of (current_words old) (suc n)) off (off + length bytes) (need_for (current_words old) (suc n) off (off + length bytes))) old middle prepared.adds.part in
-        let needs = behind_need old blocks inodes n off bytes can behind in
+        let left = room_after_quiet Same 2 (prep_stores (size_of (current_words old) (suc n)) offset (offset + length bytes) (need_for (current_words old) (suc n) offset (offset + length bytes))) old middle prepared.adds.part in
+        let needs = behind_need old blocks inodes n offset bytes can behind in
         let all : length (members blocks) ≡ length prepared.taken + length (members after) = ap (λ (xs : List ℕ). length xs) prepared.takes ∙ length-append prepared.taken (members after) in
-        let has : room_for (need (current_words old) (writes (suc n) off (length bytes))) ≤ room_in old + 2 = can.room (omega (arith, needs, prepared.counted, all)) in
-        enough _ _ _ _ left (behind_whole (size_of (current_words old) (suc n)) off (off + length bytes) max_height) (rw needs at has)
+        let has : room_for (need (current_words old) (writes (suc n) offset (length bytes))) ≤ room_in old + 2 = can.room (omega (arith, needs, prepared.counted, all)) in
+        enough _ _ _ _ left (behind_whole (size_of (current_words old) (suc n)) offset (offset + length bytes) max_height) (rw needs at has)
       where
         enough : (needed behind room left : ℕ) → room ≤ left + (2 + (512 * needed + behind + 2)) → behind ≤ 512 * suc max_height → room_for needed ≤ room + 2 → 3 ≤ left
         enough needed behind room left a b c = omega (arith, a, b, c)
 
     module _ (new : Memory) (path : WordPath) (place : ℕ) where
-      pub behind_performs_at : {kept : ℕ → Bool} (i : ℕ) → CanWriteThawed kept old blocks inodes i off bytes → size_of (current_words old) i ≤ off → CanPrepare kept old (members blocks) i path off (off + length bytes) →
-          ContentStandsAt (current_words old) 0 (8 * i + 2) place → PreparesWith kept old middle (members blocks) (members after) i off (off + length bytes) bytes → Adds middle new (commit place (off + length bytes)) →
-          PerformsThawed kept old new (writes i off (length bytes)) (WritesFile i off bytes)
+      pub behind_performs_at : {in_snapshot : ℕ → Bool} (i : ℕ) → CanWriteThawed in_snapshot old blocks inodes i offset bytes → size_of (current_words old) i ≤ offset → CanPrepare in_snapshot old (members blocks) i path offset (offset + length bytes) →
+          ContentStandsAt (current_words old) 0 (8 * i + 2) place → PreparesWith in_snapshot old middle (members blocks) (members after) i offset (offset + length bytes) bytes → Adds middle new (commit place (offset + length bytes)) →
+          PerformsThawed in_snapshot old new (writes i offset (length bytes)) (WritesFile i offset bytes)
       behind_performs_at zero can = λ behind prepares stands prepared stored. not_inodes _ can
-      behind_performs_at (suc n) can = λ behind prepares stands prepared stored. behind_performs old blocks inodes n off bytes can behind middle new after path place prepares stands prepared stored
+      behind_performs_at (suc n) can = λ behind prepares stands prepared stored. behind_performs old blocks inodes n offset bytes can behind middle new after path place prepares stands prepared stored
 
-      pub behind_exact_at : {kept : ℕ → Bool} (i : ℕ) → CanWriteThawed kept old blocks inodes i off bytes → size_of (current_words old) i ≤ off → CanPrepare kept old (members blocks) i path off (off + length bytes) →
-          ContentStandsAt (current_words old) 0 (8 * i + 2) place → PreparesWith kept old middle (members blocks) (members after) i off (off + length bytes) bytes → Adds middle new (commit place (off + length bytes)) →
-          length after ≡ length blocks → AreExact (current_words new) kept after inodes
+      pub behind_exact_at : {in_snapshot : ℕ → Bool} (i : ℕ) → CanWriteThawed in_snapshot old blocks inodes i offset bytes → size_of (current_words old) i ≤ offset → CanPrepare in_snapshot old (members blocks) i path offset (offset + length bytes) →
+          ContentStandsAt (current_words old) 0 (8 * i + 2) place → PreparesWith in_snapshot old middle (members blocks) (members after) i offset (offset + length bytes) bytes → Adds middle new (commit place (offset + length bytes)) →
+          length after ≡ length blocks → AreExact (current_words new) in_snapshot after inodes
       behind_exact_at zero can = λ behind prepares stands prepared stored room. not_inodes _ can
-      behind_exact_at (suc n) can = λ behind prepares stands prepared stored room. behind_exact old blocks inodes n off bytes can behind middle new after path place prepares stands prepared stored room
+      behind_exact_at (suc n) can = λ behind prepares stands prepared stored room. behind_exact old blocks inodes n offset bytes can behind middle new after path place prepares stands prepared stored room

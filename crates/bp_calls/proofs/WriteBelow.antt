@@ -46,11 +46,11 @@ use Rattle.bp_layout.specs.WordPaths.{WordPath}
 use Rattle.bp_calls.proofs.PatchCommits.{exists_as, or_false}
 
 -- a write below the size prepares nothing, so it covers what it covers now
-writes_now : (image : Image) (i off len : ℕ) → off + len ≤ size_of image i → cover_now image (writes i off len) ≡ cover image (writes i off len)
-writes_now image i off len below = now ∙ sym (ap by none)
+writes_now : (image : Image) (i offset len : ℕ) → offset + len ≤ size_of image i → cover_now image (writes i offset len) ≡ cover image (writes i offset len)
+writes_now image i offset len below = now ∙ sym (ap by none)
   where
-    none : beyond image (writes i off len) ≡ []
-    none = rw (le-ltb (size_of image i) (off + len) below) refl
+    none : beyond image (writes i offset len) ≡ []
+    none = rw (le-ltb (size_of image i) (offset + len) below) refl
 
     heights : List Beyond → ℕ → ℕ
     heights bs t = fold (λ h (b : Beyond). if b.tree == t then height_with (root_of image t) (size_of image t) b.to else h) (height_of (root_of image t)) (bs ++ [])
@@ -59,9 +59,9 @@ writes_now image i off len below = now ∙ sym (ap by none)
     there bs n = is_present image (root_of image n.0) (size_of image n.0) n.1 || list_any (same_node n) (flat_map (prepared_for image) bs) || list_any (same_node n) []
 
     by : List Beyond → WordPath
-    by bs = cover_of (λ path. there bs (pointed (heights bs) path)) (touched_at (heights bs) image (writes i off len))
+    by bs = cover_of (λ path. there bs (pointed (heights bs) path)) (touched_at (heights bs) image (writes i offset len))
 
-    now : cover_now image (writes i off len) ≡ by []
+    now : cover_now image (writes i offset len) ≡ by []
     now = exists_as (is_there_now image) (λ path. there [] (pointed (heights []) path)) (λ path. or_false (is_there_now image path)) [] _
 
 -- The run is all that is touched.
@@ -71,16 +71,16 @@ record IsRunAlone (image : Image) (i : ℕ) (touched : Touched) (run : Run) : Ty
   pub no_trees : touched.trees.now ≡ []
   pub of : IsRunOf image i run
 
--- What a commit of the run asks. Where nothing is left to thaw its one store in place goes to no kept block.
-record CanCommitRun (kept : ℕ → Bool) (memory : Memory) (blocks : Set) (i : ℕ) (touched : Touched) (run : Run) : Type 0 where
-  pub can : CanCommit (current_words memory) (size_of (current_words memory)) kept touched (has blocks)
-  pub need_is : copied_count (current_words memory) touched ≡ need (current_words memory) (writes i run.off (length run.bytes.now))
+-- What a commit of the run asks. Where nothing is left to thaw its one store in place goes to no block of the snapshot.
+record CanCommitRun (in_snapshot : ℕ → Bool) (memory : Memory) (blocks : Set) (i : ℕ) (touched : Touched) (run : Run) : Type 0 where
+  pub can : CanCommit (current_words memory) (size_of (current_words memory)) in_snapshot touched (has blocks)
+  pub need_is : copied_count (current_words memory) touched ≡ need (current_words memory) (writes i run.offset (length run.bytes.now))
   pub few : copied_count (current_words memory) touched ≤ 320
-  pub cover_is : commit_cover (current_words memory) touched ≡ cover_now (current_words memory) (writes i run.off (length run.bytes.now))
-  pub room : HasRoomThawed memory blocks (writes i run.off (length run.bytes.now)) → copied_count (current_words memory) touched ≤ length (members blocks) → HasRoom memory touched
-  pub loose : thawed (current_words memory) kept (writes i run.off (length run.bytes.now)) ≡ [] → HasLooseCover (current_words memory) kept touched
+  pub cover_is : commit_cover (current_words memory) touched ≡ cover_now (current_words memory) (writes i run.offset (length run.bytes.now))
+  pub room : HasRoomThawed memory blocks (writes i run.offset (length run.bytes.now)) → copied_count (current_words memory) touched ≤ length (members blocks) → HasRoom memory touched
+  pub loose : thawed (current_words memory) in_snapshot (writes i run.offset (length run.bytes.now)) ≡ [] → HasLooseCover (current_words memory) in_snapshot touched
 
-module _ {kept : ℕ → Bool} (old : Memory) (blocks inodes : Set) (n : ℕ) (touched : Touched) (run : Run) (is : IsRunAlone (current_words old) (suc n) touched run) (asks : CanWriteInto kept (current_words old) blocks inodes (suc n) run.off run.bytes.now) where
+module _ {in_snapshot : ℕ → Bool} (old : Memory) (blocks inodes : Set) (n : ℕ) (touched : Touched) (run : Run) (is : IsRunAlone (current_words old) (suc n) touched run) (asks : CanWriteInto in_snapshot (current_words old) blocks inodes (suc n) run.offset run.bytes.now) where
   abbrev image : Image
   image = current_words old
 
@@ -112,36 +112,36 @@ module _ {kept : ℕ → Bool} (old : Memory) (blocks inodes : Set) (n : ℕ) (t
     some = omega (arith, leaves);
   }
 
-  can : CanCommit image (size_of image) kept touched (has blocks)
+  can : CanCommit image (size_of image) in_snapshot touched (has blocks)
   can = runs_can image wf touched shape (has blocks) asks.exact.free_blocks (no_trees (IsTreeIn image (size_of image)) is.no_trees) none (λ r has. subst (IsRunIn image (size_of image)) (only r has) (run_in image wf n asks.can.reached run is.of))
 
-  copies_need : copied_count image touched ≡ need image (writes (suc n) run.off (length run.bytes.now))
+  copies_need : copied_count image touched ≡ need image (writes (suc n) run.offset (length run.bytes.now))
   copies_need = run_need image wf (size_of image) touched (has blocks) can run n is.one is.no_words asks.can.reached is.of.root is.of.height is.of.some is.of.below
 
-  cover_is : commit_cover image touched ≡ cover image (writes (suc n) run.off (length run.bytes.now))
+  cover_is : commit_cover image touched ≡ cover image (writes (suc n) run.offset (length run.bytes.now))
   cover_is = run_cover image wf (size_of image) touched (has blocks) can run n is.one is.no_words asks.can.reached is.of.root is.of.height is.of.some is.of.below
 
-  below_loose : thawed image kept (writes (suc n) run.off (length run.bytes.now)) ≡ [] → HasLooseCover image kept touched
+  below_loose : thawed image in_snapshot (writes (suc n) run.offset (length run.bytes.now)) ≡ [] → HasLooseCover image in_snapshot touched
   below_loose clear =
-      let among : Has (targets image (writes (suc n) run.off (length run.bytes.now))) (commit_cover image touched) =
-      inl (writes_now image (suc n) run.off (length run.bytes.now) is.of.below ∙ sym cover_is) in
-      run_loose image wf n asks.can.reached run is.of kept touched shape here
-      (loose-on image kept (targets image (writes (suc n) run.off (length run.bytes.now))) clear (commit_cover image touched) among (length (commit_cover image touched) - 1))
+      let among : Has (targets image (writes (suc n) run.offset (length run.bytes.now))) (commit_cover image touched) =
+      inl (writes_now image (suc n) run.offset (length run.bytes.now) is.of.below ∙ sym cover_is) in
+      run_loose image wf n asks.can.reached run is.of in_snapshot touched shape here
+      (loose-on image in_snapshot (targets image (writes (suc n) run.offset (length run.bytes.now))) clear (commit_cover image touched) among (length (commit_cover image touched) - 1))
 
-  below_can : CanCommitRun kept old blocks (suc n) touched run
+  below_can : CanCommitRun in_snapshot old blocks (suc n) touched run
   below_can = record {
     can = can;
     need_is = copies_need;
     few = let most = few_copies image (size_of image) touched (has blocks) wf can run is.one in omega (arith, most, few_leaves run asks.can.short, none);
-    cover_is = cover_is ∙ sym (writes_now image (suc n) run.off (length run.bytes.now) is.of.below);
+    cover_is = cover_is ∙ sym (writes_now image (suc n) run.offset (length run.bytes.now) is.of.below);
     loose = below_loose;
     room = λ asked enough.
         let few = few_copies image (size_of image) touched (has blocks) wf can run is.one in
-        let room : room_for (need image (writes (suc n) run.off (length run.bytes.now))) ≤ room_in old + 2 = asked (omega (arith, copies_need, enough)) in
+        let room : room_for (need image (writes (suc n) run.offset (length run.bytes.now))) ≤ room_in old + 2 = asked (omega (arith, copies_need, enough)) in
         omega (arith, few, few_leaves run asks.can.short, none, copies_need, room);
   }
 
-  module _ (new : Memory) (after : Set) (small : (i : ℕ) → slice_index run.bytes.now i < 256) (done : CommitsTouched (size_of (current_words old)) kept touched old new blocks after) where
+  module _ (new : Memory) (after : Set) (small : (i : ℕ) → slice_index run.bytes.now i < 256) (done : CommitsTouched (size_of (current_words old)) in_snapshot touched old new blocks after) where
     abbrev turned : ℕ
     turned = length (commit_cover image touched)
 
@@ -158,61 +158,61 @@ module _ {kept : ℕ → Bool} (old : Memory) (blocks inodes : Set) (n : ℕ) (t
         go (inl e) = subst (λ x. size_of (current_words new) x ≡ size_of image x) (sym e) size_is
         go (inr other) = changes.size t reached other
 
-    below_writes : WritesFile (suc n) run.off run.bytes.now image (current_words new)
+    below_writes : WritesFile (suc n) run.offset run.bytes.now image (current_words new)
     below_writes =
         commit_writes_file image (current_words new) (suc n) run run.bytes.now changes
-        (sym (take_all (size_of image (suc n) - run.off) run.bytes.now (omega (arith, is.of.below)))) (omega (arith, is.of.below)) (omega (arith, size_is, is.of.below))
+        (sym (take_all (size_of image (suc n) - run.offset) run.bytes.now (omega (arith, is.of.below)))) (omega (arith, is.of.below)) (omega (arith, size_is, is.of.below))
         (run_bytes image (current_words new) wf touched (has blocks) can run n is.one none asks.can.reached asks.can.file is.of.root is.of.height is.of.some is.of.below small (IsTurned (job_of touched) turned) done.words)
         (λ o past low. absurd (omega (arith, past, low, size_is)))
 
-    below_performs : PerformsThawed kept old new (writes (suc n) run.off (length run.bytes.now)) (WritesFile (suc n) run.off run.bytes.now)
+    below_performs : PerformsThawed in_snapshot old new (writes (suc n) run.offset (length run.bytes.now)) (WritesFile (suc n) run.offset run.bytes.now)
     below_performs =
-        commit_performs old new (writes (suc n) run.off (length run.bytes.now)) (WritesFile (suc n) run.off run.bytes.now) (size_of image) touched blocks after done
+        commit_performs old new (writes (suc n) run.offset (length run.bytes.now)) (WritesFile (suc n) run.offset run.bytes.now) (size_of image) touched blocks after done
         (run_cover image wf (size_of image) touched (has blocks) can run n is.one is.no_words asks.can.reached is.of.root is.of.height is.of.some is.of.below) copies_need
         (let few = stores_few image (size_of image) touched (has blocks) wf can in omega (arith, few, leaves, few_leaves run asks.can.short, none, copies_need))
-        (run_open image wf n asks.can.reached run is.of kept touched shape here done.loose done.taken)
+        (run_open image wf n asks.can.reached run is.of in_snapshot touched shape here done.loose done.taken)
         (well_formed-same image (current_words new) (suc n) wf changes) below_writes
 
-    below_exact : length after ≡ length blocks → AreExact (current_words new) kept after inodes
+    below_exact : length after ≡ length blocks → AreExact (current_words new) in_snapshot after inodes
     below_exact room = commit_exact image (current_words new) wf (keeps image (current_words new) (suc n) wf changes) (size_of image) sizes blocks after inodes asks.exact room done.exact
 
 -- ---- by the number of the inode
 
-module _ {kept : ℕ → Bool} (old : Memory) (blocks inodes : Set) (touched : Touched) (run : Run) where
-  not_inodes : (P : Type 0) → CanWriteInto kept (current_words old) blocks inodes 0 run.off run.bytes.now → P
+module _ {in_snapshot : ℕ → Bool} (old : Memory) (blocks inodes : Set) (touched : Touched) (run : Run) where
+  not_inodes : (P : Type 0) → CanWriteInto in_snapshot (current_words old) blocks inodes 0 run.offset run.bytes.now → P
   not_inodes P asks = absurd (omega (arith, asks.can.file))
 
-  can_at : (i : ℕ) → IsRunAlone (current_words old) i touched run → CanWriteInto kept (current_words old) blocks inodes i run.off run.bytes.now → CanCommitRun kept old blocks i touched run
+  can_at : (i : ℕ) → IsRunAlone (current_words old) i touched run → CanWriteInto in_snapshot (current_words old) blocks inodes i run.offset run.bytes.now → CanCommitRun in_snapshot old blocks i touched run
   can_at zero is asks = not_inodes _ asks
   can_at (suc n) is asks = below_can old blocks inodes n touched run is asks
 
-  module _ (new : Memory) (after : Set) (small : (i : ℕ) → slice_index run.bytes.now i < 256) (done : CommitsTouched (size_of (current_words old)) kept touched old new blocks after) where
-    performs_at : (i : ℕ) → IsRunAlone (current_words old) i touched run → CanWriteInto kept (current_words old) blocks inodes i run.off run.bytes.now → PerformsThawed kept old new (writes i run.off (length run.bytes.now)) (WritesFile i run.off run.bytes.now)
+  module _ (new : Memory) (after : Set) (small : (i : ℕ) → slice_index run.bytes.now i < 256) (done : CommitsTouched (size_of (current_words old)) in_snapshot touched old new blocks after) where
+    performs_at : (i : ℕ) → IsRunAlone (current_words old) i touched run → CanWriteInto in_snapshot (current_words old) blocks inodes i run.offset run.bytes.now → PerformsThawed in_snapshot old new (writes i run.offset (length run.bytes.now)) (WritesFile i run.offset run.bytes.now)
     performs_at zero is asks = not_inodes _ asks
     performs_at (suc n) is asks = below_performs old blocks inodes n touched run is asks new after small done
 
-    exact_at : (i : ℕ) → IsRunAlone (current_words old) i touched run → CanWriteInto kept (current_words old) blocks inodes i run.off run.bytes.now → length after ≡ length blocks → AreExact (current_words new) kept after inodes
+    exact_at : (i : ℕ) → IsRunAlone (current_words old) i touched run → CanWriteInto in_snapshot (current_words old) blocks inodes i run.offset run.bytes.now → length after ≡ length blocks → AreExact (current_words new) in_snapshot after inodes
     exact_at zero is asks = λ room. not_inodes _ asks
     exact_at (suc n) is asks = λ room. below_exact old blocks inodes n touched run is asks new after small done room
 
 -- ---- by what is touched
 
-module _ {image : Image} {i off : ℕ} {bytes : List ℕ} {run : Run} (is : IsRunFor image i off bytes run) where
+module _ {image : Image} {i offset : ℕ} {bytes : List ℕ} {run : Run} (is : IsRunFor image i offset bytes run) where
   -- what holds of the offset and the bytes holds of the run's
-  pub of_run : (P : ℕ → List ℕ → Type 0) → P off bytes → P run.off run.bytes.now
-  of_run P here = subst (λ o. P o run.bytes.now) (sym is.from) (subst (λ (bs : List ℕ). P off bs) (sym is.bytes_are) here)
+  pub of_run : (P : ℕ → List ℕ → Type 0) → P offset bytes → P run.offset run.bytes.now
+  of_run P here = subst (λ o. P o run.bytes.now) (sym is.from) (subst (λ (bs : List ℕ). P offset bs) (sym is.bytes_are) here)
 
   -- and back
-  pub from_run : (P : ℕ → List ℕ → Type 0) → P run.off run.bytes.now → P off bytes
-  from_run P there = subst (λ o. P o bytes) is.from (subst (λ (bs : List ℕ). P run.off bs) is.bytes_are there)
+  pub from_run : (P : ℕ → List ℕ → Type 0) → P run.offset run.bytes.now → P offset bytes
+  from_run P there = subst (λ o. P o bytes) is.from (subst (λ (bs : List ℕ). P run.offset bs) is.bytes_are there)
 
-module _ {kept : ℕ → Bool} {old : Memory} {blocks inodes : Set} {i off : ℕ} {bytes : List ℕ} {touched : Touched}
-    (write : WritesBelow kept old blocks inodes i off bytes touched) where
+module _ {in_snapshot : ℕ → Bool} {old : Memory} {blocks inodes : Set} {i offset : ℕ} {bytes : List ℕ} {touched : Touched}
+    (write : WritesBelow in_snapshot old blocks inodes i offset bytes touched) where
   abbrev run : Run
   run = write.touches.run
 
-  asks : CanWriteInto kept (current_words old) blocks inodes i run.off run.bytes.now
-  asks = of_run write.touches.is (CanWriteInto kept (current_words old) blocks inodes i) write.into
+  asks : CanWriteInto in_snapshot (current_words old) blocks inodes i run.offset run.bytes.now
+  asks = of_run write.touches.is (CanWriteInto in_snapshot (current_words old) blocks inodes i) write.into
 
   alone : IsRunAlone (current_words old) i touched run
   alone = record {
@@ -229,10 +229,10 @@ module _ {kept : ℕ → Bool} {old : Memory} {blocks inodes : Set} {i off : ℕ
     };
   }
 
-  ready : CanCommitRun kept old blocks i touched run
+  ready : CanCommitRun in_snapshot old blocks i touched run
   ready = can_at old blocks inodes touched run i alone asks
 
-  pub write_can : CanCommit (current_words old) (size_of (current_words old)) kept touched (has blocks)
+  pub write_can : CanCommit (current_words old) (size_of (current_words old)) in_snapshot touched (has blocks)
   write_can = ready.can
 
   pub write_inside : LeadsInside (current_words old) touched
@@ -242,39 +242,39 @@ module _ {kept : ℕ → Bool} {old : Memory} {blocks inodes : Set} {i off : ℕ
   write_apart = none-begins (current_words old) (size_of (current_words old)) touched (has blocks) write.into.well_formed write_can
 
   -- so many blocks it takes, and near its cover it stores
-  pub write_needs : copied_count (current_words old) touched ≡ need (current_words old) (writes i off (length bytes))
+  pub write_needs : copied_count (current_words old) touched ≡ need (current_words old) (writes i offset (length bytes))
   write_needs =
       from_run write.touches.is (λ o bs. copied_count (current_words old) touched ≡ need (current_words old) (writes i o (length bs))) ready.need_is
 
   pub write_few : copied_count (current_words old) touched ≤ 320
   write_few = ready.few
 
-  pub write_cover : commit_cover (current_words old) touched ≡ cover_now (current_words old) (writes i off (length bytes))
+  pub write_cover : commit_cover (current_words old) touched ≡ cover_now (current_words old) (writes i offset (length bytes))
   write_cover =
       from_run write.touches.is (λ o bs. commit_cover (current_words old) touched ≡ cover_now (current_words old) (writes i o (length bs))) ready.cover_is
 
-  pub write_room : HasRoomThawed old blocks (writes i off (length bytes)) → copied_count (current_words old) touched ≤ length (members blocks) → HasRoom old touched
+  pub write_room : HasRoomThawed old blocks (writes i offset (length bytes)) → copied_count (current_words old) touched ≤ length (members blocks) → HasRoom old touched
   write_room asked = ready.room (of_run write.touches.is (λ o bs. HasRoomThawed old blocks (writes i o (length bs))) asked)
 
-  pub write_loose : thawed (current_words old) kept (writes i off (length bytes)) ≡ [] → HasLooseCover (current_words old) kept touched
-  write_loose clear = ready.loose (of_run write.touches.is (λ o bs. thawed (current_words old) kept (writes i o (length bs)) ≡ []) clear)
+  pub write_loose : thawed (current_words old) in_snapshot (writes i offset (length bytes)) ≡ [] → HasLooseCover (current_words old) in_snapshot touched
+  write_loose clear = ready.loose (of_run write.touches.is (λ o bs. thawed (current_words old) in_snapshot (writes i o (length bs)) ≡ []) clear)
 
   pub write_lacks : (copies free : ℕ) → copies ≡ copied_count (current_words old) touched → free ≡ length (members blocks) → free < copies →
-      LacksBlocks (current_words old) kept (need (current_words old) (writes i off (length bytes))) (record { need = copies; free = free })
+      LacksBlocks (current_words old) in_snapshot (need (current_words old) (writes i offset (length bytes))) (record { need = copies; free = free })
   write_lacks copies free counted number fewer = record {
     needed = sym (counted ∙ write_needs);
-    free = subst (HasFree (current_words old) kept) (sym number) (free_members (current_words old) kept blocks write.into.exact.free_blocks write.into.exact.block_room);
+    free = subst (HasFree (current_words old) in_snapshot) (sym number) (free_members (current_words old) in_snapshot blocks write.into.exact.free_blocks write.into.exact.block_room);
     fewer = fewer;
   }
 
-  module _ (new : Memory) (after : Set) (small : (k : ℕ) → slice_index bytes k < 256) (done : CommitsTouched (size_of (current_words old)) kept touched old new blocks after) where
+  module _ (new : Memory) (after : Set) (small : (k : ℕ) → slice_index bytes k < 256) (done : CommitsTouched (size_of (current_words old)) in_snapshot touched old new blocks after) where
     run_small : (k : ℕ) → slice_index run.bytes.now k < 256
     run_small = of_run write.touches.is (λ o bs. (k : ℕ) → slice_index bs k < 256) small
 
-    pub write_performs : PerformsThawed kept old new (writes i off (length bytes)) (WritesFile i off bytes)
+    pub write_performs : PerformsThawed in_snapshot old new (writes i offset (length bytes)) (WritesFile i offset bytes)
     write_performs =
-        from_run write.touches.is (λ o bs. PerformsThawed kept old new (writes i o (length bs)) (WritesFile i o bs))
+        from_run write.touches.is (λ o bs. PerformsThawed in_snapshot old new (writes i o (length bs)) (WritesFile i o bs))
         (performs_at old blocks inodes touched run new after run_small done i alone asks)
 
-    pub write_exact : length after ≡ length blocks → AreExact (current_words new) kept after inodes
+    pub write_exact : length after ≡ length blocks → AreExact (current_words new) in_snapshot after inodes
     write_exact = exact_at old blocks inodes touched run new after run_small done i alone asks

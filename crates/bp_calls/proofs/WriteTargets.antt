@@ -90,12 +90,12 @@ module _ (image : Image) (wf : IsWellFormed image) (n : ℕ) (reached : IsReache
     growing_ways path has =
         behind_ways (inode_path (heights_now image 0) (suc n) 2) (inode_way image wf (suc n) 2 reached (omega arith)) path (subst (λ ps. Has ps path) growing_targets has)
 
-  module _ (off len : ℕ) where
+  module _ (offset len : ℕ) where
     abbrev change : Change
-    change = writes (suc n) off len
+    change = writes (suc n) offset len
 
     abbrev words : Bool → List ℕ
-    words starts = if starts then range_with_len (off / 8) (suc ((min (off + len) (size_of image (suc n)) - 1) / 8 - off / 8)) else []
+    words starts = if starts then range_with_len (offset / 8) (suc ((min (offset + len) (size_of image (suc n)) - 1) / 8 - offset / 8)) else []
 
     abbrev touched_by : Bool → Bool → List WordPath
     touched_by starts longer = map (content_path_at (heights_now image) (suc n)) (words starts) ++ (if longer then size_way ∷ [] else [])
@@ -103,18 +103,18 @@ module _ (image : Image) (wf : IsWellFormed image) (n : ℕ) (reached : IsReache
     abbrev covered : Bool → Bool → WordPath
     covered starts longer = cover_of (is_there_now image) (touched_by starts longer)
 
-    past_targets : size_of image (suc n) < off + len → targets image (writes (suc n) off len) ≡ behind_cover (cover_now image (writes (suc n) off len))
+    past_targets : size_of image (suc n) < offset + len → targets image (writes (suc n) offset len) ≡ behind_cover (cover_now image (writes (suc n) offset len))
     past_targets past =
-        ap (λ (longer : Bool). cover_now image change ∷ flat_map (end_targets image) ((if longer then record { tree = suc n; from = max off (size_of image (suc n)); to = off + len } ∷ [] else []) ++ []) ++ []) (lt-ltb (size_of image (suc n)) (off + len) past)
+        ap (λ (longer : Bool). cover_now image change ∷ flat_map (end_targets image) ((if longer then record { tree = suc n; from = max offset (size_of image (suc n)); to = offset + len } ∷ [] else []) ++ []) ++ []) (lt-ltb (size_of image (suc n)) (offset + len) past)
 
     -- ---- behind the size
 
-    behind_covered : size_of image (suc n) ≤ off → size_of image (suc n) < off + len → cover_now image (writes (suc n) off len) ≡ inode_path (heights_now image 0) (suc n) 2
+    behind_covered : size_of image (suc n) ≤ offset → size_of image (suc n) < offset + len → cover_now image (writes (suc n) offset len) ≡ inode_path (heights_now image 0) (suc n) 2
     behind_covered behind past =
-        ap₂ covered (le-ltb off (size_of image (suc n)) behind) (lt-ltb (size_of image (suc n)) (off + len) past)
+        ap₂ covered (le-ltb offset (size_of image (suc n)) behind) (lt-ltb (size_of image (suc n)) (offset + len) past)
         ∙ cover_of-one (is_there_now image) size_way size_there
 
-    pub behind_targets : size_of image (suc n) ≤ off → size_of image (suc n) < off + len → targets image (writes (suc n) off len) ≡ behind_cover (inode_path (heights_now image 0) (suc n) 2)
+    pub behind_targets : size_of image (suc n) ≤ offset → size_of image (suc n) < offset + len → targets image (writes (suc n) offset len) ≡ behind_cover (inode_path (heights_now image 0) (suc n) 2)
     behind_targets behind past = past_targets past ∙ ap behind_cover (behind_covered behind past)
 
     -- ---- across it
@@ -139,46 +139,46 @@ module _ (image : Image) (wf : IsWellFormed image) (n : ℕ) (reached : IsReache
     leaf_there : AllThere (is_there_now image) [] leaf
     leaf_there = there_front (is_there_now image) [] leaf ((8 * suc n + 1) % 512 ∷ []) (inode_path-now image wf (suc n) 1 reached (omega arith))
 
-    pub across_covered : off < size_of image (suc n) → size_of image (suc n) < off + len → cover_now image (writes (suc n) off len) ≡ leaf_path (heights_now image 0) (suc n)
+    pub across_covered : offset < size_of image (suc n) → size_of image (suc n) < offset + len → cover_now image (writes (suc n) offset len) ≡ leaf_path (heights_now image 0) (suc n)
     across_covered below past =
-        ap₂ covered (lt-ltb off (size_of image (suc n)) below) (lt-ltb (size_of image (suc n)) (off + len) past)
-        ∙ ap (existing_from (is_there_now image) []) (common_leaf (content_path_at (heights_now image) (suc n)) leaf ((8 * suc n + 1) % 512) ((8 * suc n + 2) % 512) size_way (omega arith) content_goes (inode_goes 2 (omega arith)) (off / 8)
-        ((min (off + len) (size_of image (suc n)) - 1) / 8 - off / 8))
+        ap₂ covered (lt-ltb offset (size_of image (suc n)) below) (lt-ltb (size_of image (suc n)) (offset + len) past)
+        ∙ ap (existing_from (is_there_now image) []) (common_leaf (content_path_at (heights_now image) (suc n)) leaf ((8 * suc n + 1) % 512) ((8 * suc n + 2) % 512) size_way (omega arith) content_goes (inode_goes 2 (omega arith)) (offset / 8)
+        ((min (offset + len) (size_of image (suc n)) - 1) / 8 - offset / 8))
         ∙ existing-all (is_there_now image) [] leaf leaf_there
 
-    pub across_targets : off < size_of image (suc n) → size_of image (suc n) < off + len → targets image (writes (suc n) off len) ≡ behind_cover (leaf_path (heights_now image 0) (suc n))
+    pub across_targets : offset < size_of image (suc n) → size_of image (suc n) < offset + len → targets image (writes (suc n) offset len) ≡ behind_cover (leaf_path (heights_now image 0) (suc n))
     across_targets below past = past_targets past ∙ ap behind_cover (across_covered below past)
 
     -- ---- below it
 
-    pub below_targets : off + len ≤ size_of image (suc n) → targets image (writes (suc n) off len) ≡ cover_now image (writes (suc n) off len) ∷ []
+    pub below_targets : offset + len ≤ size_of image (suc n) → targets image (writes (suc n) offset len) ≡ cover_now image (writes (suc n) offset len) ∷ []
     below_targets within =
-        ap (λ (longer : Bool). cover_now image change ∷ flat_map (end_targets image) ((if longer then record { tree = suc n; from = max off (size_of image (suc n)); to = off + len } ∷ [] else []) ++ []) ++ []) (le-ltb (size_of image (suc n)) (off + len) within)
+        ap (λ (longer : Bool). cover_now image change ∷ flat_map (end_targets image) ((if longer then record { tree = suc n; from = max offset (size_of image (suc n)); to = offset + len } ∷ [] else []) ++ []) ++ []) (le-ltb (size_of image (suc n)) (offset + len) within)
 
     -- ---- the ways
 
-    covering_way : 1 ≤ len → IsWayIn image (cover_now image (writes (suc n) off len))
-    covering_way some = go (cases_lt off (size_of image (suc n)))
+    covering_way : 1 ≤ len → IsWayIn image (cover_now image (writes (suc n) offset len))
+    covering_way some = go (cases_lt offset (size_of image (suc n)))
       where
-        go : (off < size_of image (suc n)) ⊎ (size_of image (suc n) ≤ off) → IsWayIn image (cover_now image (writes (suc n) off len))
+        go : (offset < size_of image (suc n)) ⊎ (size_of image (suc n) ≤ offset) → IsWayIn image (cover_now image (writes (suc n) offset len))
         go (inl low) =
-            cover_way image wf (touched_at (heights_now image) image change) (content_path_at (heights_now image) (suc n) (off / 8))
-            (subst (λ s. Has (touched_by s (nat_lt (size_of image (suc n)) (off + len))) (content_path_at (heights_now image) (suc n) (off / 8))) (sym (lt-ltb off (size_of image (suc n)) low)) (inl refl))
-            (content_way image wf (suc n) (off / 8) reached (omega (arith, low)))
+            cover_way image wf (touched_at (heights_now image) image change) (content_path_at (heights_now image) (suc n) (offset / 8))
+            (subst (λ s. Has (touched_by s (nat_lt (size_of image (suc n)) (offset + len))) (content_path_at (heights_now image) (suc n) (offset / 8))) (sym (lt-ltb offset (size_of image (suc n)) low)) (inl refl))
+            (content_way image wf (suc n) (offset / 8) reached (omega (arith, low)))
         go (inr past) =
             cover_way image wf (touched_at (heights_now image) image change) size_way
-            (subst (λ s. Has (touched_by (nat_lt off (size_of image (suc n))) s) size_way) (sym (lt-ltb (size_of image (suc n)) (off + len) (omega (arith, past, some))))
-            (has-behind (map (content_path_at (heights_now image) (suc n)) (words (nat_lt off (size_of image (suc n))))) (size_way ∷ []) size_way (inl refl)))
+            (subst (λ s. Has (touched_by (nat_lt offset (size_of image (suc n))) s) size_way) (sym (lt-ltb (size_of image (suc n)) (offset + len) (omega (arith, past, some))))
+            (has-behind (map (content_path_at (heights_now image) (suc n)) (words (nat_lt offset (size_of image (suc n))))) (size_way ∷ []) size_way (inl refl)))
             (inode_way image wf (suc n) 2 reached (omega arith))
 
-    pub write_ways : 1 ≤ len → (path : WordPath) → Has (targets image (writes (suc n) off len)) path → IsWayIn image path
-    write_ways some path has = go (cases_lt (size_of image (suc n)) (off + len))
+    pub write_ways : 1 ≤ len → (path : WordPath) → Has (targets image (writes (suc n) offset len)) path → IsWayIn image path
+    write_ways some path has = go (cases_lt (size_of image (suc n)) (offset + len))
       where
-        alone : Has (cover_now image (writes (suc n) off len) ∷ []) path → IsWayIn image path
+        alone : Has (cover_now image (writes (suc n) offset len) ∷ []) path → IsWayIn image path
         alone one = elim one [ inl e ↦ subst (IsWayIn image) e (covering_way some) | inr never ↦ absurd never ]
 
-        go : (size_of image (suc n) < off + len) ⊎ (off + len ≤ size_of image (suc n)) → IsWayIn image path
-        go (inl past) = behind_ways (cover_now image (writes (suc n) off len)) (covering_way some) path (subst (λ ps. Has ps path) (past_targets past) has)
+        go : (size_of image (suc n) < offset + len) ⊎ (offset + len ≤ size_of image (suc n)) → IsWayIn image path
+        go (inl past) = behind_ways (cover_now image (writes (suc n) offset len)) (covering_way some) path (subst (λ ps. Has ps path) (past_targets past) has)
         go (inr within) = alone (subst (λ ps. Has ps path) (below_targets within) has)
 
 -- ---- paths as they are read
@@ -215,18 +215,18 @@ module _ (image : Image) (wf : IsWellFormed image) where
   growing_ways_at zero size some reached longer = absurd (omega (arith, some))
   growing_ways_at (suc n) size some reached longer = growing_ways image wf n reached size longer
 
-  pub behind_at : (i off len : ℕ) → 1 ≤ i → IsReached image i → size_of image i ≤ off → 1 ≤ len → targets image (writes i off len) ≡ with_end image (inode_path (heights_now image 0) i 2) i
-  behind_at zero off len some reached behind more = absurd (omega (arith, some))
-  behind_at (suc n) off len some reached behind more = behind_targets image wf n reached off len behind (omega (arith, behind, more))
+  pub behind_at : (i offset len : ℕ) → 1 ≤ i → IsReached image i → size_of image i ≤ offset → 1 ≤ len → targets image (writes i offset len) ≡ with_end image (inode_path (heights_now image 0) i 2) i
+  behind_at zero offset len some reached behind more = absurd (omega (arith, some))
+  behind_at (suc n) offset len some reached behind more = behind_targets image wf n reached offset len behind (omega (arith, behind, more))
 
-  pub across_at : (i off len : ℕ) → 1 ≤ i → IsReached image i → off < size_of image i → size_of image i < off + len → targets image (writes i off len) ≡ with_end image (leaf_path (heights_now image 0) i) i
-  across_at zero off len some reached below past = absurd (omega (arith, some))
-  across_at (suc n) off len some reached below past = across_targets image wf n reached off len below past
+  pub across_at : (i offset len : ℕ) → 1 ≤ i → IsReached image i → offset < size_of image i → size_of image i < offset + len → targets image (writes i offset len) ≡ with_end image (leaf_path (heights_now image 0) i) i
+  across_at zero offset len some reached below past = absurd (omega (arith, some))
+  across_at (suc n) offset len some reached below past = across_targets image wf n reached offset len below past
 
-  pub below_at : (i off len : ℕ) → 1 ≤ i → IsReached image i → off + len ≤ size_of image i → targets image (writes i off len) ≡ cover_now image (writes i off len) ∷ []
-  below_at zero off len some reached within = absurd (omega (arith, some))
-  below_at (suc n) off len some reached within = below_targets image wf n reached off len within
+  pub below_at : (i offset len : ℕ) → 1 ≤ i → IsReached image i → offset + len ≤ size_of image i → targets image (writes i offset len) ≡ cover_now image (writes i offset len) ∷ []
+  below_at zero offset len some reached within = absurd (omega (arith, some))
+  below_at (suc n) offset len some reached within = below_targets image wf n reached offset len within
 
-  pub write_ways_at : (i off len : ℕ) → 1 ≤ i → IsReached image i → 1 ≤ len → (path : WordPath) → Has (targets image (writes i off len)) path → IsWayIn image path
-  write_ways_at zero off len some reached more = absurd (omega (arith, some))
-  write_ways_at (suc n) off len some reached more = write_ways image wf n reached off len more
+  pub write_ways_at : (i offset len : ℕ) → 1 ≤ i → IsReached image i → 1 ≤ len → (path : WordPath) → Has (targets image (writes i offset len)) path → IsWayIn image path
+  write_ways_at zero offset len some reached more = absurd (omega (arith, some))
+  write_ways_at (suc n) offset len some reached more = write_ways image wf n reached offset len more

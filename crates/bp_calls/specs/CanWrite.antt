@@ -15,22 +15,22 @@ use Rattle.bp_layout.specs.Thaw.{thawed}
 
 -- Inode `i` is a file. There are bytes, no more than one call may write, and they end within the greatest size of a
 -- file in the image's version.
-pub record CanWrite (image : Image) (i off : ℕ) (bytes : List ℕ) : Type 0 where
+pub record CanWrite (image : Image) (i offset : ℕ) (bytes : List ℕ) : Type 0 where
   pub reached : IsReached image i
   pub file : IsFile image i
   pub some : 1 ≤ length bytes
   pub short : length bytes ≤ max_write
-  pub fits : off + length bytes ≤ greatest_size (version_of image)
+  pub fits : offset + length bytes ≤ greatest_size (version_of image)
 
 -- `CanWrite`, in a well-formed image with exact sets.
-pub record CanWriteInto (kept : ℕ → Bool) (image : Image) (blocks inodes : Set) (i off : ℕ) (bytes : List ℕ)
+pub record CanWriteInto (in_snapshot : ℕ → Bool) (image : Image) (blocks inodes : Set) (i offset : ℕ) (bytes : List ℕ)
     : Type 0 where
   pub well_formed : IsWellFormed image
-  pub exact : AreExact image kept blocks inodes
-  pub can : CanWrite image i off bytes
+  pub exact : AreExact image in_snapshot blocks inodes
+  pub can : CanWrite image i offset bytes
 
 -- `CanWriteInto`, with no block left to thaw. If enough blocks are free, the log has room for the change.
-pub record CanWriteThawed (kept : ℕ → Bool) (memory : Memory) (blocks inodes : Set) (i off : ℕ) (bytes : List ℕ) : Type 0 where
-  pub into : CanWriteInto kept (current_words memory) blocks inodes i off bytes
-  pub clear : thawed (current_words memory) kept (writes i off (length bytes)) ≡ []
-  pub room : HasRoomThawed memory blocks (writes i off (length bytes))
+pub record CanWriteThawed (in_snapshot : ℕ → Bool) (memory : Memory) (blocks inodes : Set) (i offset : ℕ) (bytes : List ℕ) : Type 0 where
+  pub into : CanWriteInto in_snapshot (current_words memory) blocks inodes i offset bytes
+  pub clear : thawed (current_words memory) in_snapshot (writes i offset (length bytes)) ≡ []
+  pub room : HasRoomThawed memory blocks (writes i offset (length bytes))

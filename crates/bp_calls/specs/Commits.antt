@@ -12,27 +12,27 @@ use Rattle.bp_layout.specs.Paths.{Name}
 use Rattle.bp_layout.specs.Need.{Change, need}
 use Rattle.bp_layout.specs.Words.{Image}
 use Rattle.bp_layout.specs.declared.fields.Kind.{Kind}
-use Rattle.bp_shapes.specs.Sets.{IsExact, kept_of}
+use Rattle.bp_shapes.specs.Sets.{IsExact, in_snapshot_of}
 use Rattle.pm_region.specs.Memory.{Memory, current_words}
 
 -- The change is made, and no block was left to thaw before it. The sets and counts of the new parts are exactly those
--- of the new image, and the frozen blocks are the same.
+-- of the new image, and the blocks of the snapshot are the same.
 pub record CommitsChange {R : Type 0} (memory : R → Memory) (old new : Parts R) (change : Change)
     (Effect : Image → Image → Type 0) : Type 0 where
-  pub performs : PerformsThawed (kept_of old) (memory old.region) (memory new.region) change Effect
-  pub frozen : new.frozen ≡ old.frozen
+  pub performs : PerformsThawed (in_snapshot_of old) (memory old.region) (memory new.region) change Effect
+  pub snapshot_blocks : new.snapshot_blocks ≡ old.snapshot_blocks
   pub exact : IsExact (current_words (memory new.region)) new
 
 -- The change is made, with no block left to thaw before it; or fewer blocks are free than it needs, the error holds
 -- both numbers, and nothing has changed.
 pub record CommitsOrLacksBlocks {R T : Type 0} (memory : R → Memory) (old new : Parts R) (result : Result T NoSpace)
     (change : Change) (Effect : Image → Image → Type 0) : Type 0 where
-  pub performs : OnOk result (PerformsThawed (kept_of old) (memory old.region) (memory new.region) change Effect)
-  pub frozen : new.frozen ≡ old.frozen
+  pub performs : OnOk result (PerformsThawed (in_snapshot_of old) (memory old.region) (memory new.region) change Effect)
+  pub snapshot_blocks : new.snapshot_blocks ≡ old.snapshot_blocks
   pub exact : IsExact (current_words (memory new.region)) new
-  pub refused : IfErr result (LacksBlocks (current_words (memory old.region)) (kept_of old)
+  pub refused : IfErr result (LacksBlocks (current_words (memory old.region)) (in_snapshot_of old)
       (need (current_words (memory old.region)) change))
-  pub free : IfErr result (λ lacks. lacks.free ≡ length (members old.blocks))
+  pub free : IfErr result (λ lacks. lacks.free ≡ length (members old.free_blocks))
   pub same : OnErr result (new ≡ old)
 
 -- The effect of a whole call, which first thaws the blocks of the snapshot on the paths to its change. Its need
@@ -40,10 +40,10 @@ pub record CommitsOrLacksBlocks {R T : Type 0} (memory : R → Memory) (old new 
 -- the error holds both numbers, and nothing has changed.
 pub record CommitsOrLacksSpace {R T : Type 0} (memory : R → Memory) (old new : Parts R) (result : Result T NoSpace)
     (change : Change) (Effect : Image → Image → Type 0) : Type 0 where
-  pub performs : OnOk result (Performs (kept_of old) (memory old.region) (memory new.region) change (AfterThaw Effect))
-  pub frozen : new.frozen ≡ old.frozen
+  pub performs : OnOk result (Performs (in_snapshot_of old) (memory old.region) (memory new.region) change (AfterThaw Effect))
+  pub snapshot_blocks : new.snapshot_blocks ≡ old.snapshot_blocks
   pub exact : IsExact (current_words (memory new.region)) new
-  pub refused : IfErr result (LacksSpace (current_words (memory old.region)) (kept_of old) change)
+  pub refused : IfErr result (LacksSpace (current_words (memory old.region)) (in_snapshot_of old) change)
   pub same : OnErr result (new ≡ old)
 
 -- The effect of a whole call that creates a name in directory `i`, with the same two outcomes. Its change is determined
@@ -51,8 +51,8 @@ pub record CommitsOrLacksSpace {R T : Type 0} (memory : R → Memory) (old new :
 pub record CreatesOrLacksSpace {R T : Type 0} (memory : R → Memory) (old new : Parts R) (result : Result T NoSpace)
     (i : ℕ) (name : Name) (kind : Kind) : Type 0 where
   pub performs : OnOk result (ForCreation (current_words (memory old.region)) i (λ change.
-      Performs (kept_of old) (memory old.region) (memory new.region) change (AfterThaw (EntersName i name kind))))
-  pub frozen : new.frozen ≡ old.frozen
+      Performs (in_snapshot_of old) (memory old.region) (memory new.region) change (AfterThaw (EntersName i name kind))))
+  pub snapshot_blocks : new.snapshot_blocks ≡ old.snapshot_blocks
   pub exact : IsExact (current_words (memory new.region)) new
-  pub refused : IfErr result (LacksSpaceToCreate (current_words (memory old.region)) (kept_of old) i)
+  pub refused : IfErr result (LacksSpaceToCreate (current_words (memory old.region)) (in_snapshot_of old) i)
   pub same : OnErr result (new ≡ old)

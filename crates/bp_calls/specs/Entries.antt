@@ -8,7 +8,7 @@ use Rattle.bp_layout.specs.Paths.{Name}
 use Rattle.bp_layout.specs.Inode.{root_of, size_of}
 use Rattle.bp_layout.specs.Words.{byte_of}
 use Rattle.bp_limits.specs.Limits.{entry_size}
-use Rattle.bp_shapes.specs.Sets.{kept_of}
+use Rattle.bp_shapes.specs.Sets.{in_snapshot_of}
 use Rattle.pm_region.specs.Memory.{Memory, current_words}
 
 -- A byte of an entry: eight bytes of the inode number, least significant first, eight of the name's length, and then
@@ -24,14 +24,14 @@ abbrev pub AreEntryBytes : ℕ → Name → List ℕ → Type 0
 AreEntryBytes inumber name bytes = (at : ℕ) → at < entry_size → slice_index bytes at ≡ entry_byte inumber name at
 
 -- Directory `i` is prepared for one more entry, which refers to inode `j`. The entry is not visible yet.
-pub record PutsBehind (kept : ℕ → Bool) (old new : Memory) (free_old free_new : List ℕ) (i j : ℕ) (name : Name) : Type 0 where
+pub record PutsBehind (in_snapshot : ℕ → Bool) (old new : Memory) (free_old free_new : List ℕ) (i j : ℕ) (name : Name) : Type 0 where
   pub bytes : List ℕ
-  pub prepared : PreparesWith kept old new free_old free_new i (size_of (current_words old) i)
+  pub prepared : PreparesWith in_snapshot old new free_old free_new i (size_of (current_words old) i)
       (size_of (current_words old) i + entry_size) bytes
   pub inumber : inumber_in (current_words new) (root_of (current_words new) i) (entry_count (current_words old) i) ≡ j
   pub spelled : name_in (current_words new) (root_of (current_words new) i) (entry_count (current_words old) i) ≡ name
 
 -- `PutsBehind` for the parts of a file system, with their free blocks.
 abbrev pub PutsEntry : {R : Type 0} → (R → Memory) → Parts R → Parts R → ℕ → ℕ → Name → Type 0
-PutsEntry memory old new i j name = PutsBehind (kept_of old) (memory old.region) (memory new.region) (members old.blocks)
-    (members new.blocks) i j name
+PutsEntry memory old new i j name = PutsBehind (in_snapshot_of old) (memory old.region) (memory new.region) (members old.free_blocks)
+    (members new.free_blocks) i j name

@@ -25,11 +25,11 @@ growth_need image = growth_count image (enters 1 grown)
 
 -- The image is well formed, and the sets are exact. As many blocks are free as the growth takes, and the end of the
 -- inode file is not shared with the snapshot. The log has room for the growth and the rest of the call, after a thaw.
-pub record CanGrowInodes (kept : ℕ → Bool) (memory : Memory) (blocks inodes : Set) : Type 0 where
+pub record CanGrowInodes (in_snapshot : ℕ → Bool) (memory : Memory) (blocks inodes : Set) : Type 0 where
   pub well_formed : IsWellFormed (current_words memory)
-  pub exact : AreExact (current_words memory) kept blocks inodes
+  pub exact : AreExact (current_words memory) in_snapshot blocks inodes
   pub enough : growth_need (current_words memory) ≤ length (members blocks)
-  pub loose : HasLooseEnd (current_words memory) kept 0
+  pub loose : HasLooseEnd (current_words memory) in_snapshot 0
   pub room : room_for (growth_need (current_words memory)) ≤ room_in memory + 2
 
 -- The inode file has one more leaf, whose inodes are all zero. Its blocks are the old ones and those taken. The image
@@ -65,8 +65,8 @@ stores_behind_growth needed = block_words * (needed + 4) + 64
 
 -- The inode file grows, invisibly at every crash point. It takes as many blocks as it needs, and stores to each of
 -- them.
-pub record GrowsInodes (kept : ℕ → Bool) (old new : Memory) : Type 0 where
+pub record GrowsInodes (in_snapshot : ℕ → Bool) (old new : Memory) : Type 0 where
   pub taken : List ℕ
-  pub adds : AddsTaking kept taken 3 (growth_stores (length taken)) old new
+  pub adds : AddsTaking in_snapshot taken 3 (growth_stores (length taken)) old new
   pub number : length taken ≡ growth_need (current_words old)
   pub grown : AddsInodes (current_words old) (current_words new) taken

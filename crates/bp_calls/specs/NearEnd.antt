@@ -14,13 +14,13 @@ ForTree root tree Holds = (image : Image) (t : ℕ) → root ≡ root_path_now i
 
 -- These are the targets of a write of bytes that begin below the size of inode `i` and end past it.
 abbrev pub AreTargetsAcross : Image → ℕ → List WordPath → Type 0
-AreTargetsAcross image i paths = (off len : ℕ) → off < size_of image i → size_of image i < off + len
-    → paths ≡ targets image (writes i off len)
+AreTargetsAcross image i paths = (offset len : ℕ) → offset < size_of image i → size_of image i < offset + len
+    → paths ≡ targets image (writes i offset len)
 
 -- These are the targets of a write of bytes that begin at the size of inode `i` or past it.
 abbrev pub AreTargetsBehind : Image → ℕ → List WordPath → Type 0
-AreTargetsBehind image i paths = (off len : ℕ) → size_of image i ≤ off → 1 ≤ len
-    → paths ≡ targets image (writes i off len)
+AreTargetsBehind image i paths = (offset len : ℕ) → size_of image i ≤ offset → 1 ≤ len
+    → paths ≡ targets image (writes i offset len)
 
 -- These are the targets of a change of the size of inode `i` to a greater one.
 abbrev pub AreTargetsLonger : Image → ℕ → List WordPath → Type 0

@@ -21,49 +21,49 @@ use Rattle.pm_region.specs.Memory.{Memory, current_words}
 -- The new entry of directory `i` is made in as many blocks as a name for an existing inode takes, with 5 barriers and
 -- within the bound on stores after a growth of the inode file.
 abbrev pub PerformsEntry : (ℕ → Bool) → Memory → Memory → ℕ → Entrant → (Image → Image → Type 0) → Type 0
-PerformsEntry kept old new i entrant Effect = PerformsWithin kept (name_need (current_words old) i) 5
+PerformsEntry in_snapshot old new i entrant Effect = PerformsWithin in_snapshot (name_need (current_words old) i) 5
     (stores_behind_growth (name_need (current_words old) i)) old new (enters i entrant) Effect
 
 -- A new name in slot `s` for the free inode `j`. Any blocks may be those of the snapshot, except the blocks of the
 -- entry and of the inode.
 abbrev pub EntersInSlot : Memory → Memory → ℕ → ℕ → ℕ → Name → Kind → Type 0
 EntersInSlot old new i s j name kind =
-    (kept : ℕ → Bool) → HasLooseWord (current_words old) kept i (entry_words * s + 0)
-    → HasLooseWord (current_words old) kept 0 (inode_words * j + 0)
-    → PerformsEntry kept old new i (taken j) (EntersName i name kind)
+    (in_snapshot : ℕ → Bool) → HasLooseWord (current_words old) in_snapshot i (entry_words * s + 0)
+    → HasLooseWord (current_words old) in_snapshot 0 (inode_words * j + 0)
+    → PerformsEntry in_snapshot old new i (taken j) (EntersName i name kind)
 
 -- A new name in slot `s` for file `j`. Any blocks may be those of the snapshot, except the block of the entry.
 abbrev pub LinksInSlot : Memory → Memory → ℕ → ℕ → Name → ℕ → Type 0
 LinksInSlot old new i s name j =
-    (kept : ℕ → Bool) → HasLooseWord (current_words old) kept i (entry_words * s + 0)
-    → PerformsEntry kept old new i linked (LinksEntry i name j)
+    (in_snapshot : ℕ → Bool) → HasLooseWord (current_words old) in_snapshot i (entry_words * s + 0)
+    → PerformsEntry in_snapshot old new i linked (LinksEntry i name j)
 
 -- A new name for the least free inode. It takes as many blocks as a name for an existing inode.
 abbrev pub EntersLeastFree : (ℕ → Bool) → Memory → Memory → ℕ → Name → Kind → Type 0
-EntersLeastFree kept old new i name kind = (free : Option ℕ) → IsLeastFree (current_words old) free
-    → PerformsEntry kept old new i (entrant_of free) (EntersName i name kind)
+EntersLeastFree in_snapshot old new i name kind = (free : Option ℕ) → IsLeastFree (current_words old) free
+    → PerformsEntry in_snapshot old new i (entrant_of free) (EntersName i name kind)
 
 -- The creation of a name in directory `i` is made, with no block left to thaw before it.
 abbrev pub PerformsCreation : (ℕ → Bool) → Memory → Memory → ℕ → Name → Kind → Type 0
-PerformsCreation kept old new i name kind =
-    ForCreation (current_words old) i (λ change. PerformsThawed kept old new change (EntersName i name kind))
+PerformsCreation in_snapshot old new i name kind =
+    ForCreation (current_words old) i (λ change. PerformsThawed in_snapshot old new change (EntersName i name kind))
 
 -- ---- sets: with the same blocks kept, one set of blocks before and one after
 
 -- A set that holds exactly the free inodes before holds exactly those after.
 abbrev pub KeepsFreeInodes : (ℕ → Bool) → Memory → Memory → Set → Set → Type 0
-KeepsFreeInodes kept old new blocks after = (inodes : Set) → AreExact (current_words old) kept blocks inodes
-    → AreExact (current_words new) kept after inodes
+KeepsFreeInodes in_snapshot old new blocks after = (inodes : Set) → AreExact (current_words old) in_snapshot blocks inodes
+    → AreExact (current_words new) in_snapshot after inodes
 
 -- A set that holds exactly the free inodes before holds exactly those after, once inode `j` is taken out.
 abbrev pub TakesFreeInode : (ℕ → Bool) → Memory → Memory → Set → Set → ℕ → Type 0
-TakesFreeInode kept old new blocks after j = (inodes : Set) → AreExact (current_words old) kept blocks inodes
-    → AreExact (current_words new) kept after (without inodes j)
+TakesFreeInode in_snapshot old new blocks after j = (inodes : Set) → AreExact (current_words old) in_snapshot blocks inodes
+    → AreExact (current_words new) in_snapshot after (without inodes j)
 
 -- Sets of free inodes and of free blocks stay exact, with the same blocks free, whichever blocks are those of the
 -- snapshot.
 abbrev pub KeepsFree : Memory → Memory → Type 0
-KeepsFree old new = (kept : ℕ → Bool) (blocks : Set) → KeepsFreeInodes kept old new blocks blocks
+KeepsFree old new = (in_snapshot : ℕ → Bool) (blocks : Set) → KeepsFreeInodes in_snapshot old new blocks blocks
 
 abbrev pub TakesOnlyInode : Memory → Memory → ℕ → Type 0
-TakesOnlyInode old new j = (kept : ℕ → Bool) (blocks : Set) → TakesFreeInode kept old new blocks blocks j
+TakesOnlyInode old new j = (in_snapshot : ℕ → Bool) (blocks : Set) → TakesFreeInode in_snapshot old new blocks blocks j

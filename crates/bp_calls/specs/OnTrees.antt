@@ -46,8 +46,8 @@ GetsSize i size old new = (map : PathMap) (here : Path) → Shows old map → lo
 -- At each path that finds file `i`, the second image has the file at all its paths with these bytes from an offset on,
 -- after zeros if it ended before.
 abbrev pub GetsBytes : ℕ → ℕ → List ℕ → Image → Image → Type 0
-GetsBytes i off bytes old new = (map : PathMap) (here : Path) → Shows old map → lookup old here ≡ Some i →
-    Shows new (with_content map here (written (bytes_at map.nodes here) off bytes))
+GetsBytes i offset bytes old new = (map : PathMap) (here : Path) → Shows old map → lookup old here ≡ Some i →
+    Shows new (with_content map here (written (bytes_at map.nodes here) offset bytes))
 
 -- The second image has the pieces of a batch, written one after the other into the files that their paths find.
 abbrev pub GetsPieces : List Piece → Image → Image → Type 0

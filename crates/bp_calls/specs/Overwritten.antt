@@ -21,14 +21,14 @@ use Rattle.pm_region.specs.Memory.{Memory, current_words}
 
 -- A patch of the code as a patch of the definitions.
 abbrev pub patch_seen : GivenPatch → Patch
-patch_seen patch = record { inode = patch.inode; off = patch.off; bytes = patch.bytes.now }
+patch_seen patch = record { inode = patch.inode; offset = patch.offset; bytes = patch.bytes.now }
 
 abbrev pub patches_seen : List GivenPatch → List Patch
 patches_seen patches = map patch_seen patches
 
 -- The bytes that a patch changes, by their place only.
 abbrev pub stretch_of : Patch → Stretch
-stretch_of patch = record { inode = patch.inode; off = patch.off; len = length patch.bytes }
+stretch_of patch = record { inode = patch.inode; offset = patch.offset; len = length patch.bytes }
 
 abbrev pub stretches_of : List Patch → List Stretch
 stretches_of patches = map stretch_of patches
@@ -45,7 +45,7 @@ byte_count (patch ∷ patches) = length patch.bytes + byte_count patches
 pub record IsPatchIn (image : Image) (patch : Patch) : Type 0 where
   pub reached : IsReached image patch.inode
   pub is_file : IsFile image patch.inode
-  pub within : patch.off + length patch.bytes ≤ size_of image patch.inode
+  pub within : patch.offset + length patch.bytes ≤ size_of image patch.inode
 
 -- The patches lie in files, and there are at most `max_pieces`. Together they have at least one byte, and no more
 -- bytes than one call may write.
@@ -57,11 +57,11 @@ pub record CanOverwrite (image : Image) (patches : List Patch) : Type 0 where
 
 -- `CanOverwrite`, in a well-formed image with exact sets and no block left to thaw. If enough blocks are free, the log
 -- has room for the change.
-pub record CanOverwriteThawed (kept : ℕ → Bool) (memory : Memory) (blocks inodes : Set) (patches : List Patch) : Type 0 where
+pub record CanOverwriteThawed (in_snapshot : ℕ → Bool) (memory : Memory) (blocks inodes : Set) (patches : List Patch) : Type 0 where
   pub well_formed : IsWellFormed (current_words memory)
-  pub exact : AreExact (current_words memory) kept blocks inodes
+  pub exact : AreExact (current_words memory) in_snapshot blocks inodes
   pub can : CanOverwrite (current_words memory) patches
-  pub clear : thawed (current_words memory) kept (overwrites (stretches_of patches)) ≡ []
+  pub clear : thawed (current_words memory) in_snapshot (overwrites (stretches_of patches)) ≡ []
   pub room : HasRoomThawed memory blocks (overwrites (stretches_of patches))
 
 -- The runs of those patches that have bytes, in their order.
@@ -70,5 +70,5 @@ pub data AreRuns (image : Image) : List Patch → List Run → Type 0 where
   empty : {patch : Patch} {patches : List Patch} {runs : List Run} → length patch.bytes ≡ 0 →
       AreRuns image patches runs → AreRuns image (patch ∷ patches) runs
   more : {patch : Patch} {patches : List Patch} {run : Run} {runs : List Run} → 1 ≤ length patch.bytes →
-      IsRunFor image patch.inode patch.off patch.bytes run → AreRuns image patches runs →
+      IsRunFor image patch.inode patch.offset patch.bytes run → AreRuns image patches runs →
       AreRuns image (patch ∷ patches) (run ∷ runs)

@@ -11,27 +11,27 @@ use Rattle.bp_commit.specs.Performs.{HasRoomFor, room_for}
 use Rattle.pm_region.specs.Memory.{Memory, current_words, room_in}
 
 -- Fewer blocks are free than the wanted number, and the error holds both numbers.
-pub record LacksBlocks (image : Image) (kept : ℕ → Bool) (wanted : ℕ) (lacks : NoSpace) : Type 0 where
+pub record LacksBlocks (image : Image) (in_snapshot : ℕ → Bool) (wanted : ℕ) (lacks : NoSpace) : Type 0 where
   pub needed : wanted ≡ lacks.need
-  pub free : HasFree image kept lacks.free
+  pub free : HasFree image in_snapshot lacks.free
   pub fewer : lacks.free < lacks.need
 
 -- Fewer blocks are free than the change needs, including those that it thaws.
 abbrev pub LacksSpace : Image → (ℕ → Bool) → Change → NoSpace → Type 0
-LacksSpace image kept change lacks = LacksBlocks image kept (full_need image kept change) lacks
+LacksSpace image in_snapshot change lacks = LacksBlocks image in_snapshot (full_need image in_snapshot change) lacks
 
 -- `LacksSpace` for the creation of a name in directory `i`.
 abbrev pub LacksSpaceToCreate : Image → (ℕ → Bool) → ℕ → NoSpace → Type 0
-LacksSpaceToCreate image kept i lacks = ForCreation image i (λ change. LacksSpace image kept change lacks)
+LacksSpaceToCreate image in_snapshot i lacks = ForCreation image i (λ change. LacksSpace image in_snapshot change lacks)
 
 -- If as many blocks are free as the change needs, the log has room for it. A call that lacks space needs no room.
 abbrev pub HasRoomWhereFree : Memory → (ℕ → Bool) → Set → Change → Type 0
-HasRoomWhereFree memory kept blocks change =
-    full_need (current_words memory) kept change ≤ length (members blocks) → HasRoomFor memory kept change
+HasRoomWhereFree memory in_snapshot blocks change =
+    full_need (current_words memory) in_snapshot change ≤ length (members blocks) → HasRoomFor memory in_snapshot change
 
 -- `HasRoomWhereFree` for the creation of a name in directory `i`.
 abbrev pub HasRoomToCreate : Memory → (ℕ → Bool) → Set → ℕ → Type 0
-HasRoomToCreate memory kept blocks i = ForCreation (current_words memory) i (HasRoomWhereFree memory kept blocks)
+HasRoomToCreate memory in_snapshot blocks i = ForCreation (current_words memory) i (HasRoomWhereFree memory in_snapshot blocks)
 
 -- If as many blocks are free as the change needs, the log has room for it after a thaw, whose two barriers are then
 -- spent.

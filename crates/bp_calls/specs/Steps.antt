@@ -50,53 +50,53 @@ name_need image i = need image (enters i linked)
 abbrev pub entry_need_for : Image → ℕ → ℕ
 entry_need_for image i = need_for image i (size_of image i) (size_of image i + entry_size)
 
--- The block of a content word of a tree is not kept for the snapshot.
+-- The block of a content word of a tree is not in the snapshot.
 abbrev pub HasLooseWord : Image → (ℕ → Bool) → ℕ → ℕ → Type 0
-HasLooseWord image kept t k = (place : ℕ) → ContentStandsAt image t k place → kept (place / block_words) ≡ false
+HasLooseWord image in_snapshot t k = (place : ℕ) → ContentStandsAt image t k place → in_snapshot (place / block_words) ≡ false
 
--- The blocks to which one more entry is stored are not kept for the snapshot: the block of the least empty entry, or
+-- The blocks to which one more entry is stored are not in the snapshot: the block of the least empty entry, or
 -- the end of the directory if no entry is empty.
-pub record HasLooseEntry (image : Image) (kept : ℕ → Bool) (i : ℕ) : Type 0 where
-  pub slot : (s : ℕ) → empty_slot image i ≡ Some s → HasLooseWord image kept i (entry_words * s + 0)
-  pub behind : empty_slot image i ≡ None → HasLooseEnd image kept i
+pub record HasLooseEntry (image : Image) (in_snapshot : ℕ → Bool) (i : ℕ) : Type 0 where
+  pub slot : (s : ℕ) → empty_slot image i ≡ Some s → HasLooseWord image in_snapshot i (entry_words * s + 0)
+  pub behind : empty_slot image i ≡ None → HasLooseEnd image in_snapshot i
 
 -- Directory `i` does not have the name, no entry is empty, and as many blocks are free as the directory lacks for one
 -- more entry. The set of blocks is exact, with some set of inodes, and the blocks at the end of the directory are not
--- kept for the snapshot.
-pub record CanPutBehind (kept : ℕ → Bool) (memory : Memory) (blocks : Set) (i : ℕ) (name : Name) : Type 0 where
+-- in the snapshot.
+pub record CanPutBehind (in_snapshot : ℕ → Bool) (memory : Memory) (blocks : Set) (i : ℕ) (name : Name) : Type 0 where
   pub lacks : LacksName (current_words memory) i name
   pub none : empty_slot (current_words memory) i ≡ None
   pub inodes : Set
-  pub exact : AreExact (current_words memory) kept blocks inodes
+  pub exact : AreExact (current_words memory) in_snapshot blocks inodes
   pub enough : entry_need_for (current_words memory) i ≤ length (members blocks)
-  pub loose : HasLooseEnd (current_words memory) kept i
+  pub loose : HasLooseEnd (current_words memory) in_snapshot i
   pub room : entering_room (entry_need_for (current_words memory) i) ≤ room_in memory
 
--- `CanPutBehind`, and inode `j` is free for the name, in a block that is not kept for the snapshot.
-pub record CanEnterBehind (kept : ℕ → Bool) (memory : Memory) (blocks : Set) (i j : ℕ) (name : Name) : Type 0 where
-  pub can : CanPutBehind kept memory blocks i name
+-- `CanPutBehind`, and inode `j` is free for the name, in a block that is not in the snapshot.
+pub record CanEnterBehind (in_snapshot : ℕ → Bool) (memory : Memory) (blocks : Set) (i j : ℕ) (name : Name) : Type 0 where
+  pub can : CanPutBehind in_snapshot memory blocks i name
   pub free : IsFreeInode (current_words memory) j
-  pub loose : HasLooseWord (current_words memory) kept 0 (inode_words * j + 0)
+  pub loose : HasLooseWord (current_words memory) in_snapshot 0 (inode_words * j + 0)
 
 -- `CanPutBehind`, and inode `j` is a file that has a link.
-pub record CanLinkBehind (kept : ℕ → Bool) (memory : Memory) (blocks : Set) (i j : ℕ) (name : Name) : Type 0 where
-  pub can : CanPutBehind kept memory blocks i name
+pub record CanLinkBehind (in_snapshot : ℕ → Bool) (memory : Memory) (blocks : Set) (i j : ℕ) (name : Name) : Type 0 where
+  pub can : CanPutBehind in_snapshot memory blocks i name
   pub there : IsReached (current_words memory) j
   pub file : IsFile (current_words memory) j
 
 -- The directory does not have the name, the sets are exact, an inode is free, and so are as many blocks as the name
--- needs. The blocks to which the name is stored are not kept for the snapshot.
-pub record CanEnter (kept : ℕ → Bool) (memory : Memory) (blocks inodes : Set) (i : ℕ) (name : Name) : Type 0 where
+-- needs. The blocks to which the name is stored are not in the snapshot.
+pub record CanEnter (in_snapshot : ℕ → Bool) (memory : Memory) (blocks inodes : Set) (i : ℕ) (name : Name) : Type 0 where
   pub lacks : LacksName (current_words memory) i name
-  pub exact : AreExact (current_words memory) kept blocks inodes
+  pub exact : AreExact (current_words memory) in_snapshot blocks inodes
   pub some : members inodes ≢ []
   pub enough : name_need (current_words memory) i ≤ length (members blocks)
-  pub loose : HasLooseEntry (current_words memory) kept i
-  pub loose_inode : (j : ℕ) → IsLeast inodes j → HasLooseWord (current_words memory) kept 0 (inode_words * j + 0)
+  pub loose : HasLooseEntry (current_words memory) in_snapshot i
+  pub loose_inode : (j : ℕ) → IsLeast inodes j → HasLooseWord (current_words memory) in_snapshot 0 (inode_words * j + 0)
   pub room : entering_room (name_need (current_words memory) i) ≤ room_in memory
 
 -- `CanEnter` for the existing file `j`.
-pub record CanShare (kept : ℕ → Bool) (memory : Memory) (blocks inodes : Set) (i j : ℕ) (name : Name) : Type 0 where
+pub record CanShare (in_snapshot : ℕ → Bool) (memory : Memory) (blocks inodes : Set) (i j : ℕ) (name : Name) : Type 0 where
   pub link : CanLink (current_words memory) i j name
-  pub exact : AreExact (current_words memory) kept blocks inodes
-  pub thawed : IsThawedFor kept memory blocks (enters i linked)
+  pub exact : AreExact (current_words memory) in_snapshot blocks inodes
+  pub thawed : IsThawedFor in_snapshot memory blocks (enters i linked)

@@ -16,7 +16,7 @@ ghost use Rattle.bp_layout.specs.Members.{Each};
 ghost use Rattle.bp_layout.specs.Need.{need};
 ghost use Rattle.bp_layout.specs.WellFormed.{IsWellFormed};
 ghost use Rattle.bp_limits.specs.Limits.{block_words, max_pieces};
-ghost use Rattle.bp_shapes.specs.Sets.{kept_of};
+ghost use Rattle.bp_shapes.specs.Sets.{in_snapshot_of};
 ghost use Rattle.bp_thaw.specs.Thaws.{paths_in};
 ghost use Rattle.pm_region.specs.Memory.{words_in, room_in};
 
@@ -36,7 +36,7 @@ pub struct Patch<'a> {
     /// The number of the file's inode.
     pub inode: u32,
     /// The offset of the bytes in the file, in bytes.
-    pub off: u64,
+    pub offset: u64,
     /// The bytes. They end at or below the file's size.
     pub bytes: &'a [u8],
 }
@@ -45,10 +45,10 @@ pub struct Patch<'a> {
 fn run_of<'a, R: Region>(region: &R, patch: &Patch<'a>) -> Run<'a>
     requires well_formed { IsWellFormed (words_in R.memory region.now) }
     requires inside { IsPatchIn (words_in R.memory region.now) (patch_seen patch.now) }
-    ensures { IsRunFor (words_in R.memory region.now) patch.now.inode patch.now.off patch.now.bytes.now result }
+    ensures { IsRunFor (words_in R.memory region.now) patch.now.inode patch.now.offset patch.now.bytes.now result }
 {
     let tree = tree_of(region, patch.inode);
-    run_for(region, patch.inode, tree, patch.off, patch.bytes)
+    run_for(region, patch.inode, tree, patch.offset, patch.bytes)
 }
 
 /// Returns the runs of those patches that have bytes, in their order.
@@ -87,7 +87,7 @@ fn covering<R: Region>(region: &R, touched: &Touched<'_>) -> Targets
 ///
 /// - `NoSpace`: fewer blocks are free than the call copies.
 fn overlay<R: Region>(parts: &mut Parts<R>, patches: &[Patch<'_>]) -> Result<(), NoSpace>
-    requires can { CanOverwriteThawed (kept_of parts.old) (R.memory parts.old.region) parts.old.blocks parts.old.inodes
+    requires can { CanOverwriteThawed (in_snapshot_of parts.old) (R.memory parts.old.region) parts.old.free_blocks parts.old.free_inodes
         (patches_seen patches.now) }
     requires exact { IsExactIn R.memory parts.old }
     ensures { CommitsOrLacksBlocks R.memory parts.old parts.new result (batch_change patches.now)
@@ -109,14 +109,14 @@ fn overlay<R: Region>(parts: &mut Parts<R>, patches: &[Patch<'_>]) -> Result<(),
 fn thaw_batch<R: Region>(parts: &mut Parts<R>, patches: &[Patch<'_>]) -> Result<(), NoSpace>
     requires mounted { IsMountedIn R.memory parts.old }
     requires can { CanOverwrite (image_in R.memory parts.old) (patches_seen patches.now) }
-    requires room { HasRoomWhereFree (R.memory parts.old.region) (kept_of parts.old) parts.old.blocks
+    requires room { HasRoomWhereFree (R.memory parts.old.region) (in_snapshot_of parts.old) parts.old.free_blocks
         (batch_change patches.now) }
     ensures thaws { OnOk result (ThawsBefore R.memory parts.old parts.new (batch_change patches.now)) }
     ensures room { OnOk result (room_for (need (image_in R.memory parts.old) (batch_change patches.now))
         ≤ room_in (R.memory parts.new.region) + 2) }
     ensures enough { OnOk result (need (image_in R.memory parts.old) (batch_change patches.now)
-        ≤ length (members parts.new.blocks)) }
-    ensures refused { IfErr result (LacksSpace (image_in R.memory parts.old) (kept_of parts.old)
+        ≤ length (members parts.new.free_blocks)) }
+    ensures refused { IfErr result (LacksSpace (image_in R.memory parts.old) (in_snapshot_of parts.old)
         (batch_change patches.now)) }
     ensures same { OnErr result (parts.new ≡ parts.old) }
 {
@@ -139,12 +139,12 @@ fn thaw_batch<R: Region>(parts: &mut Parts<R>, patches: &[Patch<'_>]) -> Result<
 pub fn batch<R: Region>(parts: &mut Parts<R>, patches: &[Patch<'_>]) -> Result<(), NoSpace>
     requires mounted { IsMountedIn R.memory parts.old }
     requires can { CanOverwrite (image_in R.memory parts.old) (patches_seen patches.now) }
-    requires room { HasRoomWhereFree (R.memory parts.old.region) (kept_of parts.old) parts.old.blocks
+    requires room { HasRoomWhereFree (R.memory parts.old.region) (in_snapshot_of parts.old) parts.old.free_blocks
         (batch_change patches.now) }
     ensures { CommitsOrLacksSpace R.memory parts.old parts.new result (batch_change patches.now)
         (OverwritesFiles (patches_seen patches.now)) }
 {
-    if parts.frozen.count() == 0 {
+    if parts.snapshot_blocks.count() == 0 {
         return overlay(parts, patches);
     }
     match thaw_batch(parts, patches) {

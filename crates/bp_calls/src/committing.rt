@@ -9,7 +9,7 @@ ghost use Rattle.bp_cow.specs.Found.{AreWaysIn};
 ghost use Rattle.bp_layout.specs.Inode.{root_of, size_of};
 ghost use Rattle.bp_layout.specs.WellFormed.{IsWellFormed};
 ghost use Rattle.bp_layout.specs.Words.{block_count};
-ghost use Rattle.bp_shapes.specs.Sets.{kept_of};
+ghost use Rattle.bp_shapes.specs.Sets.{in_snapshot_of};
 ghost use Rattle.pm_region.specs.Memory.{words_in};
 
 use bp_cow::{FoundWays, Run, Touched, commit_at, copies_below, find_ways};
@@ -21,21 +21,21 @@ use pm_region::Region;
 /// Returns the run of bytes that lie below the size of a file, in its tree.
 pub(crate) fn run_for<'a, R: Region>(
     region: &R,
-    i: u32,
+    ino: u32,
     tree: Tree,
-    off: u64,
+    offset: u64,
     bytes: &'a [u8],
 ) -> Run<'a>
     requires some { 4 ≤ length (words_in R.memory region.now) }
-    requires root { tree.root ≡ root_of (words_in R.memory region.now) i }
-    requires size { tree.size ≡ size_of (words_in R.memory region.now) i }
-    ensures { IsRunFor (words_in R.memory region.now) i off bytes.now result }
+    requires root { tree.root ≡ root_of (words_in R.memory region.now) ino }
+    requires size { tree.size ≡ size_of (words_in R.memory region.now) ino }
+    ensures { IsRunFor (words_in R.memory region.now) ino offset bytes.now result }
 {
     Run {
-        root: root_path(region, i),
+        root: root_path(region, ino),
         height: tree.height(),
         size: tree.size,
-        off,
+        offset,
         bytes,
     }
 }
@@ -65,15 +65,15 @@ pub(crate) fn commit_found<R: Region>(
 ) -> Result<(), NoSpace>
     requires well_formed { IsWellFormed (image_in R.memory parts.old) }
     requires can { CanCommitTouched R.memory parts.old touched.now }
-    requires loose { HasLooseCover (image_in R.memory parts.old) (kept_of parts.old) touched.now }
-    requires known { block_count (image_in R.memory parts.old) ≤ length parts.old.frozen }
-    requires fits { block_count (image_in R.memory parts.old) ≤ length parts.old.blocks }
+    requires loose { HasLooseCover (image_in R.memory parts.old) (in_snapshot_of parts.old) touched.now }
+    requires known { block_count (image_in R.memory parts.old) ≤ length parts.old.snapshot_blocks }
+    requires fits { block_count (image_in R.memory parts.old) ≤ length parts.old.free_blocks }
     requires room { HasRoomToCommit R.memory parts.old touched.now }
     requires found { AreWaysIn (image_in R.memory parts.old) touched.now found.now }
     ensures { CommitsTouchedOrLacks R.memory parts.old parts.new result touched.now }
 {
     let copies = copies_below(touched, found);
-    let free = parts.blocks.count();
+    let free = parts.free_blocks.count();
     if free < copies {
         return Err(NoSpace { need: copies, free });
     }
@@ -92,9 +92,9 @@ pub(crate) fn commit_below<R: Region>(
 ) -> Result<(), NoSpace>
     requires well_formed { IsWellFormed (image_in R.memory parts.old) }
     requires can { CanCommitTouched R.memory parts.old touched.now }
-    requires loose { HasLooseCover (image_in R.memory parts.old) (kept_of parts.old) touched.now }
-    requires known { block_count (image_in R.memory parts.old) ≤ length parts.old.frozen }
-    requires fits { block_count (image_in R.memory parts.old) ≤ length parts.old.blocks }
+    requires loose { HasLooseCover (image_in R.memory parts.old) (in_snapshot_of parts.old) touched.now }
+    requires known { block_count (image_in R.memory parts.old) ≤ length parts.old.snapshot_blocks }
+    requires fits { block_count (image_in R.memory parts.old) ≤ length parts.old.free_blocks }
     requires room { HasRoomToCommit R.memory parts.old touched.now }
     ensures { CommitsTouchedOrLacks R.memory parts.old parts.new result touched.now }
 {

@@ -21,7 +21,7 @@ ghost use Rattle.bp_layout.specs.Need.Entrant.{grown};
 ghost use Rattle.bp_layout.specs.Reached.{IsReached};
 ghost use Rattle.bp_layout.specs.Thaw.{targets};
 ghost use Rattle.bp_layout.specs.WellFormed.{IsWellFormed};
-ghost use Rattle.bp_shapes.specs.Sets.{kept_of};
+ghost use Rattle.bp_shapes.specs.Sets.{in_snapshot_of};
 ghost use Rattle.bp_thaw.specs.Thaws.{paths_in};
 ghost use Rattle.pm_region.specs.Memory.{words_in};
 
@@ -69,7 +69,7 @@ fn new_need<R: Region>(parts: &Parts<R>, dir: u32, slot: Option<u64>) -> u32
     ensures few { result < 2 ^ 31 }
 {
     let entry = entry_need(&parts.region, dir, slot);
-    if parts.inodes.count() > 0 {
+    if parts.free_inodes.count() > 0 {
         return entry;
     }
     entry + grow_need(&parts.region)
@@ -98,7 +98,7 @@ fn entering_new<R: Region>(parts: &mut Parts<R>, dir: u32, slot: Option<u64>) ->
 {
     let mut targets = entering(&parts.region, dir, slot);
     let inodes = inode_file(&parts.region);
-    match least(&mut parts.inodes) {
+    match least(&mut parts.free_inodes) {
         Some(inode) => targets.push(word_path(inodes, INODE_SIZE * u64::from(inode))),
         None => push_end(&mut targets, &Slots::new(), inodes),
     }
@@ -118,16 +118,16 @@ fn thaw_new<R: Region>(parts: &mut Parts<R>, dir: u32, slot: Option<u64>) -> Res
     requires reached { IsReached (image_in R.memory parts.old) dir }
     requires directory { IsDirectory (image_in R.memory parts.old) dir }
     requires slot { slot ≡ empty_slot (image_in R.memory parts.old) dir }
-    requires room { HasRoomToCreate (R.memory parts.old.region) (kept_of parts.old) parts.old.blocks dir }
+    requires room { HasRoomToCreate (R.memory parts.old.region) (in_snapshot_of parts.old) parts.old.free_blocks dir }
     ensures thaws { OnOk result (ForCreation (image_in R.memory parts.old) dir
         (ThawsBefore R.memory parts.old parts.new)) }
     ensures thawed { OnOk result (ForCreation (image_in R.memory parts.old) dir (AreThawedFor R.memory parts.new)) }
-    ensures refused { IfErr result (LacksSpaceToCreate (image_in R.memory parts.old) (kept_of parts.old) dir) }
+    ensures refused { IfErr result (LacksSpaceToCreate (image_in R.memory parts.old) (in_snapshot_of parts.old) dir) }
     ensures same { OnErr result (parts.new ≡ parts.old) }
 {
     let need = new_need(parts, dir, slot);
-    if parts.frozen.count() == 0 {
-        let free = parts.blocks.count();
+    if parts.snapshot_blocks.count() == 0 {
+        let free = parts.free_blocks.count();
         if free < need {
             return Err(NoSpace { need, free });
         }
@@ -139,19 +139,19 @@ fn thaw_new<R: Region>(parts: &mut Parts<R>, dir: u32, slot: Option<u64>) -> Res
 
 /// Enters a name for the least free inode in a directory, in its least empty slot or after its last entry.
 fn enter<R: Region>(parts: &mut Parts<R>, dir: u32, slot: Option<u64>, name: &[u8], kind: Kind)
-    requires can { CanEnter (kept_of parts.old) (R.memory parts.old.region) parts.old.blocks parts.old.inodes dir name.now }
+    requires can { CanEnter (in_snapshot_of parts.old) (R.memory parts.old.region) parts.old.free_blocks parts.old.free_inodes dir name.now }
     requires exact { IsExactIn R.memory parts.old }
     requires slot { slot ≡ empty_slot (image_in R.memory parts.old) dir }
-    ensures performs { EntersLeastFree (kept_of parts.old) (R.memory parts.old.region) (R.memory parts.new.region) dir name.now
+    ensures performs { EntersLeastFree (in_snapshot_of parts.old) (R.memory parts.old.region) (R.memory parts.new.region) dir name.now
         kind }
     ensures exact { IsExactIn R.memory parts.new }
-    ensures frozen { parts.new.frozen ≡ parts.old.frozen }
+    ensures snapshot_blocks { parts.new.snapshot_blocks ≡ parts.old.snapshot_blocks }
 {
-    let inode = parts.inodes.take_least();
-    parts.counts.set(inode, 1);
+    let ino = parts.free_inodes.alloc_lowest();
+    parts.link_counts.set(ino, 1);
     match slot {
-        Some(slot) => enter_slot(&mut parts.region, dir, slot, inode, name, kind),
-        None => enter_behind(parts, dir, inode, name, kind),
+        Some(slot) => enter_slot(&mut parts.region, dir, slot, ino, name, kind),
+        None => enter_behind(parts, dir, ino, name, kind),
     }
 }
 
@@ -167,7 +167,7 @@ fn grow_and_enter<R: Region>(
     requires lacks { LacksName (image_in R.memory parts.old) dir name.now }
     requires exact { IsExactIn R.memory parts.old }
     requires slot { slot ≡ empty_slot (image_in R.memory parts.old) dir }
-    requires none { members parts.old.inodes ≡ [] }
+    requires none { members parts.old.free_inodes ≡ [] }
     requires thawed { AreThawedFor R.memory parts.old (enters dir grown) }
     ensures { CommitsChange R.memory parts.old parts.new (enters dir grown) (EntersName dir name.now kind) }
 {
@@ -181,12 +181,12 @@ fn enter_new<R: Region>(parts: &mut Parts<R>, dir: u32, slot: Option<u64>, name:
     requires exact { IsExactIn R.memory parts.old }
     requires slot { slot ≡ empty_slot (image_in R.memory parts.old) dir }
     requires thawed { ForCreation (image_in R.memory parts.old) dir (AreThawedFor R.memory parts.old) }
-    ensures performs { PerformsCreation (kept_of parts.old) (R.memory parts.old.region) (R.memory parts.new.region) dir name.now
+    ensures performs { PerformsCreation (in_snapshot_of parts.old) (R.memory parts.old.region) (R.memory parts.new.region) dir name.now
         kind }
     ensures exact { IsExactIn R.memory parts.new }
-    ensures frozen { parts.new.frozen ≡ parts.old.frozen }
+    ensures snapshot_blocks { parts.new.snapshot_blocks ≡ parts.old.snapshot_blocks }
 {
-    if parts.inodes.count() == 0 {
+    if parts.free_inodes.count() == 0 {
         grow_and_enter(parts, dir, slot, name, kind);
         return;
     }
@@ -212,7 +212,7 @@ pub fn create_in<R: Region>(
     requires name { IsName name.now }
     requires slot { slot ≡ empty_slot (image_in R.memory parts.old) dir }
     requires new { slot_named (image_in R.memory parts.old) dir name.now ≡ None }
-    requires room { HasRoomToCreate (R.memory parts.old.region) (kept_of parts.old) parts.old.blocks dir }
+    requires room { HasRoomToCreate (R.memory parts.old.region) (in_snapshot_of parts.old) parts.old.free_blocks dir }
     ensures { CreatesOrLacksSpace R.memory parts.old parts.new result dir name.now kind }
 {
     match thaw_new(parts, dir, slot) {
@@ -243,7 +243,7 @@ pub fn create<R: Region>(
     requires directory { IsDirectory (image_in R.memory parts.old) dir }
     requires name { IsName name.now }
     requires new { slot_named (image_in R.memory parts.old) dir name.now ≡ None }
-    requires room { HasRoomToCreate (R.memory parts.old.region) (kept_of parts.old) parts.old.blocks dir }
+    requires room { HasRoomToCreate (R.memory parts.old.region) (in_snapshot_of parts.old) parts.old.free_blocks dir }
     ensures { CreatesOrLacksSpace R.memory parts.old parts.new result dir name.now kind }
 {
     let slot = free_slot(&parts.region, tree_of(&parts.region, dir));

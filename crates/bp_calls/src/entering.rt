@@ -2,7 +2,7 @@
 
 ghost use Rattle.std.specs.Prelude.{Some, ◌≡◌, ◌≤◌, length};
 ghost use Rattle.bp_free.specs.Parts.{KeepsSets};
-ghost use Rattle.bp_shapes.specs.Sets.{kept_of};
+ghost use Rattle.bp_shapes.specs.Sets.{in_snapshot_of};
 ghost use Rattle.bp_calls.specs.Created.{CountsName, EntersName};
 ghost use Rattle.bp_calls.specs.Entries.{AreEntryBytes, PutsEntry, entry_byte};
 ghost use Rattle.bp_calls.specs.NewEntry.{EntersInSlot, PerformsEntry, TakesFreeInode, TakesOnlyInode};
@@ -19,7 +19,7 @@ ghost use Rattle.bp_thaw.specs.Thaws.{paths_in};
 ghost use Rattle.pm_region.specs.Memory.{words_in, room_in};
 
 use crate::targets::{Targets, entry_path, push_end};
-use bp_append::prep;
+use bp_append::stage_append;
 use bp_dirs::{entry_place, put_name};
 use bp_free::Parts;
 use bp_inodes::{fill, place, root_path, size_path, tree_of};
@@ -56,37 +56,36 @@ pub(crate) fn entering<R: Region>(region: &R, dir: u32, slot: Option<u64>) -> Ta
     targets
 }
 
-/// Enters a name for a new inode in an empty entry of a directory, if no block to which it stores is kept for the
-/// snapshot.
+/// Enters a name for a new inode in an empty entry of a directory, if no block to which it stores is in the snapshot.
 pub(crate) fn enter_slot<R: Region>(
     region: &mut R,
     dir: u32,
     slot: u64,
-    inode: u32,
+    ino: u32,
     name: &[u8],
     kind: Kind,
 )
-    requires can { CanName (words_in R.memory region.old) dir inode name.now }
+    requires can { CanName (words_in R.memory region.old) dir ino name.now }
     requires found { empty_slot (words_in R.memory region.old) dir ≡ Some slot }
     requires room { entering_room (name_need (words_in R.memory region.old) dir) ≤ room_in (R.memory region.old) }
-    ensures performs { EntersInSlot (R.memory region.old) (R.memory region.new) dir slot inode name.now kind }
-    ensures exact { TakesOnlyInode (R.memory region.old) (R.memory region.new) inode }
-    ensures counts { CountsName (words_in R.memory region.old) (words_in R.memory region.new) inode }
+    ensures performs { EntersInSlot (R.memory region.old) (R.memory region.new) dir slot ino name.now kind }
+    ensures exact { TakesOnlyInode (R.memory region.old) (R.memory region.new) ino }
+    ensures counts { CountsName (words_in R.memory region.old) (words_in R.memory region.new) ino }
 {
     let tree = tree_of(region, dir);
     let entry = entry_place(region, tree, slot, 0);
-    fill(region, inode, kind);
+    fill(region, ino, kind);
     put_name(region, entry, name);
-    commit_word(region, entry, u64::from(inode));
+    commit_word(region, entry, u64::from(ino));
 }
 
 /// Returns a byte of an entry: eight are the inode number, least significant first, eight the length of the name, and
 /// then comes the name, followed by zeros.
-fn entry_byte(inode: u32, name: &[u8], at: usize) -> u8
-    ensures { result ≡ entry_byte inode name.now at }
+fn entry_byte(ino: u32, name: &[u8], at: usize) -> u8
+    ensures { result ≡ entry_byte ino name.now at }
 {
     if at < WORD {
-        u64::from(inode).to_le_bytes()[at]
+        u64::from(ino).to_le_bytes()[at]
     } else if at < NAME_AT {
         (name.len() as u64).to_le_bytes()[at - WORD]
     } else if at - NAME_AT < name.len() {
@@ -97,28 +96,28 @@ fn entry_byte(inode: u32, name: &[u8], at: usize) -> u8
 }
 
 /// Returns the bytes of an entry.
-fn entry_bytes(inode: u32, name: &[u8]) -> [u8; ENTRY_SIZE as usize]
-    ensures { AreEntryBytes inode name.now result }
+fn entry_bytes(ino: u32, name: &[u8]) -> [u8; ENTRY_SIZE as usize]
+    ensures { AreEntryBytes ino name.now result }
 {
     let mut bytes = [0; ENTRY_SIZE as usize];
     for at in 0..bytes.len() {
-        bytes[at] = entry_byte(inode, name, at);
+        bytes[at] = entry_byte(ino, name, at);
     }
     bytes
 }
 
 /// Writes an entry after the last one of a directory, where it is not visible: the directory's tree is prepared for
 /// one more entry.
-pub fn put_behind<R: Region>(parts: &mut Parts<R>, dir: u32, tree: Tree, inode: u32, name: &[u8])
-    requires can { CanPutBehind (kept_of parts.old) (R.memory parts.old.region) parts.old.blocks dir name.now }
+pub fn append_entry<R: Region>(parts: &mut Parts<R>, dir: u32, tree: Tree, ino: u32, name: &[u8])
+    requires can { CanPutBehind (in_snapshot_of parts.old) (R.memory parts.old.region) parts.old.free_blocks dir name.now }
     requires root { tree.root ≡ root_of (image_in R.memory parts.old) dir }
     requires size { tree.size ≡ size_of (image_in R.memory parts.old) dir }
-    ensures puts { PutsEntry R.memory parts.old parts.new dir inode name.now }
+    ensures puts { PutsEntry R.memory parts.old parts.new dir ino name.now }
     ensures keeps { KeepsSets parts.old parts.new }
 {
     let end = tree.size + ENTRY_SIZE;
     let at = root_path(&parts.region, dir);
-    prep(parts, &at, tree.size, &entry_bytes(inode, name), end);
+    stage_append(parts, &at, tree.size, &entry_bytes(ino, name), end);
     let prepared = Tree {
         root: tree_of(&parts.region, dir).root,
         size: end,
@@ -126,7 +125,7 @@ pub fn put_behind<R: Region>(parts: &mut Parts<R>, dir: u32, tree: Tree, inode: 
     // A preparation describes bytes. The values of two words follow once they are read, as words of 64 bits.
     let inumber = content_word(&parts.region, prepared, tree.size / WORD_SIZE);
     let length = content_word(&parts.region, prepared, tree.size / WORD_SIZE + 1);
-    prove_eq!(inumber, u64::from(inode));
+    prove_eq!(inumber, u64::from(ino));
     prove_eq!(length, name.len() as u64);
 }
 
@@ -134,21 +133,21 @@ pub fn put_behind<R: Region>(parts: &mut Parts<R>, dir: u32, tree: Tree, inode: 
 pub(crate) fn enter_behind<R: Region>(
     parts: &mut Parts<R>,
     dir: u32,
-    inode: u32,
+    ino: u32,
     name: &[u8],
     kind: Kind,
 )
-    requires can { CanEnterBehind (kept_of parts.old) (R.memory parts.old.region) parts.old.blocks dir inode name.now }
-    ensures performs { PerformsEntry (kept_of parts.old) (R.memory parts.old.region) (R.memory parts.new.region) dir (taken inode)
+    requires can { CanEnterBehind (in_snapshot_of parts.old) (R.memory parts.old.region) parts.old.free_blocks dir ino name.now }
+    ensures performs { PerformsEntry (in_snapshot_of parts.old) (R.memory parts.old.region) (R.memory parts.new.region) dir (taken ino)
         (EntersName dir name.now kind) }
-    ensures exact { TakesFreeInode (kept_of parts.old) (R.memory parts.old.region) (R.memory parts.new.region) parts.old.blocks
-        parts.new.blocks inode }
-    ensures counts { CountsName (image_in R.memory parts.old) (image_in R.memory parts.new) inode }
+    ensures exact { TakesFreeInode (in_snapshot_of parts.old) (R.memory parts.old.region) (R.memory parts.new.region) parts.old.free_blocks
+        parts.new.free_blocks ino }
+    ensures counts { CountsName (image_in R.memory parts.old) (image_in R.memory parts.new) ino }
     ensures keeps { KeepsSets parts.old parts.new }
 {
     let tree = tree_of(&parts.region, dir);
     let size_place = place(&parts.region, dir, SIZE_FIELD);
-    put_behind(parts, dir, tree, inode, name);
-    fill(&mut parts.region, inode, kind);
+    append_entry(parts, dir, tree, ino, name);
+    fill(&mut parts.region, ino, kind);
     commit_word(&mut parts.region, size_place, tree.size + ENTRY_SIZE);
 }

@@ -14,33 +14,33 @@ use bp_tree::{Tree, child};
 use pm_region::Region;
 use pm_words::span;
 
-/// Frees the topmost block of a tree, if nothing is left of the tree and the block is not kept for the snapshot.
-fn give_top(blocks: &mut Blocks, frozen: &Blocks, top: u32, shorter: u64)
+/// Frees the topmost block of a tree, if nothing is left of the tree and the block is not in the snapshot.
+fn give_top(blocks: &mut Blocks, snapshot_blocks: &Blocks, top: u32, shorter: u64)
     requires in_range { top < length blocks.old }
-    requires known { top < length frozen.now }
+    requires known { top < length snapshot_blocks.now }
     requires taken { has blocks.old top ≡ false }
-    ensures { GivesBack (has frozen.now) (IsTopGivenUp top shorter) blocks.old blocks.new }
+    ensures { GivesBack (has snapshot_blocks.now) (IsTopGivenUp top shorter) blocks.old blocks.new }
 {
-    if shorter == 0 && !frozen.is_free(top) {
+    if shorter == 0 && !snapshot_blocks.is_free(top) {
         blocks.give(top);
     }
 }
 
 /// Frees the blocks of a tree that hold no byte below `shorter`, a size in bytes; all of them if that is 0. Blocks of
 /// the snapshot are not freed. The size of `tree` is its old one, and the words of its blocks are still the old ones.
-pub fn give_back<R: Region>(
+pub fn free_tree<R: Region>(
     region: &R,
     tree: Tree,
     shorter: u64,
     blocks: &mut Blocks,
-    frozen: &Blocks,
+    snapshot_blocks: &Blocks,
 )
     requires sound { IsSound (words_in R.memory region.now) tree.root tree.size }
     requires room { length blocks.old ≡ block_count (words_in R.memory region.now) }
-    requires known { length frozen.now ≡ block_count (words_in R.memory region.now) }
+    requires known { length snapshot_blocks.now ≡ block_count (words_in R.memory region.now) }
     requires taken { (b : ℕ) → HasBlock (words_in R.memory region.now) tree.root tree.size b →
         has blocks.old b ≡ false }
-    ensures { GivesBack (has frozen.now)
+    ensures { GivesBack (has snapshot_blocks.now)
         (IsGivenUp (words_in R.memory region.now) tree.root tree.size shorter) blocks.old blocks.new }
 {
     let _words = region.words();
@@ -51,7 +51,7 @@ pub fn give_back<R: Region>(
     if top == 0 {
         return;
     }
-    give_top(blocks, frozen, top, shorter);
+    give_top(blocks, snapshot_blocks, top, shorter);
     let height = tree.height();
     if height == 0 {
         return;
@@ -60,6 +60,6 @@ pub fn give_back<R: Region>(
     for slot in shorter / step..(tree.size - 1) / step + 1 {
         let below = child(region, tree, slot);
         let left = shorter.saturating_sub(slot * step);
-        give_back(region, below, left, blocks, frozen);
+        free_tree(region, below, left, blocks, snapshot_blocks);
     }
 }

@@ -6,10 +6,10 @@ ghost use Rattle.bp_calls.specs.Growth.{CanGrowInodes, GrowsInodes, growth_need}
 ghost use Rattle.bp_calls.specs.Mounted.{image_in, IsExactIn};
 ghost use Rattle.bp_free.specs.Set.{members};
 ghost use Rattle.bp_layout.specs.WellFormed.{IsWellFormed};
-ghost use Rattle.bp_shapes.specs.Sets.{kept_of};
+ghost use Rattle.bp_shapes.specs.Sets.{in_snapshot_of};
 ghost use Rattle.pm_region.specs.Memory.{words_in};
 
-use bp_append::{need_prep, prep};
+use bp_append::{need_prep, stage_append};
 use bp_free::Parts;
 use bp_inodes::inode_file;
 use bp_limits::{BLOCK_SIZE, INODE_SIZE, SUPER_SIZE};
@@ -32,22 +32,22 @@ pub(crate) fn grow_need<R: Region>(region: &R) -> u32
 /// The growth is invisible at every crash point: the size is stored once the leaf is linked, and a longer inode file
 /// makes no further inode reachable.
 pub(crate) fn grow<R: Region>(parts: &mut Parts<R>)
-    requires can { CanGrowInodes (kept_of parts.old) (R.memory parts.old.region) parts.old.blocks parts.old.inodes }
+    requires can { CanGrowInodes (in_snapshot_of parts.old) (R.memory parts.old.region) parts.old.free_blocks parts.old.free_inodes }
     requires exact { IsExactIn R.memory parts.old }
-    ensures grows { GrowsInodes (kept_of parts.old) (R.memory parts.old.region) (R.memory parts.new.region) }
+    ensures grows { GrowsInodes (in_snapshot_of parts.old) (R.memory parts.old.region) (R.memory parts.new.region) }
     ensures exact { IsExactIn R.memory parts.new }
-    ensures frozen { parts.new.frozen ≡ parts.old.frozen }
-    ensures left { length (members parts.old.blocks) ≡
-        growth_need (image_in R.memory parts.old) + length (members parts.new.blocks) }
+    ensures snapshot_blocks { parts.new.snapshot_blocks ≡ parts.old.snapshot_blocks }
+    ensures left { length (members parts.old.free_blocks) ≡
+        growth_need (image_in R.memory parts.old) + length (members parts.new.free_blocks) }
 {
     let size = inode_file(&parts.region).size;
     let end = size + BLOCK_SIZE;
-    prep(parts, &Slots::new(), size, &[], end);
+    stage_append(parts, &Slots::new(), size, &[], end);
     parts.region.store(SUPER_SIZE, end);
     // The size is durable before any store to an inode of the new leaf. So no crash leaves such a store past the end
     // of the inode file, and the contracts of the caller's next stores concern the longer file only.
     parts.region.barrier();
     let from = (size / INODE_SIZE) as usize;
     let to = (end / INODE_SIZE) as usize;
-    parts.inodes.fill(from, to);
+    parts.free_inodes.fill(from, to);
 }

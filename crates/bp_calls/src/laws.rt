@@ -36,17 +36,17 @@ pub fn content_paths_exist(image: &[u64])
 
 /// States that an image has one number of free blocks.
 pub fn one_number_is_free(image: &[u64])
-    ensures { (kept : ℕ → Bool) (one other : ℕ) → HasFree image.now kept one → HasFree image.now kept other
+    ensures { (in_snapshot : ℕ → Bool) (one other : ℕ) → HasFree image.now in_snapshot one → HasFree image.now in_snapshot other
         → one ≡ other }
 {}
 
 /// States that an exact set has as many blocks as the image has free.
 pub fn set_has_the_free(image: &[u64], blocks: &Blocks)
     requires room { length blocks.now ≡ block_count image.now }
-    ensures count { (kept : ℕ → Bool) → AreFreeBlocks image.now kept (has blocks.now)
-        → HasFree image.now kept (length (members blocks.now)) }
-    ensures none { (kept : ℕ → Bool) → AreFreeBlocks image.now kept (has blocks.now) → members blocks.now ≡ []
-        → HasFree image.now kept 0 }
+    ensures count { (in_snapshot : ℕ → Bool) → AreFreeBlocks image.now in_snapshot (has blocks.now)
+        → HasFree image.now in_snapshot (length (members blocks.now)) }
+    ensures none { (in_snapshot : ℕ → Bool) → AreFreeBlocks image.now in_snapshot (has blocks.now) → members blocks.now ≡ []
+        → HasFree image.now in_snapshot 0 }
 {}
 
 /// States that a change that is one store in place needs no block: a name is removed, a file is not made longer, or
@@ -56,7 +56,7 @@ pub fn changes_in_place_need_no_block(image: &[u64])
     ensures leaves { (i s j : ℕ) → CanUnlink image.now i s j → need image.now (leaves i s) ≡ 0 }
     ensures shorter { (i size : ℕ) → IsReached image.now i → IsFile image.now i → size ≤ size_of image.now i
         → need image.now (resizes i size) ≡ 0 }
-    ensures in_word { (i off len : ℕ) → LiesInWord image.now i off len → need image.now (writes i off len) ≡ 0 }
+    ensures in_word { (i offset len : ℕ) → LiesInWord image.now i offset len → need image.now (writes i offset len) ≡ 0 }
 {}
 
 /// States that a directory with a new name gains it in the abstract tree, at each path that finds the directory.
@@ -107,8 +107,8 @@ pub fn resized_files_get_their_size(old: &[u64], new: &[u64])
 /// place of its old bytes, and after zeros if they begin past its end.
 pub fn written_files_get_their_bytes(old: &[u64], new: &[u64])
     requires { IsWellFormed old.now }
-    ensures { (i off : ℕ) (bytes : List ℕ) → AfterThaw (WritesFile i off bytes) old.now new.now →
-        GetsBytes i off bytes old.now new.now }
+    ensures { (i offset : ℕ) (bytes : List ℕ) → AfterThaw (WritesFile i offset bytes) old.now new.now →
+        GetsBytes i offset bytes old.now new.now }
 {}
 
 /// States that files into which the pieces of a batch were written have them in the abstract tree, one piece after the

@@ -16,11 +16,11 @@ ghost use Rattle.bp_layout.specs.Inode.{IsDirectory, IsFile};
 ghost use Rattle.bp_layout.specs.Need.Change.{enters};
 ghost use Rattle.bp_layout.specs.Need.Entrant.{linked};
 ghost use Rattle.bp_layout.specs.Reached.{IsReached};
-ghost use Rattle.bp_shapes.specs.Sets.{kept_of};
+ghost use Rattle.bp_shapes.specs.Sets.{in_snapshot_of};
 ghost use Rattle.pm_region.specs.Memory.{words_in, room_in};
 
 use crate::creating::entry_need;
-use crate::entering::{entering, put_behind};
+use crate::entering::{append_entry, entering};
 use crate::thawing::thaw_before;
 use bp_dirs::{entry_place, put_name};
 use bp_free::{NoSpace, Parts};
@@ -29,35 +29,35 @@ use bp_inplace::commit_word;
 use bp_limits::{ENTRY_SIZE, SIZE_FIELD};
 use pm_region::Region;
 
-/// Enters a name for an existing file in an empty entry of a directory, if the block of the entry is not kept for the
+/// Enters a name for an existing file in an empty entry of a directory, if the block of the entry is not in the
 /// snapshot.
-fn link_slot<R: Region>(region: &mut R, dir: u32, slot: u64, i: u32, name: &[u8])
-    requires can { CanLink (words_in R.memory region.old) dir i name.now }
+fn link_slot<R: Region>(region: &mut R, dir: u32, slot: u64, ino: u32, name: &[u8])
+    requires can { CanLink (words_in R.memory region.old) dir ino name.now }
     requires found { empty_slot (words_in R.memory region.old) dir ≡ Some slot }
     requires room { entering_room (name_need (words_in R.memory region.old) dir) ≤ room_in (R.memory region.old) }
-    ensures performs { LinksInSlot (R.memory region.old) (R.memory region.new) dir slot name.now i }
+    ensures performs { LinksInSlot (R.memory region.old) (R.memory region.new) dir slot name.now ino }
     ensures exact { KeepsFree (R.memory region.old) (R.memory region.new) }
-    ensures counts { CountsMore (words_in R.memory region.old) (words_in R.memory region.new) i }
+    ensures counts { CountsMore (words_in R.memory region.old) (words_in R.memory region.new) ino }
 {
     let tree = tree_of(region, dir);
     let entry = entry_place(region, tree, slot, 0);
     put_name(region, entry, name);
-    commit_word(region, entry, u64::from(i));
+    commit_word(region, entry, u64::from(ino));
 }
 
 /// Enters a name for an existing file in an entry after the last one of a directory, whose size then includes it.
-fn link_behind<R: Region>(parts: &mut Parts<R>, dir: u32, i: u32, name: &[u8])
-    requires can { CanLinkBehind (kept_of parts.old) (R.memory parts.old.region) parts.old.blocks dir i name.now }
-    ensures performs { PerformsEntry (kept_of parts.old) (R.memory parts.old.region) (R.memory parts.new.region) dir linked
-        (LinksEntry dir name.now i) }
-    ensures exact { KeepsFreeInodes (kept_of parts.old) (R.memory parts.old.region) (R.memory parts.new.region) parts.old.blocks
-        parts.new.blocks }
-    ensures counts { CountsMore (image_in R.memory parts.old) (image_in R.memory parts.new) i }
+fn link_behind<R: Region>(parts: &mut Parts<R>, dir: u32, ino: u32, name: &[u8])
+    requires can { CanLinkBehind (in_snapshot_of parts.old) (R.memory parts.old.region) parts.old.free_blocks dir ino name.now }
+    ensures performs { PerformsEntry (in_snapshot_of parts.old) (R.memory parts.old.region) (R.memory parts.new.region) dir linked
+        (LinksEntry dir name.now ino) }
+    ensures exact { KeepsFreeInodes (in_snapshot_of parts.old) (R.memory parts.old.region) (R.memory parts.new.region) parts.old.free_blocks
+        parts.new.free_blocks }
+    ensures counts { CountsMore (image_in R.memory parts.old) (image_in R.memory parts.new) ino }
     ensures keeps { KeepsSets parts.old parts.new }
 {
     let tree = tree_of(&parts.region, dir);
     let size_place = place(&parts.region, dir, SIZE_FIELD);
-    put_behind(parts, dir, tree, i, name);
+    append_entry(parts, dir, tree, ino, name);
     commit_word(&mut parts.region, size_place, tree.size + ENTRY_SIZE);
 }
 
@@ -74,16 +74,16 @@ fn thaw_linked<R: Region>(parts: &mut Parts<R>, dir: u32, slot: Option<u64>) -> 
     requires reached { IsReached (image_in R.memory parts.old) dir }
     requires directory { IsDirectory (image_in R.memory parts.old) dir }
     requires slot { slot ≡ empty_slot (image_in R.memory parts.old) dir }
-    requires room { HasRoomWhereFree (R.memory parts.old.region) (kept_of parts.old) parts.old.blocks (enters dir linked) }
+    requires room { HasRoomWhereFree (R.memory parts.old.region) (in_snapshot_of parts.old) parts.old.free_blocks (enters dir linked) }
     ensures thaws { OnOk result (ThawsBefore R.memory parts.old parts.new (enters dir linked)) }
     ensures thawed { OnOk result (AreThawedFor R.memory parts.new (enters dir linked)) }
-    ensures refused { IfErr result (λ lacks. LacksSpace (image_in R.memory parts.old) (kept_of parts.old)
+    ensures refused { IfErr result (λ lacks. LacksSpace (image_in R.memory parts.old) (in_snapshot_of parts.old)
         (enters dir linked) lacks) }
     ensures same { OnErr result (parts.new ≡ parts.old) }
 {
     let need = entry_need(&parts.region, dir, slot);
-    if parts.frozen.count() == 0 {
-        let free = parts.blocks.count();
+    if parts.snapshot_blocks.count() == 0 {
+        let free = parts.free_blocks.count();
         if free < need {
             return Err(NoSpace { need, free });
         }
@@ -95,17 +95,17 @@ fn thaw_linked<R: Region>(parts: &mut Parts<R>, dir: u32, slot: Option<u64>) -> 
 
 /// Gives a file another link, in a directory's least empty slot or after its last entry, once no block is left to
 /// thaw.
-fn share<R: Region>(parts: &mut Parts<R>, dir: u32, slot: Option<u64>, name: &[u8], i: u32)
-    requires can { CanShare (kept_of parts.old) (R.memory parts.old.region) parts.old.blocks parts.old.inodes dir i name.now }
+fn add_link<R: Region>(parts: &mut Parts<R>, dir: u32, slot: Option<u64>, name: &[u8], ino: u32)
+    requires can { CanShare (in_snapshot_of parts.old) (R.memory parts.old.region) parts.old.free_blocks parts.old.free_inodes dir ino name.now }
     requires exact { IsExactIn R.memory parts.old }
     requires slot { slot ≡ empty_slot (image_in R.memory parts.old) dir }
-    ensures { CommitsChange R.memory parts.old parts.new (enters dir linked) (LinksEntry dir name.now i) }
+    ensures { CommitsChange R.memory parts.old parts.new (enters dir linked) (LinksEntry dir name.now ino) }
 {
-    let names = parts.counts.names(i);
-    parts.counts.set(i, names + 1);
+    let names = parts.link_counts.names(ino);
+    parts.link_counts.set(ino, names + 1);
     match slot {
-        Some(slot) => link_slot(&mut parts.region, dir, slot, i, name),
-        None => link_behind(parts, dir, i, name),
+        Some(slot) => link_slot(&mut parts.region, dir, slot, ino, name),
+        None => link_behind(parts, dir, ino, name),
     }
 }
 
@@ -121,7 +121,7 @@ pub fn link_in<R: Region>(
     dir: u32,
     slot: Option<u64>,
     name: &[u8],
-    i: u32,
+    ino: u32,
 ) -> Result<(), NoSpace>
     requires mounted { IsMountedIn R.memory parts.old }
     requires reached { IsReached (image_in R.memory parts.old) dir }
@@ -129,14 +129,14 @@ pub fn link_in<R: Region>(
     requires name { IsName name.now }
     requires slot { slot ≡ empty_slot (image_in R.memory parts.old) dir }
     requires new { slot_named (image_in R.memory parts.old) dir name.now ≡ None }
-    requires there { IsReached (image_in R.memory parts.old) i }
-    requires file { IsFile (image_in R.memory parts.old) i }
-    requires room { HasRoomWhereFree (R.memory parts.old.region) (kept_of parts.old) parts.old.blocks (enters dir linked) }
-    ensures { CommitsOrLacksSpace R.memory parts.old parts.new result (enters dir linked) (LinksEntry dir name.now i) }
+    requires there { IsReached (image_in R.memory parts.old) ino }
+    requires file { IsFile (image_in R.memory parts.old) ino }
+    requires room { HasRoomWhereFree (R.memory parts.old.region) (in_snapshot_of parts.old) parts.old.free_blocks (enters dir linked) }
+    ensures { CommitsOrLacksSpace R.memory parts.old parts.new result (enters dir linked) (LinksEntry dir name.now ino) }
 {
     match thaw_linked(parts, dir, slot) {
         Ok(()) => {
-            share(parts, dir, slot, name, i);
+            add_link(parts, dir, slot, name, ino);
             Ok(())
         }
         Err(lacks) => Err(lacks),

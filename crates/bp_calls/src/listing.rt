@@ -25,26 +25,26 @@ const ENTRY: usize = ENTRY_WORDS as usize;
 /// # Errors
 ///
 /// - `AllocError`: allocation fails.
-pub fn list<R: Region>(alloc: Global, region: &R, i: u32) -> Result<Listing, AllocError>
+pub fn list<R: Region>(alloc: Global, region: &R, ino: u32) -> Result<Listing, AllocError>
     requires well_formed { IsWellFormed (words_in R.memory region.now) }
-    requires reached { IsReached (words_in R.memory region.now) i }
-    requires directory { IsDirectory (words_in R.memory region.now) i }
-    ensures { IfOk result (λ names. ListsNames (words_in R.memory region.now) i names) }
+    requires reached { IsReached (words_in R.memory region.now) ino }
+    requires directory { IsDirectory (words_in R.memory region.now) ino }
+    ensures { IfOk result (λ names. ListsNames (words_in R.memory region.now) ino names) }
 {
-    let mut listing = entries(alloc, region, i)?;
+    let mut listing = entries(alloc, region, ino)?;
     listing.sort();
     Ok(listing)
 }
 
 /// Returns the kinds and names of the entries of directory `i` that refer to an inode, in the order of their slots.
-fn entries<R: Region>(alloc: Global, region: &R, i: u32) -> Result<Listing, AllocError>
+fn entries<R: Region>(alloc: Global, region: &R, ino: u32) -> Result<Listing, AllocError>
     requires well_formed { IsWellFormed (words_in R.memory region.now) }
-    requires reached { IsReached (words_in R.memory region.now) i }
-    requires directory { IsDirectory (words_in R.memory region.now) i }
+    requires reached { IsReached (words_in R.memory region.now) ino }
+    requires directory { IsDirectory (words_in R.memory region.now) ino }
     ensures { let image = words_in R.memory region.now in
-        IfOk result (λ listing. listing ≡ entries_seen image i (entry_count image i)) }
+        IfOk result (λ listing. listing ≡ entries_seen image ino (entry_count image ino)) }
 {
-    let tree = tree_of(region, i);
+    let tree = tree_of(region, ino);
     let slots = tree.size / ENTRY_SIZE;
     let mut listing = Listing::with_capacity(alloc, count(region, tree) as usize)?;
     for leaf in 0..slots.div_ceil(BLOCK_ENTRIES) {

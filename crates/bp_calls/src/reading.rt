@@ -18,26 +18,26 @@ use pm_region::Region;
 
 /// Reads bytes of a file from an offset on, and returns their number: as many as `into` has room for and the file has
 /// from there on. At and past the end of the file there are none. The rest of `into` is unchanged.
-pub fn read<R: Region>(region: &R, i: u32, off: u64, into: &mut [u8]) -> usize
+pub fn read<R: Region>(region: &R, ino: u32, offset: u64, into: &mut [u8]) -> usize
     requires well_formed { IsWellFormed (words_in R.memory region.now) }
-    requires reached { IsReached (words_in R.memory region.now) i }
-    requires file { IsFile (words_in R.memory region.now) i }
+    requires reached { IsReached (words_in R.memory region.now) ino }
+    requires file { IsFile (words_in R.memory region.now) ino }
     ensures bytes { take result into.new ≡
-        take (length into.old) (drop off (bytes_of (words_in R.memory region.now) i)) }
+        take (length into.old) (drop offset (bytes_of (words_in R.memory region.now) ino)) }
     ensures fits { result ≤ length into.new }
     ensures rest { drop result into.new ≡ drop result into.old }
 {
-    bp_tree::read(region, tree_of(region, i), off, into)
+    bp_tree::read(region, tree_of(region, ino), offset, into)
 }
 
 /// Returns the size in bytes of a file, or the number of names of a directory.
-pub fn stat<R: Region>(region: &R, i: u32) -> Stat
+pub fn stat<R: Region>(region: &R, ino: u32) -> Stat
     requires well_formed { IsWellFormed (words_in R.memory region.now) }
-    requires reached { IsReached (words_in R.memory region.now) i }
-    requires inode { 1 ≤ i }
-    ensures { result ≡ stat_of (words_in R.memory region.now) i }
+    requires reached { IsReached (words_in R.memory region.now) ino }
+    requires inode { 1 ≤ ino }
+    ensures { result ≡ stat_of (words_in R.memory region.now) ino }
 {
-    let inode = get(region, i);
+    let inode = get(region, ino);
     let tree = Tree {
         root: inode.root,
         size: inode.size,
@@ -51,10 +51,10 @@ pub fn stat<R: Region>(region: &R, i: u32) -> Stat
 }
 
 /// Returns the number of links of an inode.
-pub fn links<R: Region>(parts: &Parts<R>, i: u32) -> u32
+pub fn links<R: Region>(parts: &Parts<R>, ino: u32) -> u32
     requires mounted { IsMountedIn R.memory parts.now }
-    requires reached { IsReached (image_in R.memory parts.now) i }
-    ensures { HasNames (image_in R.memory parts.now) i result }
+    requires reached { IsReached (image_in R.memory parts.now) ino }
+    ensures { HasNames (image_in R.memory parts.now) ino result }
 {
-    parts.counts.names(i)
+    parts.link_counts.names(ino)
 }

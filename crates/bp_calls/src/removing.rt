@@ -9,10 +9,10 @@ ghost use Rattle.bp_changes.specs.Effects.{CanUnlink, RemovesEntry};
 ghost use Rattle.bp_layout.specs.Directory.{inumber_at};
 ghost use Rattle.bp_layout.specs.Need.Change.{leaves};
 ghost use Rattle.bp_layout.specs.Thaw.{thawed};
-ghost use Rattle.bp_shapes.specs.Sets.{kept_of};
+ghost use Rattle.bp_shapes.specs.Sets.{in_snapshot_of};
 ghost use Rattle.pm_region.specs.Memory.{room_in};
 
-use crate::giving::give_back;
+use crate::giving::free_tree;
 use crate::targets::leaving;
 use crate::thawing::thaw_before;
 use bp_dirs::{entry_place, inumber};
@@ -32,13 +32,13 @@ fn thaw_entry<R: Region>(parts: &mut Parts<R>, dir: u32, slot: u64) -> Result<()
     requires mounted { IsMountedIn R.memory parts.old }
     requires can { CanUnlink (image_in R.memory parts.old) dir slot
         (inumber_at (image_in R.memory parts.old) dir slot) }
-    requires room { HasRoomWhereFree (R.memory parts.old.region) (kept_of parts.old) parts.old.blocks (leaves dir slot) }
+    requires room { HasRoomWhereFree (R.memory parts.old.region) (in_snapshot_of parts.old) parts.old.free_blocks (leaves dir slot) }
     ensures thaws { OnOk result (ThawsBefore R.memory parts.old parts.new (leaves dir slot)) }
     ensures room { OnOk result (3 ≤ room_in (R.memory parts.new.region)) }
-    ensures refused { IfErr result (LacksSpace (image_in R.memory parts.old) (kept_of parts.old) (leaves dir slot)) }
+    ensures refused { IfErr result (LacksSpace (image_in R.memory parts.old) (in_snapshot_of parts.old) (leaves dir slot)) }
     ensures same { OnErr result (parts.new ≡ parts.old) }
 {
-    if parts.frozen.count() == 0 {
+    if parts.snapshot_blocks.count() == 0 {
         return Ok(());
     }
     let targets = leaving(&parts.region, dir, slot);
@@ -50,24 +50,30 @@ fn take_out<R: Region>(parts: &mut Parts<R>, dir: u32, slot: u64)
     requires mounted { IsMountedIn R.memory parts.old }
     requires can { CanUnlink (image_in R.memory parts.old) dir slot
         (inumber_at (image_in R.memory parts.old) dir slot) }
-    requires clear { thawed (image_in R.memory parts.old) (kept_of parts.old) (leaves dir slot) ≡ [] }
+    requires clear { thawed (image_in R.memory parts.old) (in_snapshot_of parts.old) (leaves dir slot) ≡ [] }
     requires room { 3 ≤ room_in (R.memory parts.old.region) }
     ensures { CommitsChange R.memory parts.old parts.new (leaves dir slot) (λ image after. RemovesEntry image after dir slot) }
 {
     let directory = tree_of(&parts.region, dir);
     let entry = entry_place(&parts.region, directory, slot, 0);
-    let inode = inumber(&parts.region, directory, slot) as u32;
-    let tree = tree_of(&parts.region, inode);
-    let names = parts.counts.names(inode) - 1;
-    parts.counts.set(inode, names);
+    let ino = inumber(&parts.region, directory, slot) as u32;
+    let tree = tree_of(&parts.region, ino);
+    let names = parts.link_counts.names(ino) - 1;
+    parts.link_counts.set(ino, names);
     commit_word(&mut parts.region, entry, 0);
     if names > 0 {
         return;
     }
     let shorter = 0;
-    let frozen = &parts.frozen;
-    give_back(&parts.region, tree, shorter, &mut parts.blocks, frozen);
-    parts.inodes.give(inode);
+    let snapshot_blocks = &parts.snapshot_blocks;
+    free_tree(
+        &parts.region,
+        tree,
+        shorter,
+        &mut parts.free_blocks,
+        snapshot_blocks,
+    );
+    parts.free_inodes.give(ino);
 }
 
 /// Removes a name from a directory, if it refers to a file or an empty directory, by one store alone in its epoch: of
@@ -84,7 +90,7 @@ pub fn remove<R: Region>(parts: &mut Parts<R>, dir: u32, slot: u64) -> Result<()
     requires mounted { IsMountedIn R.memory parts.old }
     requires can { CanUnlink (image_in R.memory parts.old) dir slot
         (inumber_at (image_in R.memory parts.old) dir slot) }
-    requires room { HasRoomWhereFree (R.memory parts.old.region) (kept_of parts.old) parts.old.blocks (leaves dir slot) }
+    requires room { HasRoomWhereFree (R.memory parts.old.region) (in_snapshot_of parts.old) parts.old.free_blocks (leaves dir slot) }
     ensures { CommitsOrLacksSpace R.memory parts.old parts.new result (leaves dir slot)
         (λ image after. RemovesEntry image after dir slot) }
 {

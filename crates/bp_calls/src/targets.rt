@@ -31,16 +31,16 @@ use pm_words::span;
 pub type Targets = ArrayVec<Slots, 8>;
 
 /// Returns the path of the word that holds a byte of a tree other than the inode file, given the tree.
-pub(crate) fn content_path<R: Region>(region: &R, i: u32, tree: Tree, off: u64) -> Slots
+pub(crate) fn content_path<R: Region>(region: &R, ino: u32, tree: Tree, offset: u64) -> Slots
     requires well_formed { IsWellFormed (words_in R.memory region.now) }
-    requires reached { IsReached (words_in R.memory region.now) i }
-    requires some { 1 ≤ i }
-    requires root { tree.root ≡ root_of (words_in R.memory region.now) i }
-    requires below { off < size_of (words_in R.memory region.now) i }
-    ensures { result.items ≡ content_path_at (heights_now (words_in R.memory region.now)) i (off / 8) }
+    requires reached { IsReached (words_in R.memory region.now) ino }
+    requires some { 1 ≤ ino }
+    requires root { tree.root ≡ root_of (words_in R.memory region.now) ino }
+    requires below { offset < size_of (words_in R.memory region.now) ino }
+    ensures { result.items ≡ content_path_at (heights_now (words_in R.memory region.now)) ino (offset / 8) }
 {
-    let mut path = root_path(region, i);
-    let within = word_path(tree, off);
+    let mut path = root_path(region, ino);
+    let within = word_path(tree, offset);
     match path.try_extend_from_slice(within.as_slice()) {
         Ok(()) => path,
         Err(_) => unreachable!(),
@@ -71,13 +71,13 @@ pub(crate) fn leaving<R: Region>(region: &R, dir: u32, slot: u64) -> Targets
 }
 
 /// Returns the target of making a file no longer: the word of its size alone.
-pub(crate) fn shrinking<R: Region>(region: &R, i: u32) -> Targets
+pub(crate) fn shrinking<R: Region>(region: &R, ino: u32) -> Targets
     requires well_formed { IsWellFormed (words_in R.memory region.now) }
-    requires reached { IsReached (words_in R.memory region.now) i }
-    ensures { AreTargetsShorter (words_in R.memory region.now) i (paths_in result) }
+    requires reached { IsReached (words_in R.memory region.now) ino }
+    ensures { AreTargetsShorter (words_in R.memory region.now) ino (paths_in result) }
 {
     let mut targets = Targets::new();
-    targets.push(size_path(region, i));
+    targets.push(size_path(region, ino));
     targets
 }
 
@@ -93,72 +93,72 @@ fn copy_of(path: &Slots) -> Slots
 }
 
 /// Returns a word, and those near which bytes past the size of a file are stored.
-fn with_end<R: Region>(region: &R, i: u32, word: Slots) -> Targets
+fn with_end<R: Region>(region: &R, ino: u32, word: Slots) -> Targets
     requires well_formed { IsWellFormed (words_in R.memory region.now) }
-    requires reached { IsReached (words_in R.memory region.now) i }
-    requires some { 1 ≤ i }
-    ensures { paths_in result ≡ word.items ∷ root_path_now (words_in R.memory region.now) i
-        ∷ end_path_now (words_in R.memory region.now) i ∷ [] }
+    requires reached { IsReached (words_in R.memory region.now) ino }
+    requires some { 1 ≤ ino }
+    ensures { paths_in result ≡ word.items ∷ root_path_now (words_in R.memory region.now) ino
+        ∷ end_path_now (words_in R.memory region.now) ino ∷ [] }
 {
     let mut targets = Targets::new();
     targets.push(word);
-    push_end(&mut targets, &root_path(region, i), tree_of(region, i));
+    push_end(&mut targets, &root_path(region, ino), tree_of(region, ino));
     targets
 }
 
 /// Returns the targets of making a file longer, with zeros or with bytes past its size: the word of its size, and the
 /// end of its tree.
-pub(crate) fn lengthening<R: Region>(region: &R, i: u32) -> Targets
+pub(crate) fn lengthening<R: Region>(region: &R, ino: u32) -> Targets
     requires well_formed { IsWellFormed (words_in R.memory region.now) }
-    requires reached { IsReached (words_in R.memory region.now) i }
-    requires some { 1 ≤ i }
-    ensures resizes { AreTargetsLonger (words_in R.memory region.now) i (paths_in result) }
-    ensures writes { AreTargetsBehind (words_in R.memory region.now) i (paths_in result) }
+    requires reached { IsReached (words_in R.memory region.now) ino }
+    requires some { 1 ≤ ino }
+    ensures resizes { AreTargetsLonger (words_in R.memory region.now) ino (paths_in result) }
+    ensures writes { AreTargetsBehind (words_in R.memory region.now) ino (paths_in result) }
 {
-    with_end(region, i, size_path(region, i))
+    with_end(region, ino, size_path(region, ino))
 }
 
 /// Returns the targets of a write on both sides of a file's size: the pointer to the leaf with its inode, which holds
 /// both the word of its size and its root word, and the end of its tree.
-fn crossing<R: Region>(region: &R, i: u32) -> Targets
+fn crossing<R: Region>(region: &R, ino: u32) -> Targets
     requires well_formed { IsWellFormed (words_in R.memory region.now) }
-    requires reached { IsReached (words_in R.memory region.now) i }
-    requires some { 1 ≤ i }
-    ensures { AreTargetsAcross (words_in R.memory region.now) i (paths_in result) }
+    requires reached { IsReached (words_in R.memory region.now) ino }
+    requires some { 1 ≤ ino }
+    ensures { AreTargetsAcross (words_in R.memory region.now) ino (paths_in result) }
 {
-    let mut leaf = size_path(region, i);
+    let mut leaf = size_path(region, ino);
     leaf.pop();
-    with_end(region, i, leaf)
+    with_end(region, ino, leaf)
 }
 
 /// Returns the target of a write below a file's size: the word that covers the bytes.
-fn covering<R: Region>(parts: &Parts<R>, i: u32, off: u64, bytes: &[u8]) -> Targets
+fn covering<R: Region>(parts: &Parts<R>, ino: u32, offset: u64, bytes: &[u8]) -> Targets
     requires mounted { IsMountedIn R.memory parts.now }
-    requires can { CanWrite (image_in R.memory parts.now) i off bytes.now }
-    requires below { off + length bytes.now ≤ size_of (image_in R.memory parts.now) i }
-    ensures { paths_in result ≡ targets (image_in R.memory parts.now) (writes i off (length bytes.now)) }
+    requires can { CanWrite (image_in R.memory parts.now) ino offset bytes.now }
+    requires below { offset + length bytes.now ≤ size_of (image_in R.memory parts.now) ino }
+    ensures { paths_in result ≡ targets (image_in R.memory parts.now) (writes ino offset (length bytes.now)) }
 {
-    let tree = tree_of(&parts.region, i);
-    let runs = [run_for(&parts.region, i, tree, off, bytes)];
+    let tree = tree_of(&parts.region, ino);
+    let runs = [run_for(&parts.region, ino, tree, offset, bytes)];
     let mut targets = Targets::new();
     targets.push(cover(&parts.region, &touched_by(&runs)));
     targets
 }
 
 /// Returns the targets of a write.
-pub(crate) fn writing<R: Region>(parts: &Parts<R>, i: u32, off: u64, bytes: &[u8]) -> Targets
+pub(crate) fn writing<R: Region>(parts: &Parts<R>, ino: u32, offset: u64, bytes: &[u8]) -> Targets
     requires mounted { IsMountedIn R.memory parts.now }
-    requires can { CanWrite (image_in R.memory parts.now) i off bytes.now }
-    ensures { paths_in result ≡ targets (image_in R.memory parts.now) (writes i off (length bytes.now)) }
+    requires can { CanWrite (image_in R.memory parts.now) ino offset bytes.now }
+    ensures { paths_in result ≡ targets (image_in R.memory parts.now) (writes ino offset (length bytes.now)) }
 {
-    let size = tree_of(&parts.region, i).size;
-    if size <= off {
-        return lengthening(&parts.region, i);
+    let size = tree_of(&parts.region, ino).size;
+    if size <= offset {
+        return lengthening(&parts.region, ino);
     }
-    if off + bytes.len() as u64 <= size {
-        return covering(parts, i, off, bytes);
+    if offset + bytes.len() as u64 <= size {
+        return covering(parts, ino, offset, bytes);
     }
-    crossing(&parts.region, i)
+    crossing(&parts.region, ino)
 }
 
 /// Returns the path of the word of the byte at the size of a tree, given the path of its root word. If the tree is

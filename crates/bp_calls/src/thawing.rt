@@ -7,7 +7,7 @@ ghost use Rattle.bp_calls.specs.ThawsFor.{HasRoomToThaw, LacksBlocksToThaw, Thaw
 ghost use Rattle.bp_free.specs.Set.{members};
 ghost use Rattle.bp_layout.specs.Members.{Has};
 ghost use Rattle.bp_layout.specs.WordPaths.{WordPath};
-ghost use Rattle.bp_shapes.specs.Sets.{kept_of};
+ghost use Rattle.bp_shapes.specs.Sets.{in_snapshot_of};
 ghost use Rattle.bp_thaw.specs.Fronts.{IsWayIn};
 ghost use Rattle.bp_thaw.specs.Thaws.{paths_in};
 
@@ -23,11 +23,11 @@ use pm_region::Region;
 /// - `NoSpace`: fewer blocks are free.
 pub(crate) fn enough_free<R: Region>(parts: &Parts<R>, need: u32) -> Result<(), NoSpace>
     requires { IsMountedIn R.memory parts.now }
-    ensures enough { OnOk result (need ≤ length (members parts.now.blocks)) }
-    ensures refused { IfErr result (LacksBlocks (image_in R.memory parts.now) (kept_of parts.now) need) }
-    ensures free { IfErr result (λ lacks. lacks.free ≡ length (members parts.now.blocks)) }
+    ensures enough { OnOk result (need ≤ length (members parts.now.free_blocks)) }
+    ensures refused { IfErr result (LacksBlocks (image_in R.memory parts.now) (in_snapshot_of parts.now) need) }
+    ensures free { IfErr result (λ lacks. lacks.free ≡ length (members parts.now.free_blocks)) }
 {
-    let free = parts.blocks.count();
+    let free = parts.free_blocks.count();
     if free < need {
         return Err(NoSpace { need, free });
     }
@@ -52,7 +52,7 @@ pub fn thaw_before<R: Region>(
     requires room { HasRoomToThaw R.memory (paths_in targets.now) parts.old more }
     ensures thaws { OnOk result (ThawsFor R.memory (paths_in targets.now) parts.old parts.new) }
     ensures enough { OnOk result (thaw_count R.memory (paths_in targets.now) parts.old + more ≤
-        length (members parts.old.blocks)) }
+        length (members parts.old.free_blocks)) }
     ensures refused { IfErr result (LacksBlocksToThaw R.memory (paths_in targets.now) parts.old more) }
     ensures same { OnErr result (parts.new ≡ parts.old) }
 {

@@ -116,7 +116,7 @@ module _ (old new : Image) (wf : IsWellFormed old) (agrees : Agrees old new) whe
   meaning-same = record {
     trees = record {
       whole = agrees.whole;
-      marked = (agrees.each 0).superblock (omega arith);
+      has_magic = (agrees.each 0).superblock (omega arith);
       counted = (agrees.each 1).superblock (omega arith);
       low = λ t r. at_old (λ root s. 0 < s → height_of root ≤ greatest_height (version_of new)) (λ _ _ _ some. absurd (omega (arith, some))) t r
           (low_stays old new ((agrees.each 0).superblock (omega arith)) (root_of old t) (root_of old t) (size_of old t) (λ _. refl) (wf.low t r));

@@ -49,7 +49,7 @@ module _ (old : Image) (wf : IsWellFormed old) (i s value place : ℕ) (reached_
   store_sets = record {
     trees = record {
       whole = length-set old place value;
-      marked = superblock_stays old wf i (32 * s + 0) place value reached_here not_inode_file below stands 0 (omega arith);
+      has_magic = superblock_stays old wf i (32 * s + 0) place value reached_here not_inode_file below stands 0 (omega arith);
       counted = superblock_stays old wf i (32 * s + 0) place value reached_here not_inode_file below stands 1 (omega arith);
       low = λ t r. to_new (λ root z. 0 < z → height_of root ≤ greatest_height (version_of (set old place value))) t r
           (low_stays old (set old place value) (superblock_stays old wf i (32 * s + 0) place value reached_here not_inode_file below stands 0 (omega arith)) (root_of old t) (root_of old t) (size_of old t) (λ _. refl) (wf.low t r));

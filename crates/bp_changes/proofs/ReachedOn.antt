@@ -22,7 +22,7 @@ module _ (old new : Image) (same : SameMeaning old new) where
 pub trees_over : (old mid new : Image) → SameMeaning old mid → KeepsTrees mid new → KeepsTrees old new
 trees_over old mid new same trees = record {
   whole = trees.whole ∙ same.trees.whole;
-  marked = trees.marked ∙ same.trees.marked;
+  has_magic = trees.has_magic ∙ same.trees.has_magic;
   counted = trees.counted ∙ same.trees.counted;
   low = λ t r. trees.low t (reached_on old mid same t r);
   sound = λ t r. trees.sound t (reached_on old mid same t r);

@@ -188,7 +188,7 @@ module _ (old : Image) (wf : IsWellFormed old) (n size place : ℕ) (can : CanRe
     is_file = can.is_file;
     trees = record {
       whole = whole;
-      marked = superblock 0 (omega arith);
+      has_magic = superblock 0 (omega arith);
       counted = superblock 1 (omega arith);
       low = λ t r. low_cases t r (cases_eq t (suc n));
       sound = λ t r. sound_cases t r (cases_eq t (suc n));

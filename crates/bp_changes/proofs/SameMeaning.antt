@@ -60,7 +60,7 @@ module _ (old new : Image) (wf : IsWellFormed old) (same : SameMeaning old new) 
   same-by_meaning = record {
     old_well_formed = wf;
     new_well_formed = well_formed-same;
-    version = version_stays old new same.trees.marked;
+    version = version_stays old new same.trees.has_magic;
     shows = shown-same old new view-same;
     one = find_one-same old new view-same.directories;
   }

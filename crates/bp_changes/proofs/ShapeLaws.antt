@@ -124,7 +124,7 @@ height-rises low size t h some up (b ∷ bs) = height-rises low size t (if b.tre
 
 -- They are reached, and those that get an entry are directories.
 abbrev pub IsOfReached : Image → Change → Type 0
-IsOfReached image (writes i off len) = IsReached image i
+IsOfReached image (writes i offset len) = IsReached image i
 IsOfReached image (resizes i size) = IsReached image i
 IsOfReached image (enters i entrant) = IsReached image i × IsDirectory image i
 IsOfReached image (leaves i s) = IsReached image i
@@ -153,7 +153,7 @@ module _ (old new : Image) (shape : SameShape old new) where
   entry-same i reached kind = ap (new_entry new i) (empty-same i reached kind) ∙ new_entry-same i reached (empty_slot old i)
 
   pub beyond-same : (change : Change) → IsOfReached old change → beyond new change ≡ beyond old change
-  beyond-same (writes i off len) of = rw (shape.sizes i of) refl
+  beyond-same (writes i offset len) of = rw (shape.sizes i of) refl
   beyond-same (resizes i size) of = rw (shape.sizes i of) refl
   beyond-same (enters i entrant) of = entry-same i of.0 of.1
   beyond-same (leaves i s) of = refl
@@ -163,7 +163,7 @@ module _ (old new : Image) (shape : SameShape old new) where
   beyond-same (overwrites stretches) of = refl
 
   pub new_inodes-same : (change : Change) → new_inodes new change ≡ new_inodes old change
-  new_inodes-same (writes i off len) = refl
+  new_inodes-same (writes i offset len) = refl
   new_inodes-same (resizes i size) = refl
   new_inodes-same (enters i (taken j)) = refl
   new_inodes-same (enters i grown) = ap (λ s. record { tree = 0; from = s; to = s + 4096 } ∷ []) (shape.sizes 0 inode_file)
@@ -182,7 +182,7 @@ module _ (old new : Image) (shape : SameShape old new) where
   entry-reached i reached (Some slot) = tt
 
   beyond-reached : (change : Change) → IsOfReached old change → OfReached (beyond old change)
-  beyond-reached (writes i off len) of = each-if _ (nat_lt (size_of old i) (off + len)) _ (of, tt)
+  beyond-reached (writes i offset len) of = each-if _ (nat_lt (size_of old i) (offset + len)) _ (of, tt)
   beyond-reached (resizes i size) of = each-if _ (nat_lt (size_of old i) size) _ (of, tt)
   beyond-reached (enters i entrant) of = entry-reached i of.0 (empty_slot old i)
   beyond-reached (leaves i s) of = tt
@@ -192,7 +192,7 @@ module _ (old new : Image) (shape : SameShape old new) where
   beyond-reached (overwrites stretches) of = tt
 
   inodes-reached : (change : Change) → OfReached (new_inodes old change)
-  inodes-reached (writes i off len) = tt
+  inodes-reached (writes i offset len) = tt
   inodes-reached (resizes i size) = tt
   inodes-reached (enters i (taken j)) = tt
   inodes-reached (enters i grown) = (inode_file, tt)
@@ -249,14 +249,14 @@ module _ (old new : Image) (shape : SameShape old new) where
     stretches-same [] all = refl
     stretches-same (s ∷ stretches) all =
         ap₂ (λ (xs ys : List WordPath). xs ++ ys)
-        (ap (λ (xs : List WordPath). if s.len == 0 then [] else xs) (map_pointwise (content_path_at g s.inode) (content_path_at h s.inode) (content-same s.inode all.0) (range_with_len (s.off / 8) (suc ((s.off + s.len - 1) / 8 - s.off / 8)))))
+        (ap (λ (xs : List WordPath). if s.len == 0 then [] else xs) (map_pointwise (content_path_at g s.inode) (content_path_at h s.inode) (content-same s.inode all.0) (range_with_len (s.offset / 8) (suc ((s.offset + s.len - 1) / 8 - s.offset / 8)))))
         (stretches-same stretches all.1)
 
     touched-same : (change : Change) → IsOfReached old change → touched_at g new change ≡ touched_at h old change
-    touched-same (writes i off len) of =
+    touched-same (writes i offset len) of =
         rw (shape.sizes i of)
         (ap₂ (λ (xs ys : List WordPath). xs ++ ys) (map_pointwise (content_path_at g i) (content_path_at h i) (content-same i of) _)
-        (ap (λ (p : WordPath). if nat_lt (size_of old i) (off + len) then p ∷ [] else []) (size_path-same i)))
+        (ap (λ (p : WordPath). if nat_lt (size_of old i) (offset + len) then p ∷ [] else []) (size_path-same i)))
     touched-same (resizes i size) of = ap (λ (p : WordPath). p ∷ []) (size_path-same i)
     touched-same (enters i entrant) of = ap (λ (p : WordPath). p ∷ []) (entry_at-same i of.0 of.1)
     touched-same (leaves i s) of = ap (λ (p : WordPath). p ∷ []) (entry_path-same i of s 0)
@@ -305,14 +305,14 @@ module _ (old new : Image) (shape : SameShape old new) where
     stretches-on [] all = tt
     stretches-on (s ∷ stretches) all = each-append OnTrees (stretch_paths h s) (flat_map (stretch_paths h) stretches) (go (s.len == 0)) (stretches-on stretches all.1)
       where
-        go : (b : Bool) → Each OnTrees (if b then [] else map (content_path_at h s.inode) (range_with_len (s.off / 8) (suc ((s.off + s.len - 1) / 8 - s.off / 8))))
+        go : (b : Bool) → Each OnTrees (if b then [] else map (content_path_at h s.inode) (range_with_len (s.offset / 8) (suc ((s.offset + s.len - 1) / 8 - s.offset / 8))))
         go true = tt
-        go false = each-map OnTrees (content_path_at h s.inode) (content-on s.inode all.0) (range_with_len (s.off / 8) (suc ((s.off + s.len - 1) / 8 - s.off / 8)))
+        go false = each-map OnTrees (content_path_at h s.inode) (content-on s.inode all.0) (range_with_len (s.offset / 8) (suc ((s.offset + s.len - 1) / 8 - s.offset / 8)))
 
     touched-on : (change : Change) → IsOfReached old change → Each OnTrees (touched_at h old change)
-    touched-on (writes i off len) of =
-        each-append OnTrees _ (if nat_lt (size_of old i) (off + len) then inode_path (h 0) i 2 ∷ [] else []) (each-map OnTrees (content_path_at h i) (content-on i of) _)
-        (each-if OnTrees (nat_lt (size_of old i) (off + len)) (inode_path (h 0) i 2 ∷ []) (digits-on (8 * i + 2), tt))
+    touched-on (writes i offset len) of =
+        each-append OnTrees _ (if nat_lt (size_of old i) (offset + len) then inode_path (h 0) i 2 ∷ [] else []) (each-map OnTrees (content_path_at h i) (content-on i of) _)
+        (each-if OnTrees (nat_lt (size_of old i) (offset + len)) (inode_path (h 0) i 2 ∷ []) (digits-on (8 * i + 2), tt))
     touched-on (resizes i size) of = (digits-on (8 * i + 2), tt)
     touched-on (enters i entrant) of = (entered-on i of.0 (empty_slot old i), tt)
     touched-on (leaves i s) of = (content-on i of (32 * s + 0), tt)
@@ -447,7 +447,7 @@ module _ (old new : Image) (wf : IsWellFormed old) (shape : SameShape old new) (
   slot-same j reached (Some slot) = ap (λ (p : WordPath). p ∷ []) (entry_path-same old new shape (heights_now new) (heights_now old) shape.heights j reached slot 0)
 
   entry_targets-same : (change : Change) → IsOfReached old change → entry_targets new change ≡ entry_targets old change
-  entry_targets-same (writes i off len) of = refl
+  entry_targets-same (writes i offset len) of = refl
   entry_targets-same (resizes i size) of = refl
   entry_targets-same (enters i (taken j)) of = ap (λ (h : ℕ). inode_path h j 0 ∷ []) (shape.heights 0 inode_file)
   entry_targets-same (enters i grown) of = refl

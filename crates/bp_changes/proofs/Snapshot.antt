@@ -6,7 +6,7 @@ use Rattle.bp_limits.specs.CallLimits.{is_two}
 use Rattle.bp_layout.specs.Words.{Image, word}
 use Rattle.bp_layout.specs.Reached.{IsLiveBlock}
 use Rattle.bp_layout.specs.Same.{Same}
-use Rattle.bp_layout.specs.Trees.{AreFrozen, has_snapshot, snapshot_of}
+use Rattle.bp_layout.specs.Trees.{AreInSnapshot, has_snapshot, snapshot_of}
 use Rattle.bp_layout.specs.WellFormed.{IsWellFormed}
 use Rattle.bp_layout.proofs.TreeImages.{length-snapshot, snapshot-root, snapshot-size, snapshot-word}
 use Rattle.bp_changes.specs.Harmless.{IsHarmless, Agrees}
@@ -16,13 +16,13 @@ use Rattle.bp_changes.proofs.SameMeaning.{reached-back}
 use Rattle.bp_changes.proofs.Separation.{free-harmless}
 use Rattle.bp_changes.proofs.Stores.{harmless_here}
 
--- the words of the superblock but for those of the first tree, and the words of kept blocks
-pub record Keeps (old new : Image) (kept : ℕ → Bool) : Type 0 where
+-- the words of the superblock but for those of the first tree, and the words of blocks of the snapshot
+pub record Keeps (old new : Image) (in_snapshot : ℕ → Bool) : Type 0 where
   pub whole : length new ≡ length old
   pub superblock : (place : ℕ) → place < 512 → place ≢ 2 → place ≢ 3 → word new place ≡ word old place
-  pub blocks : (place : ℕ) → kept (place / 512) ≡ true → word new place ≡ word old place
+  pub blocks : (place : ℕ) → in_snapshot (place / 512) ≡ true → word new place ≡ word old place
 
-module _ (old new : Image) (kept : ℕ → Bool) (long : 4 ≤ length old) (frozen : AreFrozen old kept) (keeps : Keeps old new kept) where
+module _ (old new : Image) (in_snapshot : ℕ → Bool) (long : 4 ≤ length old) (snapshot_blocks : AreInSnapshot old in_snapshot) (keeps : Keeps old new in_snapshot) where
   pub has_snapshot-same : has_snapshot new ≡ has_snapshot old
   has_snapshot-same =
       λ i. is_two (version_at (keeps.superblock 0 (omega arith) (λ e. omega (arith, e)) (λ e. omega (arith, e)) i))
@@ -51,7 +51,7 @@ module _ (old new : Image) (kept : ℕ → Bool) (long : 4 ≤ length old) (froz
         at_same : word (snapshot_of new) place ≡ word (snapshot_of old) place → IsHarmless (snapshot_of old) place (word (snapshot_of new) place)
         at_same e = subst (IsHarmless (snapshot_of old) place) (sym e) (harmless_here (snapshot_of old) place)
 
-        in_block : 512 ≤ place → (b : Bool) → kept (place / 512) ≡ b → IsHarmless (snapshot_of old) place (word (snapshot_of new) place)
+        in_block : 512 ≤ place → (b : Bool) → in_snapshot (place / 512) ≡ b → IsHarmless (snapshot_of old) place (word (snapshot_of new) place)
         in_block high true e =
             at_same (snapshot-word new place (λ h. omega (arith, h, high)) (λ h. omega (arith, h, high)) ∙ keeps.blocks place e
             ∙ sym (snapshot-word old place (λ h. omega (arith, h, high)) (λ h. omega (arith, h, high))))
@@ -59,11 +59,11 @@ module _ (old new : Image) (kept : ℕ → Bool) (long : 4 ≤ length old) (froz
             let split : 512 * (place / 512) + place % 512 ≡ place = omega arith in
             subst (λ p. IsHarmless (snapshot_of old) p (word (snapshot_of new) place)) split
             (free-harmless (snapshot_of old) wf (place / 512) (place % 512) (word (snapshot_of new) place) (omega (arith, high)) (omega arith)
-            (λ live. true≢false (sym (frozen.all (place / 512) (record { there = there; live = live })) ∙ e)))
+            (λ live. true≢false (sym (snapshot_blocks.all (place / 512) (record { there = there; live = live })) ∙ e)))
 
         go : (place < 512) ⊎ (512 ≤ place) → IsHarmless (snapshot_of old) place (word (snapshot_of new) place)
         go (inl low) = at_same (low_word place low)
-        go (inr high) = in_block high (kept (place / 512)) refl
+        go (inr high) = in_block high (in_snapshot (place / 512)) refl
 
     pub agrees : Agrees (snapshot_of old) (snapshot_of new)
     agrees = record { whole = length-snapshot new ∙ keeps.whole ∙ sym (length-snapshot old); each = harmless }
@@ -86,11 +86,11 @@ module _ (old new : Image) (kept : ℕ → Bool) (long : 4 ≤ length old) (froz
     }
 
   -- so the set of its blocks stays
-  pub frozen_stays : (has_snapshot old ≡ true → IsWellFormed (snapshot_of old)) → AreFrozen new kept
-  frozen_stays wf = record {
-    are = λ b is. let was = frozen.are b is in
+  pub snapshot_stays : (has_snapshot old ≡ true → IsWellFormed (snapshot_of old)) → AreInSnapshot new in_snapshot
+  snapshot_stays wf = record {
+    are = λ b is. let was = snapshot_blocks.are b is in
         record { there = has_snapshot-same ∙ was.there; live = live_on was.there (wf was.there) b was.live };
     all = λ b now.
         let there : has_snapshot old ≡ true = sym has_snapshot-same ∙ now.there in
-        frozen.all b (record { there = there; live = live_back there (wf there) b now.live });
+        snapshot_blocks.all b (record { there = there; live = live_back there (wf there) b now.live });
   }

@@ -11,7 +11,7 @@ use Rattle.bp_layout.specs.Reached.{IsReached}
 -- allows, no block is in two trees, and the inode file and directories have all their blocks.
 pub record KeepsTrees (old new : Image) : Type 0 where
   pub whole : length new ≡ length old
-  pub marked : word new super_magic ≡ word old super_magic
+  pub has_magic : word new super_magic ≡ word old super_magic
   pub counted : word new super_blocks ≡ word old super_blocks
   pub low : (t : ℕ) → IsReached old t → 0 < size_of new t
       → height_of (root_of new t) ≤ greatest_height (version_of new)

@@ -12,12 +12,12 @@ use Rattle.pm_words.specs.Overlay.{byte_over}
 -- bytes for a file, from an offset on
 pub record Patch : Type 0 where
   pub inode : ℕ
-  pub off : ℕ
+  pub offset : ℕ
   pub bytes : List ℕ
 
 -- byte o of file i with a patch written over it, given the old byte
 abbrev pub patched_by : Patch → ℕ → ℕ → ℕ → ℕ
-patched_by patch i o had = if patch.inode == i then byte_over patch.off patch.bytes o had else had
+patched_by patch i o had = if patch.inode == i then byte_over patch.offset patch.bytes o had else had
 
 -- byte o of file i with several patches written over it, one after the other; if two give the same byte, the later one
 -- applies

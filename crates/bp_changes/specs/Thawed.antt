@@ -1,5 +1,5 @@
--- Effects on an image whose trees may be in other blocks, with the same meaning: the effect of a call after kept blocks
--- were copied.
+-- Effects on an image whose trees may be in other blocks, with the same meaning: the effect of a call after blocks of
+-- the snapshot were copied.
 use Rattle.std.specs.Prelude.{◌≡◌, ℕ}
 use Rattle.bp_layout.specs.Words.{Image, height_of}
 use Rattle.bp_layout.specs.Inode.{root_of, size_of}

@@ -19,27 +19,27 @@ use Rattle.bp_layout.specs.Words.{Image}
 abbrev pub InBlock : ℕ → ℕ → Type 0
 InBlock block word = word / block_words ≡ block
 
--- Where a call that takes these blocks may store: to these blocks, to live blocks that are not kept, and to the two
--- words of the superblock for the inode file.
-pub data IsOpen (image : Image) (kept : ℕ → Bool) (taken : List ℕ) (word : ℕ) : Type 0 where
-  in_taken : Has taken (word / block_words) → IsOpen image kept taken word
-  in_live : IsLiveBlock image (word / block_words) → kept (word / block_words) ≡ false → IsOpen image kept taken word
-  at_root : word ≡ super_root → IsOpen image kept taken word
-  at_size : word ≡ super_size → IsOpen image kept taken word
+-- Where a call that takes these blocks may store: to these blocks, to live blocks that are not in the snapshot, and to
+-- the two words of the superblock for the inode file.
+pub data IsOpen (image : Image) (in_snapshot : ℕ → Bool) (taken : List ℕ) (word : ℕ) : Type 0 where
+  in_taken : Has taken (word / block_words) → IsOpen image in_snapshot taken word
+  in_live : IsLiveBlock image (word / block_words) → in_snapshot (word / block_words) ≡ false → IsOpen image in_snapshot taken word
+  at_root : word ≡ super_root → IsOpen image in_snapshot taken word
+  at_size : word ≡ super_size → IsOpen image in_snapshot taken word
 
 -- The blocks of the list were free, are all different, and each gets a store. No other free block and no other word of
 -- the superblock does. So a call cannot prepare for a later one, nor leave stores in the log that its work does not
 -- need.
-pub record TakesBlocks (image : Image) (kept : ℕ → Bool) (taken : List ℕ) (events : List Event) : Type 0 where
+pub record TakesBlocks (image : Image) (in_snapshot : ℕ → Bool) (taken : List ℕ) (events : List Event) : Type 0 where
   pub once : AreApart taken
-  pub free : Each (IsFreeBlock image kept) taken
+  pub free : Each (IsFreeBlock image in_snapshot) taken
   pub stored : Each (λ b. StoresTo (InBlock b) events) taken
-  pub only : StoresMay (AnyAt (IsOpen image kept taken)) events
+  pub only : StoresMay (AnyAt (IsOpen image in_snapshot taken)) events
 
 -- a part of a preparation, and the blocks that it takes
-pub record AddsTaking (kept : ℕ → Bool) (taken : List ℕ) (most_barriers most_stores : ℕ) (old new : Memory) : Type 0 where
+pub record AddsTaking (in_snapshot : ℕ → Bool) (taken : List ℕ) (most_barriers most_stores : ℕ) (old new : Memory) : Type 0 where
   pub part : AddsQuiet Same most_barriers most_stores old new
-  pub takes : TakesBlocks (current_words old) kept taken part.added
+  pub takes : TakesBlocks (current_words old) in_snapshot taken part.added
 
 -- the greatest number of barriers of a call; `most_stores`: of stores of a call that needs this many blocks
 abbrev pub most_barriers : ℕ
@@ -58,53 +58,53 @@ room_for needed = most_stores needed + most_barriers + 1
 
 -- the log has room for the change; no more room is required
 abbrev pub HasRoomFor : Memory → (ℕ → Bool) → Change → Type 0
-HasRoomFor memory kept change = room_for (full_need (current_words memory) kept change) ≤ room_in memory
+HasRoomFor memory in_snapshot change = room_for (full_need (current_words memory) in_snapshot change) ≤ room_in memory
 
--- A changing call before its end-of-call marker, while some blocks are kept: a quiet preparation, and then one store
--- alone in its epoch, at the word of the cover. It takes exactly `needed` blocks and makes at most `barriers` barriers
--- and `most` stores. The cover is that of the image before the call, but its word is located in the image after it,
--- since a preparation may put a tree one level lower.
-pub record PerformsWithin (kept : ℕ → Bool) (needed barriers most : ℕ) (old new : Memory) (change : Change)
+-- A changing call before its end-of-call marker, while some blocks are in the snapshot: a quiet preparation, and then
+-- one store alone in its epoch, at the word of the cover. It takes exactly `needed` blocks and makes at most `barriers`
+-- barriers and `most` stores. The cover is that of the image before the call, but its word is located in the image
+-- after it, since a preparation may put a tree one level lower.
+pub record PerformsWithin (in_snapshot : ℕ → Bool) (needed barriers most : ℕ) (old new : Memory) (change : Change)
     (Effect : Image → Image → Type 0) : Type 0 where
   pub value : ℕ
   pub commit : AddsCommit Same (address (current_words new) (cover (current_words old) change)) value
       barriers most old new
   pub taken : List ℕ
-  pub takes : TakesBlocks (current_words old) kept taken commit.prepared
+  pub takes : TakesBlocks (current_words old) in_snapshot taken commit.prepared
   pub number : length taken ≡ needed
-  pub in_open : IsOpen (current_words old) kept taken (address (current_words new) (cover (current_words old) change))
+  pub in_open : IsOpen (current_words old) in_snapshot taken (address (current_words new) (cover (current_words old) change))
   pub well_formed : IsWellFormed (current_words new)
   pub effect : Effect (current_words old) (current_words new)
 
 -- a call with the need and the greatest costs of its change; the blocks copied by a thaw are part of the need
 abbrev pub Performs : (ℕ → Bool) → Memory → Memory → Change → (Image → Image → Type 0) → Type 0
-Performs kept old new change Effect = PerformsWithin kept (full_need (current_words old) kept change) most_barriers
-    (most_stores (full_need (current_words old) kept change)) old new change Effect
+Performs in_snapshot old new change Effect = PerformsWithin in_snapshot (full_need (current_words old) in_snapshot change) most_barriers
+    (most_stores (full_need (current_words old) in_snapshot change)) old new change Effect
 
 -- a performed call that needs no thaw any more, with its need and its greatest costs
 abbrev pub PerformsThawed : (ℕ → Bool) → Memory → Memory → Change → (Image → Image → Type 0) → Type 0
-PerformsThawed kept old new change Effect = PerformsWithin kept (need (current_words old) change) 8
+PerformsThawed in_snapshot old new change Effect = PerformsWithin in_snapshot (need (current_words old) change) 8
     (most_stores_thawed (need (current_words old) change)) old new change Effect
 
 -- a performed call, whatever its effect on the image
 abbrev pub IsPerformed : (ℕ → Bool) → Memory → Memory → Change → Type 0
-IsPerformed kept old new change = Performs kept old new change (λ image after. Unit {0})
+IsPerformed in_snapshot old new change = Performs in_snapshot old new change (λ image after. Unit {0})
 
 -- the list has exactly the blocks that are free in the image and get a store of the log, each once
-pub record AreTaken (image : Image) (kept : ℕ → Bool) (events : List Event) (taken : List ℕ) : Type 0 where
+pub record AreTaken (image : Image) (in_snapshot : ℕ → Bool) (events : List Event) (taken : List ℕ) : Type 0 where
   pub once : AreApart taken
-  pub some : (b : ℕ) → Has taken b → IsFreeBlock image kept b × StoresTo (InBlock b) events
-  pub all : (b : ℕ) → IsFreeBlock image kept b → StoresTo (InBlock b) events → Has taken b
+  pub some : (b : ℕ) → Has taken b → IsFreeBlock image in_snapshot b × StoresTo (InBlock b) events
+  pub all : (b : ℕ) → IsFreeBlock image in_snapshot b → StoresTo (InBlock b) events → Has taken b
 
 -- The costs of a changing call: its last store is at the word of the cover, it stores to as many free blocks as it
 -- needs, and it makes few barriers and stores.
-pub record IsShort (old new : Image) (kept : ℕ → Bool) (change : Change) (events : List Event) : Type 0 where
+pub record IsShort (old new : Image) (in_snapshot : ℕ → Bool) (change : Change) (events : List Event) : Type 0 where
   pub last : last_stored events ≡ Some (address new (cover old change))
   pub taken : List ℕ
-  pub are : AreTaken old kept events taken
-  pub number : length taken ≡ full_need old kept change
+  pub are : AreTaken old in_snapshot events taken
+  pub number : length taken ≡ full_need old in_snapshot change
   pub few_barriers : barriers events ≤ most_barriers
-  pub few_stores : length (stores events) ≤ most_stores (full_need old kept change)
-  -- and it stores neither to kept blocks nor to any word of the superblock except the two for the inode file
-  pub keeps : (word : ℕ) → block_words ≤ word → kept (word / block_words) ≡ true → IsStoredIn events word → ⊥
+  pub few_stores : length (stores events) ≤ most_stores (full_need old in_snapshot change)
+  -- and it stores neither to blocks of the snapshot nor to any word of the superblock except the two for the inode file
+  pub keeps : (word : ℕ) → block_words ≤ word → in_snapshot (word / block_words) ≡ true → IsStoredIn events word → ⊥
   pub idle : (word : ℕ) → word < block_words → word ≢ super_root → word ≢ super_size → IsStoredIn events word → ⊥

@@ -77,10 +77,10 @@ module _ (run : Run) (a b : ℕ) (a_low : a < 512 ^ suc run.height) (b_low : b <
   level-top = div-eq_of_lt a_low ∙ sym (div-eq_of_lt b_low)
 
 -- both numbers are below what the tree covers
-pub ends-low : (run : Run) → IsRun run → (run.off / 8 < 512 ^ suc run.height) × ((run_end run - 1) / 8 < 512 ^ suc run.height)
+pub ends-low : (run : Run) → IsRun run → (run.offset / 8 < 512 ^ suc run.height) × ((run_end run - 1) / 8 < 512 ^ suc run.height)
 ends-low run is = rw pow-suc (low (512 ^ run.height) is.covered)
   where
-    low : (n : ℕ) → run_end run ≤ 4096 * n → (run.off / 8 < n * 512) × ((run_end run - 1) / 8 < n * 512)
+    low : (n : ℕ) → run_end run ≤ 4096 * n → (run.offset / 8 < n * 512) × ((run_end run - 1) / 8 < n * 512)
     low n covered = (omega (arith, covered, is.some), omega (arith, covered, is.some))
 
 -- ---- all of them

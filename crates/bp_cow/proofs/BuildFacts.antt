@@ -13,9 +13,9 @@ use Rattle.bp_cow.specs.Job.IsAnew.{is_cover, is_begun, is_front}
 use Rattle.bp_cow.proofs.BuildingLaws.{word-loaded}
 
 -- the same pointers under another name
-pub building_same : {kept : ℕ → Bool} {old words : Image} {place pointer : ℕ} {cover : Trail} {Pointer Counts anew other : Trail → Type 0} {value : Trail → Option ℕ} {laid : Trail → ℕ} {free : ℕ → Bool} →
+pub building_same : {in_snapshot : ℕ → Bool} {old words : Image} {place pointer : ℕ} {cover : Trail} {Pointer Counts anew other : Trail → Type 0} {value : Trail → Option ℕ} {laid : Trail → ℕ} {free : ℕ → Bool} →
     ((q : Trail) → anew q → other q) → ((q : Trail) → other q → anew q) →
-    IsBuilding old words place pointer cover Pointer Counts anew value laid kept free → IsBuilding old words place pointer cover Pointer Counts other value laid kept free
+    IsBuilding old words place pointer cover Pointer Counts anew value laid in_snapshot free → IsBuilding old words place pointer cover Pointer Counts other value laid in_snapshot free
 building_same to from building =
     let stage = building.stage in
     record {
@@ -29,7 +29,7 @@ building_same to from building =
         still = λ p slot live n low m. stage.still p slot live (λ a. n (to p a)) low (λ a. m (to (slot ∷ p) a));
         bits = stage.bits;
         fresh = λ p live n. stage.fresh p live (from p n);
-        unkept = λ p live n. stage.unkept p live (from p n);
+        outside_snapshot = λ p live n. stage.outside_snapshot p live (from p n);
         unvalued = stage.unvalued;
         early = λ p slot live n. stage.early p slot live (λ a. n (to p a));
         taken = stage.taken;
@@ -42,8 +42,8 @@ building_same to from building =
       below = λ p n. building.below p (from p n);
     }
 
-module _ {kept : ℕ → Bool} {old words : Image} {place pointer : ℕ} {cover : Trail} {Pointer Counts anew : Trail → Type 0} {value : Trail → Option ℕ} {laid : Trail → ℕ} {free : ℕ → Bool} (pointers : ArePointers Pointer)
-    (building : IsBuilding old words place pointer cover Pointer Counts anew value laid kept free) where
+module _ {in_snapshot : ℕ → Bool} {old words : Image} {place pointer : ℕ} {cover : Trail} {Pointer Counts anew : Trail → Type 0} {value : Trail → Option ℕ} {laid : Trail → ℕ} {free : ℕ → Bool} (pointers : ArePointers Pointer)
+    (building : IsBuilding old words place pointer cover Pointer Counts anew value laid in_snapshot free) where
   same_count : block_count (set words place pointer) ≡ block_count old
   same_count = ap (λ n. n / 512) building.stage.whole
 

@@ -34,8 +34,8 @@ placed-turned old new Pointer pointers here value turns _ long (in_block slot p 
     let same : block_on new p ≡ block_on old p = ap block_of (pointer-turned old new Pointer pointers here value turns p live other) in
     (in_block slot p live (λ null. present (sym same ∙ null)) low, ap (λ b. 512 * b + slot) same)
 
-module _ {kept : ℕ → Bool} {old words : Image} {place pointer : ℕ} {cover : Trail} {Pointer Counts anew : Trail → Type 0} {value : Trail → Option ℕ} {laid : Trail → ℕ} {free : ℕ → Bool} (pointers : ArePointers Pointer)
-    (building : IsBuilding old words place pointer cover Pointer Counts anew value laid kept free) where
+module _ {in_snapshot : ℕ → Bool} {old words : Image} {place pointer : ℕ} {cover : Trail} {Pointer Counts anew : Trail → Type 0} {value : Trail → Option ℕ} {laid : Trail → ℕ} {free : ℕ → Bool} (pointers : ArePointers Pointer)
+    (building : IsBuilding old words place pointer cover Pointer Counts anew value laid in_snapshot free) where
   -- the image as it would be after the last store
   abbrev seen : Image
   seen = set words place pointer
@@ -157,7 +157,7 @@ module _ {kept : ℕ → Bool} {old words : Image} {place pointer : ℕ} {cover 
       pub building_block : block_on next (slot ∷ p) ≡ copy
       building_block = ap block_of turns_after.turned ∙ leads
 
-      pub building_turn : IsBuilding old after place pointer cover Pointer Counts (λ q. anew q ⊎ (q ≡ slot ∷ p)) value laid kept free_after
+      pub building_turn : IsBuilding old after place pointer cover Pointer Counts (λ q. anew q ⊎ (q ≡ slot ∷ p)) value laid in_snapshot free_after
       building_turn =
           let longer : length cover ≤ length (slot ∷ p) = omega (arith, building.below p made) in
           let still = placed-turned seen next Pointer pointers (slot ∷ p) to_copy turns_after cover longer building.placed in
@@ -192,7 +192,7 @@ module _ {kept : ℕ → Bool} {old words : Image} {place pointer : ℕ} {cover 
           (store_turns seen seen Pointer pointers building.stage.skeleton some_seen (block_count seen)
           (record { whole = refl; others = λ at other. refl }) (λ e. absurd (omega (arith, some_seen, e))) none_past (slot ∷ p) given (in_block slot p live present low) (λ l. absurd (content l)))
 
-      pub building_store : IsBuilding old (set words spot given) place pointer cover Pointer Counts anew value_after laid kept free
+      pub building_store : IsBuilding old (set words spot given) place pointer cover Pointer Counts anew value_after laid in_snapshot free
       building_store =
           let longer : length cover ≤ length (slot ∷ p) = omega (arith, building.below p made) in
           let still = placed-turned seen next_word Pointer pointers (slot ∷ p) given turns_store cover longer building.placed in
@@ -207,10 +207,10 @@ module _ {kept : ℕ → Bool} {old words : Image} {place pointer : ℕ} {cover 
 -- ---- the first copy
 
 -- the cover's pointer, and a copy of its block that holds its words
-module _ {kept : ℕ → Bool} (Counts : Trail → Type 0) (old mid : Image) (cover : Trail) (Pointer : Trail → Type 0) (pointers : ArePointers Pointer) (value : Trail → Option ℕ) (laid : Trail → ℕ)
+module _ {in_snapshot : ℕ → Bool} (Counts : Trail → Type 0) (old mid : Image) (cover : Trail) (Pointer : Trail → Type 0) (pointers : ArePointers Pointer) (value : Trail → Option ℕ) (laid : Trail → ℕ)
     (free free_after : ℕ → Bool) (copy : ℕ) (patch : WordPatch) (count : ℕ) (counts : (s : ℕ) → s < 512 → Pointer (s ∷ cover) ⊎ Counts (s ∷ cover) → s < count)
     (plain : (s w : ℕ) → Pointer (s ∷ cover) → patch s w ≡ w) (lays : (s : ℕ) → s < 512 → patch s (word_on old (s ∷ cover)) ≡ laid (s ∷ cover))
-    (some : 0 < block_count old) (skeleton : IsSkeleton old Pointer) (exact : IsExactSet old Pointer kept free) (no_value : (p : Trail) → value p ≡ None)
+    (some : 0 < block_count old) (skeleton : IsSkeleton old Pointer) (exact : IsExactSet old Pointer in_snapshot free) (no_value : (p : Trail) → value p ≡ None)
     (pointed : Pointer cover) (placed : IsPlaced old Pointer cover) (takes : TakesNumber free free_after copy) (equal : EqualBut copy old mid)
     (copied : (slot : ℕ) → slot < 512 → slot < count → slot_word mid copy slot ≡ patch slot (slot_word old (block_on old cover) slot)) where
   -- the pointer to the copy, and what is seen with it
@@ -243,7 +243,7 @@ module _ {kept : ℕ → Bool} (Counts : Trail → Type 0) (old mid : Image) (co
       store_turns old mid Pointer pointers skeleton some copy equal first_not_null first_unnamed cover to_first placed
       (λ _ s l. ap (λ b. slot_word first_next b s) first_leads ∙ first_stored_slot s (pointers.slots s cover l) (counts s (pointers.slots s cover l) (inl l)) ∙ plain s (word_on old (s ∷ cover)) l)
 
-  pub building_start : IsBuilding old mid (place_on old cover) to_first cover Pointer Counts (λ q. ⊥ ⊎ (q ≡ cover)) value laid kept free_after
+  pub building_start : IsBuilding old mid (place_on old cover) to_first cover Pointer Counts (λ q. ⊥ ⊎ (q ≡ cover)) value laid in_snapshot free_after
   building_start =
       let still = placed-turned old first_next Pointer pointers cover to_first turns_first cover (omega arith) placed in
       record {

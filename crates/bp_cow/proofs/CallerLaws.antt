@@ -19,14 +19,14 @@ use Rattle.bp_cow.specs.CanCommit.{IsRunIn, IsTreeIn, CanCommit}
 pub no_trees : {trees : List TreeSize} (P : TreeSize → Type 0) → trees ≡ [] → (tree : TreeSize) → Has trees tree → P tree
 no_trees P none tree has = absurd (subst (λ (ts : List TreeSize). Has ts tree) none has)
 
-module _ {kept : ℕ → Bool} (old : Image) (wf : IsWellFormed old) (touched : Touched) (shape : IsTouched touched) (free : ℕ → Bool) (exact : AreFreeBlocks old kept free) (in_size : (tree : TreeSize) → Has touched.trees.now tree → IsTreeIn old (size_of old) tree) where
+module _ {in_snapshot : ℕ → Bool} (old : Image) (wf : IsWellFormed old) (touched : Touched) (shape : IsTouched touched) (free : ℕ → Bool) (exact : AreFreeBlocks old in_snapshot free) (in_size : (tree : TreeSize) → Has touched.trees.now tree → IsTreeIn old (size_of old) tree) where
   forest : IsForest old (size_of old)
   forest = wf_forest old wf
 
   -- one word
   module _ (none : touched.runs.now ≡ []) (one : length touched.words.now ≡ 1) (t k : ℕ) (reached : IsReached old t) (below : 8 * k < size_of old t) (no_root : t ≡ 0 → k % 8 ≢ 1)
       (is : trail_of (path_of (word_paths touched) 0) (length (path_of (word_paths touched) 0)) ≡ tree_trail (height_of (word old 2)) t (suc (height_of (root_of old t))) k) where
-    pub word_can : CanCommit old (size_of old) kept touched free
+    pub word_can : CanCommit old (size_of old) in_snapshot touched free
     word_can = record {
       shape = shape;
       forest = forest;
@@ -67,7 +67,7 @@ module _ {kept : ℕ → Bool} (old : Image) (wf : IsWellFormed old) (touched : 
             (subst (λ d. IsTreePointer old (size_of old) (trail_of (path_of (word_paths touched) 0) d)) whole (subst (λ n. IsTreePointer old (size_of old) (trail_of (path_of (word_paths touched) n) (length (path_of (word_paths touched) n)))) e pointer))
 
   -- runs alone
-  pub runs_can : length touched.words.now ≡ 0 → ((run : Run) → Has touched.runs.now run → IsRunIn old (size_of old) run) → CanCommit old (size_of old) kept touched free
+  pub runs_can : length touched.words.now ≡ 0 → ((run : Run) → Has touched.runs.now run → IsRunIn old (size_of old) run) → CanCommit old (size_of old) in_snapshot touched free
   runs_can none in_trees = record {
     shape = shape;
     forest = forest;
@@ -81,7 +81,7 @@ module _ {kept : ℕ → Bool} (old : Image) (wf : IsWellFormed old) (touched : 
     beside = λ r i j has here low high same. omega (arith, here, none);
   }
 
-  pub run_can : (run : Run) → touched.runs.now ≡ run ∷ [] → length touched.words.now ≡ 0 → IsRunIn old (size_of old) run → CanCommit old (size_of old) kept touched free
+  pub run_can : (run : Run) → touched.runs.now ≡ run ∷ [] → length touched.words.now ≡ 0 → IsRunIn old (size_of old) run → CanCommit old (size_of old) in_snapshot touched free
   run_can run one none in_tree = runs_can none (λ r has. only r (subst (λ runs. Has runs r) one has))
     where
       only : (r : Run) → Has (run ∷ []) r → IsRunIn old (size_of old) r

@@ -35,7 +35,7 @@ use Rattle.bp_cow.proofs.InPlace.{in_place}
 use Rattle.bp_cow.proofs.StageEnd.{stage_committed}
 
 -- What a commit does, told by the code's numbers: the slots of the cover, and the set of the blocks that are free after the last store.
-pub record CommitsCopies (bound : ℕ → ℕ) (kept : ℕ → Bool) (touched : Touched) (old new : Memory) (blocks blocks_after : Set) : Type 0 where
+pub record CommitsCopies (bound : ℕ → ℕ) (in_snapshot : ℕ → Bool) (touched : Touched) (old new : Memory) (blocks blocks_after : Set) : Type 0 where
   pub cover : ℕ
   pub has_cover : CoverHas (current_words old) touched cover
   pub taken : Set
@@ -43,7 +43,7 @@ pub record CommitsCopies (bound : ℕ → ℕ) (kept : ℕ → Bool) (touched : 
   pub size : length taken ≡ length blocks
   pub commit : AddsCopyCommit (has blocks) (has taken) (place_on (current_words old) (trail_of (end_path touched 0) cover)) (513 * copies_at (job_of touched) cover + length touched.words.now + 1) old new
   pub words : IsCommitted (current_words old) (current_words new) (IsTreePointer (current_words old) bound) (IsTreeWord (current_words old) bound) (IsTurned (job_of touched) cover) (after_commit (current_words old) (job_of touched))
-  pub exact : IsExactSet (current_words new) (IsTreePointer (current_words old) bound) kept (has blocks_after)
+  pub exact : IsExactSet (current_words new) (IsTreePointer (current_words old) bound) in_snapshot (has blocks_after)
 
 -- the same pointers under another name
 committed_same : (old new : Image) (Pointer Counts turned other : Trail → Type 0) (after : Trail → ℕ) → ((q : Trail) → turned q → other q) → ((q : Trail) → other q → turned q) →
@@ -91,8 +91,8 @@ looser start taken place most all old new few done = record {
 
 -- ---- the cover is the only touched word
 
-module _ {kept : ℕ → Bool} {bound : ℕ → ℕ} {touched : Touched} {last : Memory} {found : FoundCover} (first : Memory) (blocks : Set) (wf : IsWellFormed (current_words first))
-    (can : CanCommit (current_words first) bound kept touched (has blocks)) (at : IsAt (current_words first) touched found) (longest : CoverHas (current_words first) touched found.len)
+module _ {in_snapshot : ℕ → Bool} {bound : ℕ → ℕ} {touched : Touched} {last : Memory} {found : FoundCover} (first : Memory) (blocks : Set) (wf : IsWellFormed (current_words first))
+    (can : CanCommit (current_words first) bound in_snapshot touched (has blocks)) (at : IsAt (current_words first) touched found) (longest : CoverHas (current_words first) touched found.len)
     (past : length ((job_of touched).way 0) < found.len)
     (adds : Adds first last (commit found.place (only_value touched (word (current_words first) found.place)))) where
   abbrev old : Image
@@ -129,10 +129,10 @@ module _ {kept : ℕ → Bool} {bound : ℕ → ℕ} {touched : Touched} {last :
   same-block : (p : Trail) → IsTreePointer old bound p → block_on (current_words last) p ≡ block_on old p
   same-block p live = ap (λ w. w / 4096) (committed.kept p live (λ none. none))
 
-  exact-old : IsExactSet old (IsTreePointer old bound) kept (has blocks)
-  exact-old = unheld_exact old bound can.forest kept (has blocks) can.exact
+  exact-old : IsExactSet old (IsTreePointer old bound) in_snapshot (has blocks)
+  exact-old = unheld_exact old bound can.forest in_snapshot (has blocks) can.exact
 
-  exact-still : IsExactSet (current_words last) (IsTreePointer old bound) kept (has blocks)
+  exact-still : IsExactSet (current_words last) (IsTreePointer old bound) in_snapshot (has blocks)
   exact-still = record {
     live = λ b one. exact-old.live b (record { trail = one.trail; pointer = one.pointer; named = sym (same-block one.trail one.pointer) ∙ one.named; not_null = one.not_null });
     dead = λ b low high none loose. exact-old.dead b low (subst (λ n. b < n / 512) committed.whole high) (λ one. none (record { trail = one.trail; pointer = one.pointer; named = same-block one.trail one.pointer ∙ one.named; not_null = one.not_null })) loose;
@@ -140,7 +140,7 @@ module _ {kept : ℕ → Bool} {bound : ℕ → ℕ} {touched : Touched} {last :
     loose = exact-old.loose;
   }
 
-  pub commits_one : CommitsCopies bound kept touched first last blocks blocks
+  pub commits_one : CommitsCopies bound in_snapshot touched first last blocks blocks
   commits_one = record {
     cover = found.len;
     has_cover = longest;
@@ -170,14 +170,14 @@ module _ {kept : ℕ → Bool} {bound : ℕ → ℕ} {touched : Touched} {last :
 -- ---- the cover is a pointer, and blocks are copied
 
 abbrev plan_of : (ℕ → ℕ) → (ℕ → Bool) → Touched → Memory → Set → ℕ → ℕ → (ℕ → Bool) → Plan
-plan_of bound kept touched first blocks place top free =
-    record { old = current_words first; bound = bound; kept = kept; free = has blocks; job = job_of touched; place = place; top = top; free_after = free }
+plan_of bound in_snapshot touched first blocks place top free =
+    record { old = current_words first; bound = bound; in_snapshot = in_snapshot; free = has blocks; job = job_of touched; place = place; top = top; free_after = free }
 
-module _ {kept : ℕ → Bool} {bound : ℕ → ℕ} {touched : Touched} {first last : Memory} {blocks after taken : Set} {found : FoundCover} (wf : IsWellFormed (current_words first))
-    (can : CanCommit (current_words first) bound kept touched (has blocks)) (at : IsAt (current_words first) touched found) (longest : CoverHas (current_words first) touched found.len)
+module _ {in_snapshot : ℕ → Bool} {bound : ℕ → ℕ} {touched : Touched} {first last : Memory} {blocks after taken : Set} {found : FoundCover} (wf : IsWellFormed (current_words first))
+    (can : CanCommit (current_words first) bound in_snapshot touched (has blocks)) (at : IsAt (current_words first) touched found) (longest : CoverHas (current_words first) touched found.len)
     (short : found.len ≤ length ((job_of touched).way 0)) (top : ℕ) (free : ℕ → Bool) where
-  pub commits_turned : HasTurned (plan_of bound kept touched first blocks found.place top free) touched found.len found.place blocks taken first last → IsExactSet (current_words last) (IsTreePointer (current_words first) bound) kept (has after) →
-      CommitsCopies bound kept touched first last blocks after
+  pub commits_turned : HasTurned (plan_of bound in_snapshot touched first blocks found.place top free) touched found.len found.place blocks taken first last → IsExactSet (current_words last) (IsTreePointer (current_words first) bound) in_snapshot (has after) →
+      CommitsCopies bound in_snapshot touched first last blocks after
   commits_turned done exact =
       let same : copies_at (job_of touched) found.len ≡ copies (job_of touched) found.len = copied-some (job_of touched) found.len short in
       record {
@@ -190,6 +190,6 @@ module _ {kept : ℕ → Bool} {bound : ℕ → ℕ} {touched : Touched} {first 
             (looser (has blocks) (has taken) found.place _ _ first last (omega (arith, same)) done.commit);
         words = committed_same (current_words first) (current_words last) (IsTreePointer (current_words first) bound) (IsTreeWord (current_words first) bound) (IsAnew (job_of touched) found.len (ways (job_of touched)) found.len) (IsTurned (job_of touched) found.len) _
             (λ q n. record { copies = short; anew = n }) (λ q t. t.anew)
-            (stage_committed (plan_of bound kept touched first blocks found.place top free) found.len (current_words last) (has taken) (can_build can found.len at.alike short wf found.place at.exists at.place) done.stage);
+            (stage_committed (plan_of bound in_snapshot touched first blocks found.place top free) found.len (current_words last) (has taken) (can_build can found.len at.alike short wf found.place at.exists at.place) done.stage);
         exact = exact;
       }

@@ -183,7 +183,7 @@ module _ (old now : Image) (bound : ℕ → ℕ) (forest : IsForest old bound) (
     committed_commits file directories = record {
       trees = record {
         whole = stage.whole;
-        marked = stage.superblock 0 (omega arith) (omega arith);
+        has_magic = stage.superblock 0 (omega arith) (omega arith);
         counted = stage.superblock 1 (omega arith) (omega arith);
         low = low_now;
         sound = sound_now;

@@ -66,9 +66,9 @@ above_not_turned touched path from d low turned = go turned.anew
     go (is_begun b) = omega (arith, low, b.low, size (front (job_of touched) b.which b.depth) b.same, length-trail_of ((job_of touched).way b.which) b.depth)
     go (is_front count past high e) = omega (arith, low, past, size (front (job_of touched) (ways (job_of touched)) count) e, length-trail_of ((job_of touched).way (ways (job_of touched))) count)
 
-module _ {kept : ℕ → Bool} {bound : ℕ → ℕ} {touched : Touched} {old new : Memory} {blocks after : Set} (wf : IsWellFormed (current_words old))
-    (can : CanCommit (current_words old) bound kept touched (has blocks)) (loose : HasLooseCover (current_words old) kept touched) (fits : block_count (current_words old) ≤ length blocks)
-    (done : CommitsCopies bound kept touched old new blocks after) where
+module _ {in_snapshot : ℕ → Bool} {bound : ℕ → ℕ} {touched : Touched} {old new : Memory} {blocks after : Set} (wf : IsWellFormed (current_words old))
+    (can : CanCommit (current_words old) bound in_snapshot touched (has blocks)) (loose : HasLooseCover (current_words old) in_snapshot touched) (fits : block_count (current_words old) ≤ length blocks)
+    (done : CommitsCopies bound in_snapshot touched old new blocks after) where
   abbrev image : Image
   image = current_words old
 
@@ -82,7 +82,7 @@ module _ {kept : ℕ → Bool} {bound : ℕ → ℕ} {touched : Touched} {old ne
   copied-is = count_is touched can.shape image (none-begins image bound touched (has blocks) wf can) done.cover done.has_cover
 
   -- a free block is free under the image's own sizes
-  was_free : (b : ℕ) → has blocks b ≡ true → IsFreeBlock image kept b
+  was_free : (b : ℕ) → has blocks b ≡ true → IsFreeBlock image in_snapshot b
   was_free b is =
       let free = can.exact.free b is in
       record { low = free.low; high = free.high; free = λ live. free.free (held live); loose = free.loose }
@@ -151,7 +151,7 @@ module _ {kept : ℕ → Bool} {bound : ℕ → ℕ} {touched : Touched} {old ne
   most : 513 * copies_at (job_of touched) done.cover + length touched.words.now + 1 ≡ commit_stores image touched
   most = ap (λ c. 513 * c + length touched.words.now + 1) copied-is
 
-  pub commits_touched : CommitsTouched bound kept touched old new blocks after
+  pub commits_touched : CommitsTouched bound in_snapshot touched old new blocks after
   commits_touched = record {
     value = done.commit.value;
     commit = record {
@@ -168,16 +168,17 @@ module _ {kept : ℕ → Bool} {bound : ℕ → ℕ} {touched : Touched} {old ne
     stays = stays-is;
     loose = loose;
     words = subst (λ k. IsCommitted image (current_words new) (IsTreePointer image bound) (IsTreeWord image bound) (IsTurned (job_of touched) k) (after_commit image (job_of touched))) cover-is done.words;
-    exact = exact-unheld (current_words new) (IsTreePointer image bound) (IsReached image) bound kept (has after)
+    exact = exact-unheld (current_words new) (IsTreePointer image bound) (IsReached image) bound in_snapshot (has after)
         (λ b one. has_led image (current_words new) bound can.forest (IsTurned (job_of touched) done.cover) (job_of touched) done.words b one.tree one.reached one.has)
         (λ b one. let tree = led_has image (current_words new) bound can.forest (IsTurned (job_of touched) done.cover) (job_of touched) done.words b one in record { tree = tree.0; reached = tree.1; has = tree.2 }) done.exact;
   }
 
 -- ---- for callers
 
--- The word of the cover is in the superblock or in a live block that is not kept, where all pointers on the path of one touched word are live.
-module _ (kept : ℕ → Bool) (image : Image) (wf : IsWellFormed image) (touched : Touched) (shape : IsTouched touched) (path : WordPath) (in_paths : Has (all_paths touched) path)
-    (live : (d : ℕ) → d < length path → IsTreePointer image (size_of image) (trail_of path d)) (loose : HasLooseCover image kept touched) (taken : List ℕ) where
+-- The word of the cover is in the superblock or in a live block that is not in the snapshot, where all pointers on the
+-- path of one touched word are live.
+module _ (in_snapshot : ℕ → Bool) (image : Image) (wf : IsWellFormed image) (touched : Touched) (shape : IsTouched touched) (path : WordPath) (in_paths : Has (all_paths touched) path)
+    (live : (d : ℕ) → d < length path → IsTreePointer image (size_of image) (trail_of path d)) (loose : HasLooseCover image in_snapshot touched) (taken : List ℕ) where
   -- the first slots of the first path, and the place of its word there
   abbrev first_front : ℕ → Trail
   first_front k = trail_of (end_path touched 0) k
@@ -186,16 +187,16 @@ module _ (kept : ℕ → Bool) (image : Image) (wf : IsWellFormed image) (touche
   front_place k = place_on image (first_front k)
 
   abbrev IsLoosePlace : ℕ → Type 0
-  IsLoosePlace place = 512 ≤ place → kept (place / 512) ≡ false
+  IsLoosePlace place = 512 ≤ place → in_snapshot (place / 512) ≡ false
 
-  pub cover_open : IsOpen image kept taken (cover_word image touched)
+  pub cover_open : IsOpen image in_snapshot taken (cover_word image touched)
   cover_open =
-      subst (IsOpen image kept taken) (sym (cover_address touched shape image))
+      subst (IsOpen image in_snapshot taken) (sym (cover_address touched shape image))
       (go (length (commit_cover image touched)) (cover_has touched shape image) (subst IsLoosePlace (cover_address touched shape image) loose))
     where
-      go : (k : ℕ) → CoverHas image touched k → IsLoosePlace (front_place k) → IsOpen image kept taken (front_place k)
-      go zero covers unkept = at_root refl
-      go (suc k) covers unkept =
+      go : (k : ℕ) → CoverHas image touched k → IsLoosePlace (front_place k) → IsOpen image in_snapshot taken (front_place k)
+      go zero covers outside_snapshot = at_root refl
+      go (suc k) covers outside_snapshot =
           let some : 0 < _ = some-ends touched shape in
           let alike = alike-all touched shape (suc k) covers.alike path in_paths in
           let slot : ℕ = slice_index (end_path touched 0) k in
@@ -205,28 +206,28 @@ module _ (kept : ℕ → Bool) (image : Image) (wf : IsWellFormed image) (touche
           let present : block_on image (first_front k) ≢ 0 = covers.exists k (omega arith) in
           in_live (subst (IsLiveBlock image) (sym block)
           (led_held image (size_of image) (wf_forest image wf) (block_on image (first_front k))
-          (record { trail = trail_of path k; pointer = live k (omega (arith, alike.0)); named = ap (block_on image) same; not_null = present }))) (unkept (omega (arith, present)))
+          (record { trail = trail_of path k; pointer = live k (omega (arith, alike.0)); named = ap (block_on image) same; not_null = present }))) (outside_snapshot (omega (arith, present)))
 
 -- A commit alone performs a change whose cover and copies are those of the touched words.
-module _ {kept : ℕ → Bool} (old new : Memory) (change : Change) (Effect : Image → Image → Type 0) (bound : ℕ → ℕ) (touched : Touched) (blocks after : Set) (done : CommitsTouched bound kept touched old new blocks after) where
+module _ {in_snapshot : ℕ → Bool} (old new : Memory) (change : Change) (Effect : Image → Image → Type 0) (bound : ℕ → ℕ) (touched : Touched) (blocks after : Set) (done : CommitsTouched bound in_snapshot touched old new blocks after) where
   pub commit_performs : commit_cover (current_words old) touched ≡ cover (current_words old) change → copied_count (current_words old) touched ≡ need (current_words old) change →
-      commit_stores (current_words old) touched ≤ most_stores_thawed (need (current_words old) change) → IsOpen (current_words old) kept done.taken (cover_word (current_words old) touched) →
-      IsWellFormed (current_words new) → Effect (current_words old) (current_words new) → PerformsThawed kept old new change Effect
+      commit_stores (current_words old) touched ≤ most_stores_thawed (need (current_words old) change) → IsOpen (current_words old) in_snapshot done.taken (cover_word (current_words old) touched) →
+      IsWellFormed (current_words new) → Effect (current_words old) (current_words new) → PerformsThawed in_snapshot old new change Effect
   commit_performs covers count few inside well_formed effect =
-      performs_committed kept old new change Effect (cover_word (current_words old) touched) done.value 2 (commit_stores (current_words old) touched) done.taken done.commit done.takes
+      performs_committed in_snapshot old new change Effect (cover_word (current_words old) touched) done.value 2 (commit_stores (current_words old) touched) done.taken done.commit done.takes
       (sym done.stays ∙ ap (address (current_words new)) covers) (omega arith) few (done.number ∙ count) inside well_formed effect
 
 -- And so does a commit after a preparation. What the set has that the commit is given was free before, and the preparation did not take it.
-module _ {kept : ℕ → Bool} (old middle new : Memory) (change : Change) (Effect : Image → Image → Type 0) (bound : ℕ → ℕ) (touched : Touched) (blocks after : Set) (first : List ℕ) (most_barriers most : ℕ)
-    (prepared : AddsTaking kept first most_barriers most old middle) (done : CommitsTouched bound kept touched middle new blocks after) where
+module _ {in_snapshot : ℕ → Bool} (old middle new : Memory) (change : Change) (Effect : Image → Image → Type 0) (bound : ℕ → ℕ) (touched : Touched) (blocks after : Set) (first : List ℕ) (most_barriers most : ℕ)
+    (prepared : AddsTaking in_snapshot first most_barriers most old middle) (done : CommitsTouched bound in_snapshot touched middle new blocks after) where
   pub commit_performs_after : ((b : ℕ) → IsLiveBlock (current_words middle) b → IsLiveBlock (current_words old) b ⊎ Has first b) →
-      ((b : ℕ) → has blocks b ≡ true → IsFreeBlock (current_words old) kept b × (Has first b → ⊥)) →
+      ((b : ℕ) → has blocks b ≡ true → IsFreeBlock (current_words old) in_snapshot b × (Has first b → ⊥)) →
       commit_cover (current_words middle) touched ≡ cover (current_words old) change → most_barriers ≤ 6 →
       most + commit_stores (current_words middle) touched ≤ most_stores_thawed (need (current_words old) change) → length first + copied_count (current_words middle) touched ≡ need (current_words old) change →
-      IsOpen (current_words middle) kept done.taken (cover_word (current_words middle) touched) →
-      IsWellFormed (current_words new) → Effect (current_words old) (current_words new) → PerformsThawed kept old new change Effect
+      IsOpen (current_words middle) in_snapshot done.taken (cover_word (current_words middle) touched) →
+      IsWellFormed (current_words new) → Effect (current_words old) (current_words new) → PerformsThawed in_snapshot old new change Effect
   commit_performs_after live free covers few_barriers few count inside well_formed effect =
-      performs_twice kept old new change Effect middle (cover_word (current_words middle) touched) done.value most_barriers most 2 (commit_stores (current_words middle) touched) first done.taken prepared done.commit done.takes
+      performs_twice in_snapshot old new change Effect middle (cover_word (current_words middle) touched) done.value most_barriers most 2 (commit_stores (current_words middle) touched) first done.taken prepared done.commit done.takes
       live (λ b took. free b (each-has (λ c. has blocks c ≡ true) done.taken b done.from took)) (sym done.stays ∙ ap (address (current_words new)) covers) (omega (arith, few_barriers)) few
       (omega (arith, done.number, count)) inside well_formed effect
 
@@ -249,7 +250,7 @@ upto_few job from (suc i) short =
     let few : length (job.way i) ≤ 11 = short i (omega arith) in
     omega (arith, rest, one, few)
 
-module _ {kept : ℕ → Bool} (image : Image) (bound : ℕ → ℕ) (touched : Touched) (free : ℕ → Bool) (wf : IsWellFormed image) (can : CanCommit image bound kept touched free) where
+module _ {in_snapshot : ℕ → Bool} (image : Image) (bound : ℕ → ℕ) (touched : Touched) (free : ℕ → Bool) (wf : IsWellFormed image) (can : CanCommit image bound in_snapshot touched free) where
   -- a way has at most 11 pointers
   pub copied_few : copied_count image touched ≤ 1 + 11 * ways (job_of touched)
   copied_few = subst (λ n. n ≤ 1 + 11 * ways (job_of touched)) (count_is touched can.shape image (none-begins image bound touched free wf can) from (cover_has touched can.shape image)) (go (nat_le from (length ((job_of touched).way 0))) refl)

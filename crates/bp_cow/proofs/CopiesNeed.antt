@@ -63,7 +63,7 @@ record IsRunPath (runs : List Run) (path : List ℕ) : Type 0 where
   pub run : Run
   pub has : Has runs run
   pub number : ℕ
-  pub low : run.off / 8 ≤ number
+  pub low : run.offset / 8 ≤ number
   pub high : number ≤ (run_end run - 1) / 8
   pub same : path ≡ run_path run number
 
@@ -74,14 +74,14 @@ run-paths (run ∷ runs) are path has = go (has-either (paths_of_run run) (run_p
     go : Has (paths_of_run run) path ⊎ Has (run_paths runs) path → (Has (run_paths runs) path → IsRunPath runs path) → IsRunPath (run ∷ runs) path
     go (inl one) rest =
         let some : 0 < length run.bytes.now = (are run (inl refl)).some in
-        let at = run-number run (run.off / 8) (suc ((run_end run - 1) / 8 - run.off / 8)) path one in
+        let at = run-number run (run.offset / 8) (suc ((run_end run - 1) / 8 - run.offset / 8)) path one in
         record { run = run; has = inl refl; number = at.0; low = at.1; high = omega (arith, at.1, at.2, some); same = at.3 }
     go (inr more) rest = let found = rest more in record { run = found.run; has = inr found.has; number = found.number; low = found.low; high = found.high; same = found.same }
 
 -- a way and its last slot
-run-whole : (run : Run) (k j : ℕ) → k / 512 ≡ run.off / 4096 + j → take (length (run_way run j)) (run_path run k) ≡ run_way run j
+run-whole : (run : Run) (k j : ℕ) → k / 512 ≡ run.offset / 4096 + j → take (length (run_way run j)) (run_path run k) ≡ run_way run j
 run-whole run k j leaf =
-    ap (take (length (run_way run j))) (ap (λ n. run.root.items ++ (digits run.height n ++ k % 512 ∷ [])) leaf ∙ sym (append_assoc run.root.items (digits run.height (run.off / 4096 + j)) (k % 512 ∷ [])))
+    ap (take (length (run_way run j))) (ap (λ n. run.root.items ++ (digits run.height n ++ k % 512 ∷ [])) leaf ∙ sym (append_assoc run.root.items (digits run.height (run.offset / 4096 + j)) (k % 512 ∷ [])))
     ∙ take-front (run_way run j) (k % 512 ∷ [])
 
 -- with what the paths that tell begin, all touched paths begin
@@ -96,13 +96,13 @@ alike-all touched shape n alike path has = go (has-either (run_paths touched.run
         let covers : run_end run ≤ 4096 * 512 ^ run.height = is.covered in
         let first = end-first touched.runs.now (word_paths touched) run at.has in
         let last = end-last touched.runs.now (word_paths touched) run at.has in
-        let start : trail_of (run_path run (run.off / 8)) n ≡ trail_of (end_path touched 0) n = ap (λ p. trail_of p n) (sym first.is) ∙ alike.same first.which (first.here (length touched.words.now)) in
+        let start : trail_of (run_path run (run.offset / 8)) n ≡ trail_of (end_path touched 0) n = ap (λ p. trail_of p n) (sym first.is) ∙ alike.same first.which (first.here (length touched.words.now)) in
         let end : trail_of (run_path run ((run_end run - 1) / 8)) n ≡ trail_of (end_path touched 0) n = ap (λ p. trail_of p n) (sym last.is) ∙ alike.same last.which (last.here (length touched.words.now)) in
-        let whole : n ≤ length (run_path run (run.off / 8)) = subst (λ p. n ≤ length p) first.is (alike.long first.which (first.here (length touched.words.now))) in
-        let long : n ≤ length run.root.items + suc run.height = omega (arith, whole, length-run_path run (run.off / 8)) in
+        let whole : n ≤ length (run_path run (run.offset / 8)) = subst (λ p. n ≤ length p) first.is (alike.long first.which (first.here (length touched.words.now))) in
+        let long : n ≤ length run.root.items + suc run.height = omega (arith, whole, length-run_path run (run.offset / 8)) in
         let few : (run_end run - 1) / 8 < 512 ^ suc run.height = rw pow-suc (omega (arith, covers, some)) in
         subst (λ p. (n ≤ length p) × (trail_of p n ≡ trail_of (end_path touched 0) n)) (sym at.same)
-        (omega (arith, long, length-run_path run at.number), between-run run (run.off / 8) at.number ((run_end run - 1) / 8) n at.low at.high few long (start ∙ sym end) ∙ start)
+        (omega (arith, long, length-run_path run at.number), between-run run (run.offset / 8) at.number ((run_end run - 1) / 8) n at.low at.high few long (start ∙ sym end) ∙ start)
 
     of_word : (i : ℕ) → i < length touched.words.now → (n ≤ length (path_of (word_paths touched) i)) × (trail_of (path_of (word_paths touched) i) n ≡ trail_of (end_path touched 0) n)
     of_word i here =
@@ -145,7 +145,7 @@ module _ (touched : Touched) (shape : IsTouched touched) where
         same = ap (λ (p : List ℕ). take (length p) path) way ∙ ap (λ d. take d path) size ∙ sym way;
       }
 
-  way-of-leaf : (run : Run) (k i j : ℕ) → k / 512 ≡ run.off / 4096 + j → IsLeaf touched.runs.now touched.runs.now (word_paths touched) i run j → IsWayOf i (run_path run k)
+  way-of-leaf : (run : Run) (k i j : ℕ) → k / 512 ≡ run.offset / 4096 + j → IsLeaf touched.runs.now touched.runs.now (word_paths touched) i run j → IsWayOf i (run_path run k)
   way-of-leaf run k i j leaf is =
       let way : job.way i ≡ run_way run j = is.way in
       let low : i < job.leaves = is.here in
@@ -160,14 +160,14 @@ module _ (touched : Touched) (shape : IsTouched touched) where
     pub which : ℕ
     pub is : IsWayOf which path
 
-  leaf-is : (run : Run) (k : ℕ) → Has touched.runs.now run → run.off / 8 ≤ k → k ≤ (run_end run - 1) / 8 → HasWay (run_path run k)
+  leaf-is : (run : Run) (k : ℕ) → Has touched.runs.now run → run.offset / 8 ≤ k → k ≤ (run_end run - 1) / 8 → HasWay (run_path run k)
   leaf-is run k has low high =
-      let j : ℕ = k / 512 - run.off / 4096 in
+      let j : ℕ = k / 512 - run.offset / 4096 in
       let way = way-to touched.runs.now touched.runs.now (word_paths touched) run j has (omega (arith, low, high)) in
       record { which = way.which; is = way-of-leaf run k way.which j (omega (arith, low)) way.is }
 
   -- by cases: a word of a run, or another word
-  pub paths-by : (P : List ℕ → Type 0) → ((run : Run) (k : ℕ) → Has touched.runs.now run → run.off / 8 ≤ k → k ≤ (run_end run - 1) / 8 → P (run_path run k)) →
+  pub paths-by : (P : List ℕ → Type 0) → ((run : Run) (k : ℕ) → Has touched.runs.now run → run.offset / 8 ≤ k → k ≤ (run_end run - 1) / 8 → P (run_path run k)) →
       ((i : ℕ) → i < length touched.words.now → P (path_of (word_paths touched) i)) → (path : List ℕ) → Has (all_paths touched) path → P path
   paths-by P of_run of_word path has = go (has-either (run_paths touched.runs.now) (word_paths touched) path has)
     where
@@ -178,10 +178,10 @@ module _ (touched : Touched) (shape : IsTouched touched) where
   pub has-word : (i : ℕ) → i < length touched.words.now → Has (all_paths touched) (path_of (word_paths touched) i)
   has-word i here = has-behind (run_paths touched.runs.now) (word_paths touched) _ (has-index (word_paths touched) i (omega (arith, here, words-count)))
 
-  pub has-of-run : (run : Run) (k : ℕ) → Has touched.runs.now run → run.off / 8 ≤ k → k ≤ (run_end run - 1) / 8 → Has (all_paths touched) (run_path run k)
+  pub has-of-run : (run : Run) (k : ℕ) → Has touched.runs.now run → run.offset / 8 ≤ k → k ≤ (run_end run - 1) / 8 → Has (all_paths touched) (run_path run k)
   has-of-run run k has low high =
       has-front (run_paths touched.runs.now) (word_paths touched) (run_path run k)
-      (has-flat_map paths_of_run touched.runs.now run (run_path run k) has (has-run run (run.off / 8) (suc ((run_end run - 1) / 8 - run.off / 8)) k low (omega (arith, low, high))))
+      (has-flat_map paths_of_run touched.runs.now run (run_path run k) has (has-run run (run.offset / 8) (suc ((run_end run - 1) / 8 - run.offset / 8)) k low (omega (arith, low, high))))
 
   way-of : (path : List ℕ) → Has (all_paths touched) path → HasWay path
   way-of = paths-by HasWay leaf-is (λ i here. record { which = job.leaves + i; is = word-is i here })
@@ -201,8 +201,8 @@ module _ (touched : Touched) (shape : IsTouched touched) where
           let run = at.run in
           let few : at.leaf < run_leaves run = at.is.low in
           let some : 0 < length run.bytes.now = (is-run run at.is.has).some in
-          let k : ℕ = max (run.off / 8) (512 * (run.off / 4096 + at.leaf)) in
-          let first : run.off / 8 ≤ k = omega arith in
+          let k : ℕ = max (run.offset / 8) (512 * (run.offset / 4096 + at.leaf)) in
+          let first : run.offset / 8 ≤ k = omega arith in
           let last : k ≤ (run_end run - 1) / 8 = omega (arith, few, some) in
           record { path = run_path run k; has = has-of-run run k at.is.has first last; is = way-of-leaf run k i at.leaf (omega arith) at.is }
 
@@ -314,7 +314,7 @@ module _ (touched : Touched) (shape : IsTouched touched) where
 
 -- ---- of touched words that can be committed
 
-module _ {kept : ℕ → Bool} (old : Image) (bound : ℕ → ℕ) (touched : Touched) (free : ℕ → Bool) (wf : IsWellFormed old) (can : CanCommit old bound kept touched free) where
+module _ {in_snapshot : ℕ → Bool} (old : Image) (bound : ℕ → ℕ) (touched : Touched) (free : ℕ → Bool) (wf : IsWellFormed old) (can : CanCommit old bound in_snapshot touched free) where
   front-pointer : (other : List ℕ) → Has (all_paths touched) other → (m : ℕ) → m < length other → IsTreePointer old bound (trail_of other m)
   front-pointer other has m low =
       let way = way-of touched can.shape other has in
@@ -325,7 +325,7 @@ module _ {kept : ℕ → Bool} (old : Image) (bound : ℕ → ℕ) (touched : To
 
   no-pointer : (path : List ℕ) → Has (all_paths touched) path → IsTreePointer old bound (trail_of path (length path)) → ⊥
   no-pointer = paths-by touched can.shape (λ path. IsTreePointer old bound (trail_of path (length path)) → ⊥)
-      (λ run k has low high one. leaf-plain old bound can.forest run (is-run touched can.shape run has) (can.runs run has) (k / 512 - run.off / 4096) (k % 512) (omega (arith, low, high))
+      (λ run k has low high one. leaf-plain old bound can.forest run (is-run touched can.shape run has) (can.runs run has) (k / 512 - run.offset / 4096) (k % 512) (omega (arith, low, high))
       (subst (IsTreePointer old bound) (run-trail run k low) one))
       (λ i here one. can.contents i here one)
 

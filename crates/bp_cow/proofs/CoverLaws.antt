@@ -26,7 +26,7 @@ run-slots run k d is low = go (cases_lt d (length run.root.items))
 
 pub end-slots : (touched : Touched) → IsTouched touched → (i d : ℕ) → i < ends touched → d < length (end_path touched i) → slice_index (end_path touched i) d < 512
 end-slots touched is i d here = ends-by touched.runs.now (word_paths touched) (length touched.words.now) (λ p. d < length p → slice_index p d < 512)
-    (λ run has low. run-slots run (run.off / 8) d (is.runs run has) low)
+    (λ run has low. run-slots run (run.offset / 8) d (is.runs run has) low)
     (λ run has low. run-slots run ((run_end run - 1) / 8) d (is.runs run has) low)
     (λ k few low. is.slots k d few low) i here
 
@@ -39,7 +39,7 @@ some-ends touched is = go touched.runs.now refl
 
 pub end-short : (touched : Touched) → IsTouched touched → (i : ℕ) → i < ends touched → length (end_path touched i) ≤ 12
 end-short touched is = ends-by touched.runs.now (word_paths touched) (length touched.words.now) (λ p. length p ≤ 12)
-    (λ run has. let short = (is.runs run has).short in omega (arith, length-run_path run (run.off / 8), short))
+    (λ run has. let short = (is.runs run has).short in omega (arith, length-run_path run (run.offset / 8), short))
     (λ run has. let short = (is.runs run has).short in omega (arith, length-run_path run ((run_end run - 1) / 8), short))
     (λ k few. is.short k few)
 

@@ -86,7 +86,7 @@ module _ (touched : Touched) (shape : IsTouched touched) where
   -- the paths that tell are touched
   end-touched : (i : ℕ) → i < ends touched → Has (all_paths touched) (end_path touched i)
   end-touched = ends-by touched.runs.now (word_paths touched) (length touched.words.now) (Has (all_paths touched))
-      (λ run has. let some : 0 < length run.bytes.now = (shape.runs run has).some in has-of-run touched shape run (run.off / 8) has (omega arith) (omega (arith, some)))
+      (λ run has. let some : 0 < length run.bytes.now = (shape.runs run has).some in has-of-run touched shape run (run.offset / 8) has (omega arith) (omega (arith, some)))
       (λ run has. let some : 0 < length run.bytes.now = (shape.runs run has).some in has-of-run touched shape run ((run_end run - 1) / 8) has (omega (arith, some)) (omega arith))
       (λ i here. has-word touched shape i here)
 

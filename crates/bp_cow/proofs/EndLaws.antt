@@ -65,7 +65,7 @@ anew_pointer plan from can q (is_front k low high e) = absurd (omega (arith, low
 abbrev IsDoneUpto : Plan → ℕ → ℕ → Image → (ℕ → Bool) → Type 0
 IsDoneUpto plan from count now free =
     IsStage plan.old now (IsTreePointer plan.old plan.bound) (IsTreeWord plan.old plan.bound) (IsAnew plan.job from (ways plan.job) from)
-    (value_upto plan.job count) (laid_on plan.old plan.job) plan.kept free
+    (value_upto plan.job count) (laid_on plan.old plan.job) plan.in_snapshot free
 
 -- all is as the plan says
 abbrev pub IsDone : Plan → ℕ → Image → (ℕ → Bool) → Type 0
@@ -91,6 +91,6 @@ module _ (plan : Plan) (from : ℕ) (now : Image) (free : ℕ → Bool) (can : C
     used = λ b has. stage.taken b (inl has);
   }
 
-  pub exact_of : (after : ℕ → Bool) → IsBack plan from (ways plan.job) from free after → IsExactSet now (IsTreePointer plan.old plan.bound) plan.kept after
+  pub exact_of : (after : ℕ → Bool) → IsBack plan from (ways plan.job) from free after → IsExactSet now (IsTreePointer plan.old plan.bound) plan.in_snapshot after
   exact_of after back =
       exact-end stage (skeleton plan.old plan.bound can.forest can.whole) after (decide_anew plan.job from (ways plan.job)) back.given back.still back.from

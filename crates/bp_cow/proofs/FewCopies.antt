@@ -71,7 +71,7 @@ module _ (touched : Touched) (shape : IsTouched touched) (from : ℕ) where
   -- the ways of one run, behind those of the runs before it
   module _ (run : Run) (start : ℕ) (is : IsRun run) (ways_are : (i : ℕ) → i < run_leaves run → (start + i < ways (job_of touched)) × ((job_of touched).way (start + i) ≡ run_way run i)) where
     abbrev first : ℕ
-    first = run.off / 4096
+    first = run.offset / 4096
 
     way-long : (i : ℕ) → i < run_leaves run → length ((job_of touched).way (start + i)) ≤ 11
     way-long i low = way-short touched shape (start + i) (ways_are i low).0
@@ -125,7 +125,7 @@ module _ (touched : Touched) (shape : IsTouched touched) (from : ℕ) where
 
         go : ((first + suc n) % 512 ≡ 0) ⊎ ((first + suc n) % 512 ≡ 0 → ⊥) → turned_upto (job_of touched) from (suc (start + n)) ≤ turned_upto (job_of touched) from start + 11 + n + 11 * ((first + n) / 512 - first / 512) →
             turned_upto (job_of touched) from (suc (start + suc n)) ≤ turned_upto (job_of touched) from start + 11 + suc n + 11 * ((first + suc n) / 512 - first / 512)
-        go (inl e) rest = let turn : (first + suc n) / 512 ≡ (first + n) / 512 + 1 = omega (arith, e) in rw at (omega (arith, rest, turn, whole))
+        go (inl e) rest = let redirect : (first + suc n) / 512 ≡ (first + n) / 512 + 1 = omega (arith, e) in rw at (omega (arith, rest, redirect, whole))
         go (inr other) rest = let stay : (first + suc n) / 512 ≡ (first + n) / 512 = omega (arith, other) in rw at (omega (arith, rest, stay, next-way n low other))
 
     -- all ways of the run
@@ -196,6 +196,6 @@ run_copies image touched shape apart run one =
     omega (arith, all, leaves, count)
 
 -- the same where they can be committed
-pub few_copies : {kept : ℕ → Bool} (image : Image) (bound : ℕ → ℕ) (touched : Touched) (free : ℕ → Bool) (wf : IsWellFormed image) (can : CanCommit image bound kept touched free) (run : Run) → touched.runs.now ≡ run ∷ [] →
+pub few_copies : {in_snapshot : ℕ → Bool} (image : Image) (bound : ℕ → ℕ) (touched : Touched) (free : ℕ → Bool) (wf : IsWellFormed image) (can : CanCommit image bound in_snapshot touched free) (run : Run) → touched.runs.now ≡ run ∷ [] →
     copied_count image touched ≤ run_leaves run + 22 + 11 * length touched.words.now
 few_copies image bound touched free wf can run one = run_copies image touched can.shape (none-begins image bound touched free wf can) run one

@@ -26,7 +26,7 @@ use Rattle.bp_cow.proofs.RunPointers.{same-leaf}
 use Rattle.bp_cow.proofs.WayPointers.{first-has}
 use Rattle.bp_cow.proofs.OnlyWord.{IsOnePath, IsOneOfRun, content-here, laid-here, no-value, one-leaf, one-of-run, one-word, slot-low, up-pointer}
 
-module _ {kept : ℕ → Bool} {old : Image} {bound : ℕ → ℕ} {touched : Touched} {free : ℕ → Bool} {m : ℕ} (can : CanCommit old bound kept touched free) (alone : IsOnePath touched m) where
+module _ {in_snapshot : ℕ → Bool} {old : Image} {bound : ℕ → ℕ} {touched : Touched} {free : ℕ → Bool} {m : ℕ} (can : CanCommit old bound in_snapshot touched free) (alone : IsOnePath touched m) where
   abbrev slot : ℕ
   slot = slice_index (end_path touched 0) m
 
@@ -49,11 +49,11 @@ module _ {kept : ℕ → Bool} {old : Image} {bound : ℕ → ℕ} {touched : To
       go (run ∷ runs) e =
           let has : Has touched.runs.now run = first-has touched run runs e in
           let single : IsOneOfRun can alone run = one-of-run can alone run has in
-          let number : 512 * (run.off / 4096 + 0) + slot ≡ run.off / 8 = omega (arith, single.last) in
+          let number : 512 * (run.offset / 4096 + 0) + slot ≡ run.offset / 8 = omega (arith, single.last) in
           ap (λ v. unwrap_or v (laid_on old (job_of touched) here)) (no-value can alone run has here)
           ∙ laid-here can alone run runs e slot
           ∙ ap (λ k. laid_word touched.runs.now run.root.items k (word_on old here)) number
-          ∙ ap (λ r. laid_word r run.root.items (run.off / 8) (word_on old here)) e
+          ∙ ap (λ r. laid_word r run.root.items (run.offset / 8) (word_on old here)) e
           ∙ ap (λ r. only_of r ((job_of touched).value 0) (word_on old here)) (sym e)
 
   -- and no other word
@@ -75,20 +75,20 @@ module _ {kept : ℕ → Bool} {old : Image} {bound : ℕ → ℕ} {touched : To
           single = one-of-run can alone run has
 
           -- each run has the one word
-          number : (r : Run) → Has touched.runs.now r → r.off / 8 ≡ run.off / 8
+          number : (r : Run) → Has touched.runs.now r → r.offset / 8 ≡ run.offset / 8
           number r also =
               let same : IsOneOfRun can alone r = one-of-run can alone r also in
               let leaf = same-leaf old bound can.forest r run (can.shape.runs r also) (can.shape.runs run has) (can.runs r also) (can.runs run has) 0 0 (omega arith) (omega arith) (same.leaf ∙ sym single.leaf) in
               omega (arith, leaf.1, same.last, single.last)
 
-          beside_it : s ≢ slot → (r : Run) → Has touched.runs.now r → run_word r (512 * (run.off / 4096 + 0) + s) (word_on old (s ∷ up)) ≡ word_on old (s ∷ up)
-          beside_it apart r also = run_word-outside r (512 * (run.off / 4096 + 0) + s) (word_on old (s ∷ up)) (split (cases_lt (512 * (run.off / 4096 + 0) + s) (run.off / 8)))
+          beside_it : s ≢ slot → (r : Run) → Has touched.runs.now r → run_word r (512 * (run.offset / 4096 + 0) + s) (word_on old (s ∷ up)) ≡ word_on old (s ∷ up)
+          beside_it apart r also = run_word-outside r (512 * (run.offset / 4096 + 0) + s) (word_on old (s ∷ up)) (split (cases_lt (512 * (run.offset / 4096 + 0) + s) (run.offset / 8)))
             where
               same : IsOneOfRun can alone r
               same = one-of-run can alone r also
 
-              split : (512 * (run.off / 4096 + 0) + s < run.off / 8) ⊎ (run.off / 8 ≤ 512 * (run.off / 4096 + 0) + s) →
-                  (8 * (512 * (run.off / 4096 + 0) + s) + 8 ≤ r.off) ⊎ (run_end r ≤ 8 * (512 * (run.off / 4096 + 0) + s))
+              split : (512 * (run.offset / 4096 + 0) + s < run.offset / 8) ⊎ (run.offset / 8 ≤ 512 * (run.offset / 4096 + 0) + s) →
+                  (8 * (512 * (run.offset / 4096 + 0) + s) + 8 ≤ r.offset) ⊎ (run_end r ≤ 8 * (512 * (run.offset / 4096 + 0) + s))
               split (inl before) = inl (omega (arith, before, number r also))
               split (inr behind) = inr (omega (arith, behind, apart, single.last, same.one, number r also))
 
@@ -99,7 +99,7 @@ module _ {kept : ℕ → Bool} {old : Image} {bound : ℕ → ℕ} {touched : To
           either (inl at) =
               ap (λ p. laid_on old (job_of touched) (s ∷ p)) at
               ∙ laid-here can alone run runs e s
-              ∙ laid-kept touched.runs.now run.root.items (512 * (run.off / 4096 + 0) + s) (word_on old (s ∷ up)) (λ r also _. beside_it (λ same. other (cons same at)) r also)
+              ∙ laid-kept touched.runs.now run.root.items (512 * (run.offset / 4096 + 0) + s) (word_on old (s ∷ up)) (λ r also _. beside_it (λ same. other (cons same at)) r also)
               ∙ ap (λ p. word_on old (s ∷ p)) (sym at)
           either (inr away) = laid-other old (job_of touched) s q (λ j few same. away (same ∙ one-leaf can alone j few))
 

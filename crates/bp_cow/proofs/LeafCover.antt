@@ -130,7 +130,7 @@ module _ (height i : ℕ) (touched : Touched) (run : Run) (is : IsSizedRun heigh
     ends_are = ap (λ r. ends_of r (length touched.words.now)) is.one ∙ ap (λ n. 2 + n) one_word
 
     by_end : (P : WordPath → Type 0) → ((k : ℕ) → P (run_path run k)) → P (inode_path height i 2) → (j : ℕ) → j < ends touched → P (end_path touched j)
-    by_end P of_run of_word zero here = subst P (ap (λ r. end_path_of r (word_paths touched) 0) (sym is.one)) (of_run (run.off / 8))
+    by_end P of_run of_word zero here = subst P (ap (λ r. end_path_of r (word_paths touched) 0) (sym is.one)) (of_run (run.offset / 8))
     by_end P of_run of_word (suc zero) here = subst P (ap (λ r. end_path_of r (word_paths touched) 1) (sym is.one)) (of_run ((run_end run - 1) / 8))
     by_end P of_run of_word (suc (suc zero)) here = subst P (sym (ap (λ r. end_path_of r (word_paths touched) 2) is.one ∙ size_path)) of_word
     by_end P of_run of_word (suc (suc (suc j))) here = absurd (omega (arith, here, ends_are))
@@ -155,11 +155,11 @@ module _ (height i : ℕ) (touched : Touched) (run : Run) (is : IsSizedRun heigh
     no_longer : BeginAlike touched (height + 1) → ⊥
     no_longer more =
         let next : height + 1 ≡ suc height = omega arith in
-        let run_here : end_path touched 0 ≡ run_path run (run.off / 8) = ap (λ r. end_path_of r (word_paths touched) 0) is.one in
+        let run_here : end_path touched 0 ≡ run_path run (run.offset / 8) = ap (λ r. end_path_of r (word_paths touched) 0) is.one in
         let word_here : end_path touched 2 ≡ inode_path height i 2 = ap (λ r. end_path_of r (word_paths touched) 2) is.one ∙ size_path in
         let same = more.same 2 (omega (arith, ends_are)) in
         words_apart height i
-        (sym (run_front (run.off / 8) (suc height) (omega arith)) ∙ ap (λ p. trail_of p (suc height)) (sym run_here) ∙ ap (trail_of (end_path touched 0)) (sym next) ∙ sym same
+        (sym (run_front (run.offset / 8) (suc height) (omega arith)) ∙ ap (λ p. trail_of p (suc height)) (sym run_here) ∙ ap (trail_of (end_path touched 0)) (sym next) ∙ sym same
         ∙ ap (trail_of (end_path touched 2)) next ∙ ap (λ p. trail_of p (suc height)) word_here)
 
     -- ---- the paths themselves
@@ -174,8 +174,8 @@ module _ (height i : ℕ) (touched : Touched) (run : Run) (is : IsSizedRun heigh
     some : 0 < length run.bytes.now
     some = (shape.runs run has-run).some
 
-    first_path : Has (all_paths touched) (run_path run (run.off / 8))
-    first_path = has-of-run touched shape run (run.off / 8) has-run (omega arith) (omega (arith, some))
+    first_path : Has (all_paths touched) (run_path run (run.offset / 8))
+    first_path = has-of-run touched shape run (run.offset / 8) has-run (omega arith) (omega (arith, some))
 
     pub has_size : Has (all_paths touched) (inode_path height i 2)
     has_size = subst (Has (all_paths touched)) size_path (has-word touched shape 0 (omega (arith, one_word)))
@@ -184,7 +184,7 @@ module _ (height i : ℕ) (touched : Touched) (run : Run) (is : IsSizedRun heigh
     shared = common_all (all_paths touched)
 
     leaf_begins : Begins (leaf_path height i) (common_all (all_paths touched))
-    leaf_begins = all-most (all_paths touched) (leaf_path height i) (run_path run (run.off / 8)) first_path begins
+    leaf_begins = all-most (all_paths touched) (leaf_path height i) (run_path run (run.offset / 8)) first_path begins
       where
         begins : (path : WordPath) → Has (all_paths touched) path → Begins (leaf_path height i) path
         begins path has =
@@ -203,7 +203,7 @@ module _ (height i : ℕ) (touched : Touched) (run : Run) (is : IsSizedRun heigh
         go (inr few) = few
         go (inl more) =
             absurd (words_apart height i
-            (sym (run_front (run.off / 8) (suc height) (omega arith)) ∙ of (run_path run (run.off / 8)) first_path (omega (arith, more)) ∙ sym (of (inode_path height i 2) has_size (omega (arith, more)))))
+            (sym (run_front (run.offset / 8) (suc height) (omega arith)) ∙ of (run_path run (run.offset / 8)) first_path (omega (arith, more)) ∙ sym (of (inode_path height i 2) has_size (omega (arith, more)))))
 
     common_leaf : common_all (all_paths touched) ≡ leaf_path height i
     common_leaf =
@@ -221,7 +221,7 @@ module _ (height i : ℕ) (touched : Touched) (run : Run) (is : IsSizedRun heigh
         kind : (p : WordPath) → Has (all_paths touched) p → Kind p
         kind = paths-by touched shape Kind of_run of_word
           where
-            of_run : (r : Run) (k : ℕ) → Has touched.runs.now r → r.off / 8 ≤ k → k ≤ (run_end r - 1) / 8 → Kind (run_path r k)
+            of_run : (r : Run) (k : ℕ) → Has touched.runs.now r → r.offset / 8 ≤ k → k ≤ (run_end r - 1) / 8 → Kind (run_path r k)
             of_run r k has first last = subst (λ (x : Run). Kind (run_path x k)) (only r has) (inr (omega (arith, length-run_path run k, root_long), run_front k (suc height) (omega arith)))
 
             of_word : (j : ℕ) → j < length touched.words.now → Kind (path_of (word_paths touched) j)

@@ -19,12 +19,12 @@ use Rattle.bp_cow.proofs.RunFronts.{front-digits}
 scaled : (node power leaf size : ℕ) → node * power ≤ leaf → 4096 * leaf < size → node * (8 * (power * 512)) < size
 scaled node power leaf size low below = omega (arith, low, below)
 
-module _ (old : Image) (bound : ℕ → ℕ) (forest : IsForest old bound) (run : Run) (at : IsRunIn old bound run) (j : ℕ) (low : 4096 * (run.off / 4096 + j) < bound (suc at.inode)) where
+module _ (old : Image) (bound : ℕ → ℕ) (forest : IsForest old bound) (run : Run) (at : IsRunIn old bound run) (j : ℕ) (low : 4096 * (run.offset / 4096 + j) < bound (suc at.inode)) where
   abbrev tree : ℕ
   tree = suc at.inode
 
   abbrev leaf : ℕ
-  leaf = run.off / 4096 + j
+  leaf = run.offset / 4096 + j
 
   -- a block, by how many levels it stands below the root
   module _ (down : ℕ) (few : down ≤ run.height) where
@@ -70,7 +70,7 @@ module _ (old : Image) (bound : ℕ → ℕ) (forest : IsForest old bound) (run 
           (subst (λ d. IsTreePointer old bound (slot ∷ trail_of (run_way run j) d) ⊎ IsTreeWord old bound (slot ∷ trail_of (run_way run j) d)) at_depth any)))
 
 -- a block of the tree on the way to a leaf
-pub live-level : (run : Run) (j depth : ℕ) → length run.root.items ≤ depth → depth ≤ length run.root.items + run.height → run_live run j depth ≡ leaf_live run.size (length run.root.items + run.height - depth) (run.off / 4096 + j)
+pub live-level : (run : Run) (j depth : ℕ) → length run.root.items ≤ depth → depth ≤ length run.root.items + run.height → run_live run j depth ≡ leaf_live run.size (length run.root.items + run.height - depth) (run.offset / 4096 + j)
 live-level run j depth past under =
     let first : nat_le (length run.root.items) depth ≡ true = le-leb (length run.root.items) depth past in
     let second : nat_le depth (length run.root.items + run.height) ≡ true = le-leb depth (length run.root.items + run.height) under in

@@ -1,11 +1,11 @@
--- Where the way to the cover is loose, the block that holds the word of the cover is not kept.
+-- Where the way to the cover is loose, the block that holds the word of the cover is not in the snapshot.
 use Rattle.std.proofs.Common.{◌≡◌, ℕ, zero, suc, ◌+◌, ◌-◌, ◌*◌, ◌/◌, ◌<◌, ◌≤◌, List, [], ◌∷◌, ◌++◌, length, take, Bool, false, refl, sym, ◌∙◌, ap, subst, arith}
 use Rattle.std.specs.List.{slice_index}
 use Rattle.std.proofs.lemmas.List.{length-append, length-take, take_more}
 use Rattle.std.proofs.Math.Seq.{take-length}
 use Rattle.bp_layout.specs.Inode.{root_of, size_of}
 use Rattle.bp_layout.specs.Members.{Has}
-use Rattle.bp_layout.specs.Thaw.{IsLoose, heights_now, is_kept_at}
+use Rattle.bp_layout.specs.Thaw.{IsLoose, heights_now, is_in_snapshot_at}
 use Rattle.bp_layout.specs.Tree.{node}
 use Rattle.bp_layout.specs.WellFormed.{IsWellFormed}
 use Rattle.bp_layout.specs.WordPaths.{WordPath, digits, inode_path, tree_path}
@@ -44,10 +44,10 @@ front_path path n h t d k low same =
     let long : n ≡ length whole = sym (length-trail_of path n) ∙ ap (λ (q : Trail). length q) trails ∙ length-trail_of whole (length whole) in
     same-take path whole n low (omega (arith, long)) (trails ∙ ap (trail_of whole) (sym long)) ∙ ap (λ m. take m whole) long ∙ take-length whole
 
-module _ (kept : ℕ → Bool) (image : Image) (wf : IsWellFormed image) (touched : Touched) (shape : IsTouched touched) (path : WordPath) (in_paths : Has (all_paths touched) path)
+module _ (in_snapshot : ℕ → Bool) (image : Image) (wf : IsWellFormed image) (touched : Touched) (shape : IsTouched touched) (path : WordPath) (in_paths : Has (all_paths touched) path)
     (live : (d : ℕ) → d < length path → IsTreePointer image (size_of image) (trail_of path d)) where
   -- the block to which the last pointer on the way leads
-  block_loose : (k : ℕ) → CoverHas image touched (suc k) → IsLoose image kept k (take (suc k) (end_path touched 0)) → kept (block_on image (trail_of (end_path touched 0) k)) ≡ false
+  block_loose : (k : ℕ) → CoverHas image touched (suc k) → IsLoose image in_snapshot k (take (suc k) (end_path touched 0)) → in_snapshot (block_on image (trail_of (end_path touched 0) k)) ≡ false
   block_loose k covers loose =
       let first : List ℕ = end_path touched 0 in
       let long : suc k ≤ length first = covers.alike.long 0 (some-ends touched shape) in
@@ -60,18 +60,18 @@ module _ (kept : ℕ → Bool) (image : Image) (wf : IsWellFormed image) (touche
       front_path first k (heights_now image 0) one.tree one.depth one.index (omega (arith, long)) (sym (one.named ∙ same)) in
       let next : k + 1 ≡ suc k = omega arith in
       let more : take (suc k) first ≡ take k first ++ slice_index first k ∷ [] = ap (λ n. take n first) (sym next) ∙ take_more first k 0 long in
-      ap kept (sym block)
-      ∙ sym (kept_node image wf kept one.tree one.depth one.index one.reached one.live (λ null. covers.exists k (omega arith) (sym block ∙ null)))
-      ∙ ap (is_kept_at image kept) (sym front)
-      ∙ loose-front image kept k (take k first) (slice_index first k) [] (omega (arith, long, length-take k first)) (subst (IsLoose image kept k) more loose)
+      ap in_snapshot (sym block)
+      ∙ sym (kept_node image wf in_snapshot one.tree one.depth one.index one.reached one.live (λ null. covers.exists k (omega arith) (sym block ∙ null)))
+      ∙ ap (is_in_snapshot_at image in_snapshot) (sym front)
+      ∙ loose-front image in_snapshot k (take k first) (slice_index first k) [] (omega (arith, long, length-take k first)) (subst (IsLoose image in_snapshot k) more loose)
 
-  pub loose_cover : IsLoose image kept (length (commit_cover image touched) - 1) (commit_cover image touched) → HasLooseCover image kept touched
+  pub loose_cover : IsLoose image in_snapshot (length (commit_cover image touched) - 1) (commit_cover image touched) → HasLooseCover image in_snapshot touched
   loose_cover loose =
-      subst (λ w. 512 ≤ w → kept (w / 512) ≡ false) (sym (cover_address touched shape image))
+      subst (λ w. 512 ≤ w → in_snapshot (w / 512) ≡ false) (sym (cover_address touched shape image))
       (go (length (commit_cover image touched)) (cover_has touched shape image)
-      (subst (IsLoose image kept (length (commit_cover image touched) - 1)) (sym (cover_front touched shape image (length (commit_cover image touched)) (cover_has touched shape image))) loose))
+      (subst (IsLoose image in_snapshot (length (commit_cover image touched) - 1)) (sym (cover_front touched shape image (length (commit_cover image touched)) (cover_has touched shape image))) loose))
     where
-      go : (n : ℕ) → CoverHas image touched n → IsLoose image kept (n - 1) (take n (end_path touched 0)) → 512 ≤ place_on image (trail_of (end_path touched 0) n) → kept (place_on image (trail_of (end_path touched 0) n) / 512) ≡ false
+      go : (n : ℕ) → CoverHas image touched n → IsLoose image in_snapshot (n - 1) (take n (end_path touched 0)) → 512 ≤ place_on image (trail_of (end_path touched 0) n) → in_snapshot (place_on image (trail_of (end_path touched 0) n) / 512) ≡ false
       go zero covers way low = absurd (omega (arith, low))
       go (suc k) covers way low =
           let some : 0 < _ = some-ends touched shape in
@@ -79,4 +79,4 @@ module _ (kept : ℕ → Bool) (image : Image) (wf : IsWellFormed image) (touche
           let few : slot < 512 = end-slots touched shape 0 k some (omega (arith, covers.alike.long 0 some)) in
           let block : (512 * block_on image (trail_of (end_path touched 0) k) + slot) / 512 ≡ block_on image (trail_of (end_path touched 0) k) = omega (arith, few) in
           let last : suc k - 1 ≡ k = omega arith in
-          ap kept block ∙ block_loose k covers (subst (λ m. IsLoose image kept m (take (suc k) (end_path touched 0))) last way)
+          ap in_snapshot block ∙ block_loose k covers (subst (λ m. IsLoose image in_snapshot m (take (suc k) (end_path touched 0))) last way)

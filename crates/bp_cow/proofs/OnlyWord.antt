@@ -26,7 +26,7 @@ pub record IsOnePath (touched : Touched) (m : ℕ) : Type 0 where
   pub alike : BeginAlike touched (suc m)
   pub long : length ((job_of touched).way 0) ≡ m
 
-module _ {kept : ℕ → Bool} {old : Image} {bound : ℕ → ℕ} {touched : Touched} {free : ℕ → Bool} {m : ℕ} (can : CanCommit old bound kept touched free) (alone : IsOnePath touched m) where
+module _ {in_snapshot : ℕ → Bool} {old : Image} {bound : ℕ → ℕ} {touched : Touched} {free : ℕ → Bool} {m : ℕ} (can : CanCommit old bound in_snapshot touched free) (alone : IsOnePath touched m) where
   abbrev path : ℕ → List ℕ
   path i = path_of (word_paths touched) i
 
@@ -59,10 +59,10 @@ module _ {kept : ℕ → Bool} {old : Image} {bound : ℕ → ℕ} {touched : To
           can.contents 0 (omega (arith, some)) (subst (IsTreePointer old bound) (ap (λ p. trail_of p (suc m)) first_is ∙ ap (trail_of (path 0)) size) one)
       go (run ∷ runs) e =
           let has : Has touched.runs.now run = first-has touched run runs e in
-          let first_is : end_path touched 0 ≡ run_path run (run.off / 8) = ap (λ r. end_path_of r (word_paths touched) 0) e in
-          let size : suc m ≡ length (run_path run (run.off / 8)) = omega (arith, first-length can, alone.long, ap (λ (p : List ℕ). length p) first_is) in
-          leaf-plain old bound can.forest run (can.shape.runs run has) (can.runs run has) 0 (run.off / 8 % 512) (omega arith)
-          (subst (IsTreePointer old bound) (ap (λ p. trail_of p (suc m)) first_is ∙ ap (trail_of (run_path run (run.off / 8))) size ∙ first-trail run) one)
+          let first_is : end_path touched 0 ≡ run_path run (run.offset / 8) = ap (λ r. end_path_of r (word_paths touched) 0) e in
+          let size : suc m ≡ length (run_path run (run.offset / 8)) = omega (arith, first-length can, alone.long, ap (λ (p : List ℕ). length p) first_is) in
+          leaf-plain old bound can.forest run (can.shape.runs run has) (can.runs run has) 0 (run.offset / 8 % 512) (omega arith)
+          (subst (IsTreePointer old bound) (ap (λ p. trail_of p (suc m)) first_is ∙ ap (trail_of (run_path run (run.offset / 8))) size ∙ first-trail run) one)
 
   -- what is known where there is no run
   pub record IsOneWord : Type 0 where
@@ -113,43 +113,43 @@ module _ {kept : ℕ → Bool} {old : Image} {bound : ℕ → ℕ} {touched : To
 
   -- and of each run: it has this word alone
   pub record IsOneOfRun (run : Run) : Type 0 where
-    pub one : run.off / 8 ≡ (run_end run - 1) / 8
-    pub trail : trail_of (run_path run (run.off / 8)) (length (run_path run (run.off / 8))) ≡ slot ∷ up
-    pub last : run.off / 8 % 512 ≡ slot
+    pub one : run.offset / 8 ≡ (run_end run - 1) / 8
+    pub trail : trail_of (run_path run (run.offset / 8)) (length (run_path run (run.offset / 8))) ≡ slot ∷ up
+    pub last : run.offset / 8 % 512 ≡ slot
     pub leaf : trail_of (run_way run 0) (length (run_way run 0)) ≡ up
 
   pub one-of-run : (run : Run) → Has touched.runs.now run → IsOneOfRun run
   one-of-run run has = record { one = one; trail = trail; last = parts.0; leaf = parts.1 }
     where
-      start : HasEnd touched.runs.now (word_paths touched) (run_path run (run.off / 8))
+      start : HasEnd touched.runs.now (word_paths touched) (run_path run (run.offset / 8))
       start = end-first touched.runs.now (word_paths touched) run has
 
       end : HasEnd touched.runs.now (word_paths touched) (run_path run ((run_end run - 1) / 8))
       end = end-last touched.runs.now (word_paths touched) run has
 
-      from_start : trail_of (run_path run (run.off / 8)) (suc m) ≡ slot ∷ up
+      from_start : trail_of (run_path run (run.offset / 8)) (suc m) ≡ slot ∷ up
       from_start = ap (λ p. trail_of p (suc m)) (sym start.is) ∙ alone.alike.same start.which (start.here (length touched.words.now))
 
       from_end : trail_of (run_path run ((run_end run - 1) / 8)) (suc m) ≡ slot ∷ up
       from_end = ap (λ p. trail_of p (suc m)) (sym end.is) ∙ alone.alike.same end.which (end.here (length touched.words.now))
 
-      full : length (run_path run (run.off / 8)) ≡ suc m
-      full = go (cases_eq (length (run_path run (run.off / 8))) (suc m))
+      full : length (run_path run (run.offset / 8)) ≡ suc m
+      full = go (cases_eq (length (run_path run (run.offset / 8))) (suc m))
         where
-          whole : suc m ≤ length (run_path run (run.off / 8))
+          whole : suc m ≤ length (run_path run (run.offset / 8))
           whole = subst (λ p. suc m ≤ length p) start.is (alone.alike.long start.which (start.here (length touched.words.now)))
 
-          go : (length (run_path run (run.off / 8)) ≡ suc m) ⊎ (length (run_path run (run.off / 8)) ≡ suc m → ⊥) → length (run_path run (run.off / 8)) ≡ suc m
+          go : (length (run_path run (run.offset / 8)) ≡ suc m) ⊎ (length (run_path run (run.offset / 8)) ≡ suc m → ⊥) → length (run_path run (run.offset / 8)) ≡ suc m
           go (inl e) = e
           go (inr other) =
-              let short : suc m ≤ length (run_way run 0) = omega (arith, whole, other, length-run_path run (run.off / 8), length-run_way run 0) in
-              absurd (content-here (subst (IsTreePointer old bound) (front-run_way run 0 (run.off / 8) (suc m) (omega arith) short ∙ from_start)
+              let short : suc m ≤ length (run_way run 0) = omega (arith, whole, other, length-run_path run (run.offset / 8), length-run_way run 0) in
+              absurd (content-here (subst (IsTreePointer old bound) (front-run_way run 0 (run.offset / 8) (suc m) (omega arith) short ∙ from_start)
               (leaf-fronts old bound can.forest run (can.shape.runs run has) (can.runs run has) 0 (suc m) (omega arith) short)))
 
-      trail : trail_of (run_path run (run.off / 8)) (length (run_path run (run.off / 8))) ≡ slot ∷ up
-      trail = ap (trail_of (run_path run (run.off / 8))) full ∙ from_start
+      trail : trail_of (run_path run (run.offset / 8)) (length (run_path run (run.offset / 8))) ≡ slot ∷ up
+      trail = ap (trail_of (run_path run (run.offset / 8))) full ∙ from_start
 
-      parts : (run.off / 8 % 512 ≡ slot) × (trail_of (run_way run 0) (length (run_way run 0)) ≡ up)
+      parts : (run.offset / 8 % 512 ≡ slot) × (trail_of (run_way run 0) (length (run_way run 0)) ≡ up)
       parts = both (sym (first-trail run) ∙ trail)
         where
           both : {s u : ℕ} {p q : Trail} → s ∷ p ≡ u ∷ q → (s ≡ u) × (p ≡ q)
@@ -161,10 +161,10 @@ module _ {kept : ℕ → Bool} {old : Image} {bound : ℕ → ℕ} {touched : To
           let some : 0 < length run.bytes.now = (can.shape.runs run has).some in
           rw pow-suc (omega (arith, covers, some, low))
 
-      one : run.off / 8 ≡ (run_end run - 1) / 8
+      one : run.offset / 8 ≡ (run_end run - 1) / 8
       one =
           let some : 0 < length run.bytes.now = (can.shape.runs run has).some in
-          same-run_path run (run.off / 8) ((run_end run - 1) / 8) (few (run.off / 8) (omega (arith, some))) (few ((run_end run - 1) / 8) (omega arith))
+          same-run_path run (run.offset / 8) ((run_end run - 1) / 8) (few (run.offset / 8) (omega (arith, some))) (few ((run_end run - 1) / 8) (omega arith))
           (trail ∙ sym from_end ∙ ap (trail_of (run_path run ((run_end run - 1) / 8))) (sym full))
 
   -- so no other word is touched
@@ -183,7 +183,7 @@ module _ {kept : ℕ → Bool} {old : Image} {bound : ℕ → ℕ} {touched : To
       none : (some : 0 < length touched.words.now) → (length (path 0) ≡ suc m) ⊎ (length (path 0) ≡ suc m → ⊥) → ⊥
       none some (inl whole) =
           let bytes : 0 < length run.bytes.now = (can.shape.runs run has).some in
-          can.beside run 0 (run.off / 8) has some (omega arith) (omega (arith, bytes)) (ap (trail_of (path 0)) whole ∙ (begins some).1 ∙ sym single.trail)
+          can.beside run 0 (run.offset / 8) has some (omega arith) (omega (arith, bytes)) (ap (trail_of (path 0)) whole ∙ (begins some).1 ∙ sym single.trail)
       none some (inr n) =
           let low : suc m < length (path 0) = omega (arith, n, (begins some).0) in
           content-here (subst (IsTreePointer old bound) (begins some).1 (can.pointers 0 (suc m) some low))
@@ -204,11 +204,11 @@ module _ {kept : ℕ → Bool} {old : Image} {bound : ℕ → ℕ} {touched : To
       leaf-end touched j at.run at.leaf at.is ∙ ap (λ l. trail_of (run_way at.run l) (length (run_way at.run l))) none ∙ single.leaf
 
   -- what is laid over a word of that leaf
-  pub laid-here : (run : Run) (runs : List Run) → touched.runs.now ≡ run ∷ runs → (s : ℕ) → laid_on old (job_of touched) (s ∷ up) ≡ laid_word touched.runs.now run.root.items (512 * (run.off / 4096 + 0) + s) (word_on old (s ∷ up))
+  pub laid-here : (run : Run) (runs : List Run) → touched.runs.now ≡ run ∷ runs → (s : ℕ) → laid_on old (job_of touched) (s ∷ up) ≡ laid_word touched.runs.now run.root.items (512 * (run.offset / 4096 + 0) + s) (word_on old (s ∷ up))
   laid-here run runs e s =
       let leaf = first-leaf touched run runs e in
       let at : end_of (job_of touched) 0 ≡ up = one-leaf 0 leaf.here in
       ap (λ q. laid_on old (job_of touched) (s ∷ q)) (sym at)
       ∙ laid-leaf old (job_of touched) s 0 leaf.here (λ l low same w. leaves-agree can 0 l leaf.here low same s w)
       ∙ leaf.patch s (word_on old (s ∷ end_of (job_of touched) 0))
-      ∙ ap (λ q. laid_word touched.runs.now run.root.items (512 * (run.off / 4096 + 0) + s) (word_on old (s ∷ q))) at
+      ∙ ap (λ q. laid_word touched.runs.now run.root.items (512 * (run.offset / 4096 + 0) + s) (word_on old (s ∷ q))) at

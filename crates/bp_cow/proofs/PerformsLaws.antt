@@ -41,7 +41,7 @@ count_gone start now fewer (x ∷ xs) = go (start x) (now x) refl refl (count_go
     go false false one two rest = rw (one, two) rest
     go false true one two rest = let clash : true ≡ false = sym (fewer x two) ∙ one in absurd (cc)
 
-module _ {kept start now : ℕ → Bool} {word most : ℕ} {old new : Memory} (done : AddsCopyCommit start now word most old new) (free : (b : ℕ) → start b ≡ true → IsFreeBlock (current_words old) kept b) where
+module _ {in_snapshot start now : ℕ → Bool} {word most : ℕ} {old new : Memory} (done : AddsCopyCommit start now word most old new) (free : (b : ℕ) → start b ≡ true → IsFreeBlock (current_words old) in_snapshot b) where
   abbrev count : ℕ
   count = block_count (current_words old)
 
@@ -54,21 +54,21 @@ module _ {kept start now : ℕ → Bool} {word most : ℕ} {old new : Memory} (d
 
   has_copy : (b : ℕ) → start b ≡ true → now b ≡ false → Has copies b
   has_copy b was none =
-      let is : IsFreeBlock (current_words old) kept b = free b was in
+      let is : IsFreeBlock (current_words old) in_snapshot b = free b was in
       has-filter (gone start now) numbers b (has-range 0 count b (omega arith) (omega (arith, is.high))) (gone_of (start b) (now b) was none)
 
   pub of_copy : (b : ℕ) → Has copies b → (start b ≡ true) × (now b ≡ false)
   of_copy b has = of_gone (start b) (now b) (filter-has (gone start now) numbers b has).1
 
-  pub copies_taken : TakesBlocks (current_words old) kept copies done.commit.prepared
+  pub copies_taken : TakesBlocks (current_words old) in_snapshot copies done.commit.prepared
   copies_taken = record {
     once = apart-filter (gone start now) numbers (apart-range 0 count);
-    free = each-of (IsFreeBlock (current_words old) kept) copies (λ b has. free b (of_copy b has).0);
+    free = each-of (IsFreeBlock (current_words old) in_snapshot) copies (λ b has. free b (of_copy b has).0);
     stored = each-of (λ b. StoresTo (InBlock b) done.commit.prepared) copies (λ b has. done.each b (of_copy b has).0 (of_copy b has).1);
-    only = StoresMay-weaker (AnyAt (IsTakenWord start now)) (AnyAt (IsOpen (current_words old) kept copies)) open_place done.commit.prepared done.only;
+    only = StoresMay-weaker (AnyAt (IsTakenWord start now)) (AnyAt (IsOpen (current_words old) in_snapshot copies)) open_place done.commit.prepared done.only;
   }
     where
-      open_place : (place value : ℕ) → IsTakenWord start now place → IsOpen (current_words old) kept copies place
+      open_place : (place value : ℕ) → IsTakenWord start now place → IsOpen (current_words old) in_snapshot copies place
       open_place place value one = in_taken (has_copy (place / 512) (ap start one.inside ∙ one.was) (ap now one.inside ∙ one.gone))
 
   -- so many, where both sets are told up to the number of blocks

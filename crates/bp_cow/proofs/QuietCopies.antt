@@ -28,10 +28,10 @@ makes_stay {start} {taken} {most} {before} {after} {old} {new} makes w used =
     clash : start (w / 512) ≡ true → ⊥
     clash free = absurd (cc)
 
-module _ {kept : ℕ → Bool} {old : Image} {bound : ℕ → ℕ} {start : ℕ → Bool} (wf : IsWellFormed old) (forest : IsForest old bound) (sizes : (t : ℕ) → IsReached old t → size_of old t ≤ bound t)
-    (exact : IsExactSet old (IsTreePointer old bound) kept start) where
+module _ {in_snapshot : ℕ → Bool} {old : Image} {bound : ℕ → ℕ} {start : ℕ → Bool} (wf : IsWellFormed old) (forest : IsForest old bound) (sizes : (t : ℕ) → IsReached old t → size_of old t ≤ bound t)
+    (exact : IsExactSet old (IsTreePointer old bound) in_snapshot start) where
   same : (taken : ℕ → Bool) (image : Image) → EachMay (AnyAt (IsTakenWord start taken)) old image → Same old image
-  same taken image each = same_symmetric image old (same_unseen old bound kept start wf forest sizes exact image each.size (λ place used. go place used (each.each place)))
+  same taken image each = same_symmetric image old (same_unseen old bound in_snapshot start wf forest sizes exact image each.size (λ place used. go place used (each.each place)))
     where
       go : (place : ℕ) → start (place / 512) ≡ false → (word image place ≡ word old place) ⊎ IsTakenWord start taken place → word image place ≡ word old place
       go place used (inl e) = e

@@ -15,28 +15,28 @@ use Rattle.bp_cow.specs.Plan.{Plan, IsOnWay}
 use Rattle.bp_cow.specs.Return.{IsGiven, IsReturned, IsLeft, IsBack}
 use Rattle.bp_cow.proofs.BuildFacts.{anew_start, anew_start_back, anew_next, anew_next_back, anew_more, anew_more_back, not_anew}
 
-returned_same : {old : Image} {Pointer anew other : Trail → Type 0} {kept before after : ℕ → Bool} → ((q : Trail) → anew q → other q) → ((q : Trail) → Pointer q → other q → anew q ⊎ (block_on old q ≡ 0)) →
-    IsReturned old Pointer anew kept before after → IsReturned old Pointer other kept before after
-returned_same {old} {Pointer} {anew} {other} {kept} {before} {after} to back returned = record {
+returned_same : {old : Image} {Pointer anew other : Trail → Type 0} {in_snapshot before after : ℕ → Bool} → ((q : Trail) → anew q → other q) → ((q : Trail) → Pointer q → other q → anew q ⊎ (block_on old q ≡ 0)) →
+    IsReturned old Pointer anew in_snapshot before after → IsReturned old Pointer other in_snapshot before after
+returned_same {old} {Pointer} {anew} {other} {in_snapshot} {before} {after} to back returned = record {
   given = λ p live n some loose. given p live some loose (back p live n);
   still = returned.still;
   from = λ b is. from b (returned.from b is);
 }
   where
-    given : (p : Trail) → Pointer p → block_on old p ≢ 0 → kept (block_on old p) ≡ false → anew p ⊎ (block_on old p ≡ 0) → after (block_on old p) ≡ true
+    given : (p : Trail) → Pointer p → block_on old p ≢ 0 → in_snapshot (block_on old p) ≡ false → anew p ⊎ (block_on old p ≡ 0) → after (block_on old p) ≡ true
     given p live some loose (inl n) = returned.given p live n some loose
     given p live some loose (inr null) = absurd (some null)
 
-    from : (b : ℕ) → (before b ≡ true) ⊎ IsGiven old Pointer anew kept b → (before b ≡ true) ⊎ IsGiven old Pointer other kept b
+    from : (b : ℕ) → (before b ≡ true) ⊎ IsGiven old Pointer anew in_snapshot b → (before b ≡ true) ⊎ IsGiven old Pointer other in_snapshot b
     from b (inl is) = inl is
     from b (inr one) = inr (one.0, one.1, to one.0 one.2, one.3, one.4, one.5)
 
-module _ {old : Image} {Pointer anew : Trail → Type 0} {kept before after : ℕ → Bool} (bones : IsSkeleton old Pointer) (used : (b : ℕ) → LeadsTo old Pointer b → before b ≡ false)
-    (returned : IsReturned old Pointer anew kept before after) (here : Trail) (live : Pointer here) (first : anew here → ⊥) (some : block_on old here ≢ 0) where
+module _ {old : Image} {Pointer anew : Trail → Type 0} {in_snapshot before after : ℕ → Bool} (bones : IsSkeleton old Pointer) (used : (b : ℕ) → LeadsTo old Pointer b → before b ≡ false)
+    (returned : IsReturned old Pointer anew in_snapshot before after) (here : Trail) (live : Pointer here) (first : anew here → ⊥) (some : block_on old here ≢ 0) where
   not_back : after (block_on old here) ≡ false
   not_back = go (after (block_on old here)) refl
     where
-      again : (before (block_on old here) ≡ true) ⊎ IsGiven old Pointer anew kept (block_on old here) → ⊥
+      again : (before (block_on old here) ≡ true) ⊎ IsGiven old Pointer anew in_snapshot (block_on old here) → ⊥
       again (inl is) = let no_more : before (block_on old here) ≡ false = used _ (record { trail = here; pointer = live; named = refl; not_null = some }) in absurd (cc)
       again (inr one) = first (subst anew (sym (bones.once here one.0 live one.1 some (sym one.3))) one.2)
 
@@ -44,8 +44,8 @@ module _ {old : Image} {Pointer anew : Trail → Type 0} {kept before after : �
       go false e = e
       go true e = absurd (again (returned.from _ e))
 
-  -- a block that is not kept
-  given_loose : (next : ℕ → Bool) → kept (block_on old here) ≡ false → TakesNumber next after (block_on old here) → IsReturned old Pointer (λ q. anew q ⊎ (q ≡ here)) kept before next
+  -- a block that is not in the snapshot
+  given_loose : (next : ℕ → Bool) → in_snapshot (block_on old here) ≡ false → TakesNumber next after (block_on old here) → IsReturned old Pointer (λ q. anew q ⊎ (q ≡ here)) in_snapshot before next
   given_loose next free takes = record {
     given = λ p l n full loose. given p l n full loose (cases_eq (block_on old p) (block_on old here));
     still = λ b is. more b (returned.still b is);
@@ -59,42 +59,42 @@ module _ {old : Image} {Pointer anew : Trail → Type 0} {kept before after : �
           go (inl e) = ap next e ∙ takes.was
           go (inr n) = sym (takes.others b n) ∙ is
 
-      given : (p : Trail) → Pointer p → anew p ⊎ (p ≡ here) → block_on old p ≢ 0 → kept (block_on old p) ≡ false → (block_on old p ≡ block_on old here) ⊎ (block_on old p ≡ block_on old here → ⊥) → next (block_on old p) ≡ true
+      given : (p : Trail) → Pointer p → anew p ⊎ (p ≡ here) → block_on old p ≢ 0 → in_snapshot (block_on old p) ≡ false → (block_on old p ≡ block_on old here) ⊎ (block_on old p ≡ block_on old here → ⊥) → next (block_on old p) ≡ true
       given p l n full loose (inl e) = ap next e ∙ takes.was
       given p l (inl n) full loose (inr other) = more _ (returned.given p l n full loose)
       given p l (inr e) full loose (inr other) = absurd (other (ap (block_on old) e))
 
-      from : (b : ℕ) → next b ≡ true → (b ≡ block_on old here) ⊎ (b ≡ block_on old here → ⊥) → (before b ≡ true) ⊎ IsGiven old Pointer (λ q. anew q ⊎ (q ≡ here)) kept b
-      from b is (inl e) = inr (here, live, inr refl, sym e, λ null. some (sym e ∙ null), ap kept e ∙ free)
+      from : (b : ℕ) → next b ≡ true → (b ≡ block_on old here) ⊎ (b ≡ block_on old here → ⊥) → (before b ≡ true) ⊎ IsGiven old Pointer (λ q. anew q ⊎ (q ≡ here)) in_snapshot b
+      from b is (inl e) = inr (here, live, inr refl, sym e, λ null. some (sym e ∙ null), ap in_snapshot e ∙ free)
       from b is (inr n) = go (returned.from b (takes.others b n ∙ is))
         where
-          go : (before b ≡ true) ⊎ IsGiven old Pointer anew kept b → (before b ≡ true) ⊎ IsGiven old Pointer (λ q. anew q ⊎ (q ≡ here)) kept b
+          go : (before b ≡ true) ⊎ IsGiven old Pointer anew in_snapshot b → (before b ≡ true) ⊎ IsGiven old Pointer (λ q. anew q ⊎ (q ≡ here)) in_snapshot b
           go (inl yes_before) = inl yes_before
           go (inr one) = inr (one.0, one.1, inl one.2, one.3, one.4, one.5)
 
-  -- one that is kept stays where it is
-  kept_back : kept (block_on old here) ≡ true → IsReturned old Pointer (λ q. anew q ⊎ (q ≡ here)) kept before after
-  kept_back is_kept = record {
+  -- one that is in the snapshot stays where it is
+  kept_back : in_snapshot (block_on old here) ≡ true → IsReturned old Pointer (λ q. anew q ⊎ (q ≡ here)) in_snapshot before after
+  kept_back is_in_snapshot = record {
     given = λ p l n full loose. given p l n full loose;
     still = returned.still;
     from = λ b is. from b (returned.from b is);
   }
     where
-      given : (p : Trail) → Pointer p → anew p ⊎ (p ≡ here) → block_on old p ≢ 0 → kept (block_on old p) ≡ false → after (block_on old p) ≡ true
+      given : (p : Trail) → Pointer p → anew p ⊎ (p ≡ here) → block_on old p ≢ 0 → in_snapshot (block_on old p) ≡ false → after (block_on old p) ≡ true
       given p l (inl n) full loose = returned.given p l n full loose
-      given p l (inr e) full loose = let off : kept (block_on old here) ≡ false = subst (λ q. kept (block_on old q) ≡ false) e loose in absurd (cc)
+      given p l (inr e) full loose = let offset : in_snapshot (block_on old here) ≡ false = subst (λ q. in_snapshot (block_on old q) ≡ false) e loose in absurd (cc)
 
-      from : (b : ℕ) → (before b ≡ true) ⊎ IsGiven old Pointer anew kept b → (before b ≡ true) ⊎ IsGiven old Pointer (λ q. anew q ⊎ (q ≡ here)) kept b
+      from : (b : ℕ) → (before b ≡ true) ⊎ IsGiven old Pointer anew in_snapshot b → (before b ≡ true) ⊎ IsGiven old Pointer (λ q. anew q ⊎ (q ≡ here)) in_snapshot b
       from b (inl is) = inl is
       from b (inr one) = inr (one.0, one.1, inl one.2, one.3, one.4, one.5)
 
-  given_back : (next : ℕ → Bool) → (kept (block_on old here) ≡ false → TakesNumber next after (block_on old here)) → (kept (block_on old here) ≡ true → next ≡ after) →
-      IsReturned old Pointer (λ q. anew q ⊎ (q ≡ here)) kept before next
-  given_back next takes stays = go (kept (block_on old here)) refl
+  given_back : (next : ℕ → Bool) → (in_snapshot (block_on old here) ≡ false → TakesNumber next after (block_on old here)) → (in_snapshot (block_on old here) ≡ true → next ≡ after) →
+      IsReturned old Pointer (λ q. anew q ⊎ (q ≡ here)) in_snapshot before next
+  given_back next takes stays = go (in_snapshot (block_on old here)) refl
     where
-      go : (x : Bool) → kept (block_on old here) ≡ x → IsReturned old Pointer (λ q. anew q ⊎ (q ≡ here)) kept before next
+      go : (x : Bool) → in_snapshot (block_on old here) ≡ x → IsReturned old Pointer (λ q. anew q ⊎ (q ≡ here)) in_snapshot before next
       go false free = given_loose next free (takes free)
-      go true is = subst (λ (f : ℕ → Bool). IsReturned old Pointer (λ q. anew q ⊎ (q ≡ here)) kept before f) (sym (stays is)) (kept_back is)
+      go true is = subst (λ (f : ℕ → Bool). IsReturned old Pointer (λ q. anew q ⊎ (q ≡ here)) in_snapshot before f) (sym (stays is)) (kept_back is)
 
 -- On the old way, at a depth before its end: how a commit left the words, and the block there.
 pub record IsAtOld (plan : Plan) (from i depth : ℕ) (before : ℕ → Bool) (now : Image) (block : ℕ) : Type 0 where
@@ -149,15 +149,15 @@ module _ {plan : Plan} {from i depth : ℕ} {before : ℕ → Bool} {now : Image
       pub back_full : after (next_old plan i depth) ≡ false
       back_full = not_back bones at.left.used back (front plan.job i (depth + 1)) next_live (not_anew plan.job from i depth at.low none) some
 
-      pub back_one : {next : ℕ → Bool} → (plan.kept (next_old plan i depth) ≡ false → TakesNumber next after (next_old plan i depth)) → (plan.kept (next_old plan i depth) ≡ true → next ≡ after) →
+      pub back_one : {next : ℕ → Bool} → (plan.in_snapshot (next_old plan i depth) ≡ false → TakesNumber next after (next_old plan i depth)) → (plan.in_snapshot (next_old plan i depth) ≡ true → next ≡ after) →
           IsBack plan from i (depth + 1) before next
       back_one {next} takes stays =
           returned_same (λ q n. anew_more plan.job from i depth q n at.low) (λ q l n. inl (anew_more_back plan.job from i depth q n))
           (given_back bones at.left.used back (front plan.job i (depth + 1)) next_live (not_anew plan.job from i depth at.low none) some next takes stays)
 
 -- nothing is given back yet
-returned_none : (old : Image) (Pointer : Trail → Type 0) (kept before : ℕ → Bool) → IsReturned old Pointer (λ q. ⊥) kept before before
-returned_none old Pointer kept before = record { given = λ p live n some loose. absurd n; still = λ b is. is; from = λ b is. inl is }
+returned_none : (old : Image) (Pointer : Trail → Type 0) (in_snapshot before : ℕ → Bool) → IsReturned old Pointer (λ q. ⊥) in_snapshot before before
+returned_none old Pointer in_snapshot before = record { given = λ p live n some loose. absurd n; still = λ b is. is; from = λ b is. inl is }
 
 -- the block to which the cover's pointer led
 abbrev pub cover_block : Plan → ℕ → ℕ
@@ -170,8 +170,8 @@ module _ {plan : Plan} {from : ℕ} {before : ℕ → Bool} {now : Image} (left 
   cover_bones : IsSkeleton plan.old (IsTreePointer plan.old plan.bound)
   cover_bones = skeleton plan.old plan.bound left.can.forest left.can.whole
 
-  none_yet : IsReturned plan.old (IsTreePointer plan.old plan.bound) (λ q. ⊥) plan.kept before before
-  none_yet = returned_none plan.old _ plan.kept before
+  none_yet : IsReturned plan.old (IsTreePointer plan.old plan.bound) (λ q. ⊥) plan.in_snapshot before before
+  none_yet = returned_none plan.old _ plan.in_snapshot before
 
   pub cover_low : cover_block plan from < block_count plan.old
   cover_low = cover_bones.in_range _ cover_live
@@ -183,8 +183,8 @@ module _ {plan : Plan} {from : ℕ} {before : ℕ → Bool} {now : Image} (left 
       go q (inl n) = inl n
       go q (inr e) = inr (ap (block_on plan.old) e ∙ null)
 
-  pub back_cover : cover_block plan from ≢ 0 → {next : ℕ → Bool} → (plan.kept (cover_block plan from) ≡ false → TakesNumber next before (cover_block plan from)) →
-      (plan.kept (cover_block plan from) ≡ true → next ≡ before) → IsBack plan from 0 from before next
+  pub back_cover : cover_block plan from ≢ 0 → {next : ℕ → Bool} → (plan.in_snapshot (cover_block plan from) ≡ false → TakesNumber next before (cover_block plan from)) →
+      (plan.in_snapshot (cover_block plan from) ≡ true → next ≡ before) → IsBack plan from 0 from before next
   back_cover some {next} takes stays =
       returned_same (λ q n. anew_start plan.job from 0 q n) (λ q l n. inl (anew_start_back plan.job from 0 q n))
       (given_back cover_bones left.used none_yet (front plan.job 0 from) cover_live (λ n. n) some next takes stays)

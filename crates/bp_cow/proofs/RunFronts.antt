@@ -92,17 +92,17 @@ between-run run first k last d low high covered long same = go (cases_lt (length
         squeeze n some same = omega (arith, same, rising n first k some low, rising n k last some high)
 
 -- the way to a leaf begins as the paths of its words
-pub front-run_way : (run : Run) (j k d : ℕ) → k / 512 ≡ run.off / 4096 + j → d ≤ length (run_way run j) → trail_of (run_way run j) d ≡ trail_of (run_path run k) d
+pub front-run_way : (run : Run) (j k d : ℕ) → k / 512 ≡ run.offset / 4096 + j → d ≤ length (run_way run j) → trail_of (run_way run j) d ≡ trail_of (run_path run k) d
 front-run_way run j k d leaf low =
     sym
-    (ap (λ p. trail_of p d) (ap (λ n. run.root.items ++ (digits run.height n ++ k % 512 ∷ [])) leaf ∙ sym (append_assoc run.root.items (digits run.height (run.off / 4096 + j)) (k % 512 ∷ [])))
+    (ap (λ p. trail_of p d) (ap (λ n. run.root.items ++ (digits run.height n ++ k % 512 ∷ [])) leaf ∙ sym (append_assoc run.root.items (digits run.height (run.offset / 4096 + j)) (k % 512 ∷ [])))
     ∙ trail_of-append (run_way run j) (k % 512 ∷ []) d low)
 
 -- the whole way
-pub end-run_way : (run : Run) (j : ℕ) → trail_of (run_way run j) (length (run_way run j)) ≡ along (trail_of run.root.items (length run.root.items)) run.height (run.off / 4096 + j)
+pub end-run_way : (run : Run) (j : ℕ) → trail_of (run_way run j) (length (run_way run j)) ≡ along (trail_of run.root.items (length run.root.items)) run.height (run.offset / 4096 + j)
 end-run_way run j =
     let none : run.height - run.height ≡ 0 = omega arith in
-    let n : ℕ = run.off / 4096 + j in
+    let n : ℕ = run.offset / 4096 + j in
     let whole : n / 512 ^ 0 ≡ n = omega arith in
     ap (trail_of (run_way run j)) (length-run_way run j)
     ∙ front-digits run.root.items run.height n run.height (omega arith)
@@ -125,7 +125,7 @@ same-run_path run a b low high same = (same_along (trail_of root (length root)) 
         ∙ ap (along (trail_of root (length root)) (suc run.height)) (ap (λ l. n / 512 ^ l) none ∙ whole)
 
 -- the trail of a word of a tree, by its leaf
-pub leaf-trail-of : (run : Run) (j k : ℕ) → k / 512 ≡ run.off / 4096 + j → trail_of (run_path run k) (length (run_path run k)) ≡ k % 512 ∷ trail_of (run_way run j) (length (run_way run j))
+pub leaf-trail-of : (run : Run) (j k : ℕ) → k / 512 ≡ run.offset / 4096 + j → trail_of (run_path run k) (length (run_path run k)) ≡ k % 512 ∷ trail_of (run_way run j) (length (run_way run j))
 leaf-trail-of run j k leaf =
     let count : ℕ = length (run_way run j) in
     let size : length (run_path run k) ≡ count + 1 = omega (arith, length-run_path run k, length-run_way run j) in
@@ -139,9 +139,9 @@ leaf-trail-of run j k leaf =
         slot-run_path run k count (omega (arith, is)) (omega (arith, is, length-run_path run k)) ∙ ap (λ l. k / 512 ^ l % 512) level ∙ ap (λ n. n % 512) whole
 
 -- of a run's words, and of the first
-pub run-trail : (run : Run) (k : ℕ) → run.off / 8 ≤ k →
-    trail_of (run_path run k) (length (run_path run k)) ≡ k % 512 ∷ trail_of (run_way run (k / 512 - run.off / 4096)) (length (run_way run (k / 512 - run.off / 4096)))
-run-trail run k low = leaf-trail-of run (k / 512 - run.off / 4096) k (omega (arith, low))
+pub run-trail : (run : Run) (k : ℕ) → run.offset / 8 ≤ k →
+    trail_of (run_path run k) (length (run_path run k)) ≡ k % 512 ∷ trail_of (run_way run (k / 512 - run.offset / 4096)) (length (run_way run (k / 512 - run.offset / 4096)))
+run-trail run k low = leaf-trail-of run (k / 512 - run.offset / 4096) k (omega (arith, low))
 
-pub first-trail : (run : Run) → trail_of (run_path run (run.off / 8)) (length (run_path run (run.off / 8))) ≡ run.off / 8 % 512 ∷ trail_of (run_way run 0) (length (run_way run 0))
-first-trail run = leaf-trail-of run 0 (run.off / 8) (omega arith)
+pub first-trail : (run : Run) → trail_of (run_path run (run.offset / 8)) (length (run_path run (run.offset / 8))) ≡ run.offset / 8 % 512 ∷ trail_of (run_way run 0) (length (run_way run 0))
+first-trail run = leaf-trail-of run 0 (run.offset / 8) (omega arith)

@@ -22,21 +22,21 @@ module _ (old : Image) (bound : ℕ → ℕ) (forest : IsForest old bound) (run 
   abbrev t : ℕ
   t = suc at.inode
 
-  leaf-low : (j : ℕ) → j < run_leaves run → (run.off / 4096 + j) * covered 1 < bound t
+  leaf-low : (j : ℕ) → j < run_leaves run → (run.offset / 4096 + j) * covered 1 < bound t
   leaf-low j low =
       let below : run_end run ≤ bound t = at.below in
       let some : 0 < length run.bytes.now = is.some in
       let size : covered 1 ≡ 4096 = omega arith in
       rw size (omega (arith, below, some, low))
 
-  leaf-live : (j : ℕ) → j < run_leaves run → IsLivePointer (root_of old t) (bound t) run.height (run.off / 4096 + j)
+  leaf-live : (j : ℕ) → j < run_leaves run → IsLivePointer (root_of old t) (bound t) run.height (run.offset / 4096 + j)
   leaf-live j low = record { level = 0; height = omega (arith, at.height); live = leaf-low j low }
 
-  leaf-trail : (j : ℕ) → trail_of (run_way run j) (length (run_way run j)) ≡ tree_trail (height_of (word old 2)) t run.height (run.off / 4096 + j)
-  leaf-trail j = end-run_way run j ∙ ap (λ b. along b run.height (run.off / 4096 + j)) at.root
+  leaf-trail : (j : ℕ) → trail_of (run_way run j) (length (run_way run j)) ≡ tree_trail (height_of (word old 2)) t run.height (run.offset / 4096 + j)
+  leaf-trail j = end-run_way run j ∙ ap (λ b. along b run.height (run.offset / 4096 + j)) at.root
 
   leaf-pointer : (j : ℕ) → j < run_leaves run → IsTreePointer old bound (trail_of (run_way run j) (length (run_way run j)))
-  leaf-pointer j low = record { tree = t; depth = run.height; index = run.off / 4096 + j; reached = at.reached; live = leaf-live j low; named = sym (leaf-trail j) }
+  leaf-pointer j low = record { tree = t; depth = run.height; index = run.offset / 4096 + j; reached = at.reached; live = leaf-live j low; named = sym (leaf-trail j) }
 
   pub leaf-fronts : (j d : ℕ) → j < run_leaves run → d ≤ length (run_way run j) → IsTreePointer old bound (trail_of (run_way run j) d)
   leaf-fronts j d low short = pointer_fronts old bound forest (run_way run j) (length (run_way run j)) d short (leaf-pointer j low)
@@ -53,7 +53,7 @@ module _ (old : Image) (bound : ℕ → ℕ) (forest : IsForest old bound) (run 
   pub leaf-plain : (j slot : ℕ) → j < run_leaves run → IsTreePointer old bound (slot ∷ trail_of (run_way run j) (length (run_way run j))) → ⊥
   leaf-plain j slot low one =
       let few : slot < 512 = (pointers old bound forest).slots slot _ one in
-      let n : ℕ = run.off / 4096 + j in
+      let n : ℕ = run.offset / 4096 + j in
       let k : ℕ = 512 * n + slot in
       let up : k / 512 ≡ n = omega (arith, few) in
       let last : k % 512 ≡ slot = omega (arith, few) in
@@ -80,9 +80,9 @@ same-list p q same =
 module _ (old : Image) (bound : ℕ → ℕ) (forest : IsForest old bound) (one two : Run) (first : IsRun one) (second : IsRun two) (at : IsRunIn old bound one) (also : IsRunIn old bound two) where
   -- their leaves are one only in one tree
   pub same-leaf : (j l : ℕ) → j < run_leaves one → l < run_leaves two → trail_of (run_way one j) (length (run_way one j)) ≡ trail_of (run_way two l) (length (run_way two l)) →
-      (one.root.items ≡ two.root.items) × (one.off / 4096 + j ≡ two.off / 4096 + l)
+      (one.root.items ≡ two.root.items) × (one.offset / 4096 + j ≡ two.offset / 4096 + l)
   same-leaf j l low small same =
-      let all = same_pointer old bound forest (suc at.inode) one.height (one.off / 4096 + j) (suc also.inode) two.height (two.off / 4096 + l) at.reached also.reached
+      let all = same_pointer old bound forest (suc at.inode) one.height (one.offset / 4096 + j) (suc also.inode) two.height (two.offset / 4096 + l) at.reached also.reached
       (leaf-live old bound forest one first at j low) (leaf-live old bound forest two second also l small)
       (sym (leaf-trail old bound forest one first at j) ∙ same ∙ leaf-trail old bound forest two second also l) in
       (same-list one.root.items two.root.items (at.root ∙ ap (root_trail (height_of (word old 2))) all.0 ∙ sym also.root), all.2)

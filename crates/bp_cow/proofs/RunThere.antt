@@ -189,33 +189,33 @@ module _ (image : Image) (wf : IsWellFormed image) (n : ℕ) (reached : IsReache
 
 -- ---- a run alone, below the size
 
-module _ {kept : ℕ → Bool} (image : Image) (wf : IsWellFormed image) (bound : ℕ → ℕ) (touched : Touched) (free : ℕ → Bool) (can : CanCommit image bound kept touched free) (run : Run) (n : ℕ) (one : touched.runs.now ≡ run ∷ []) (none : touched.words.now ≡ [])
+module _ {in_snapshot : ℕ → Bool} (image : Image) (wf : IsWellFormed image) (bound : ℕ → ℕ) (touched : Touched) (free : ℕ → Bool) (can : CanCommit image bound in_snapshot touched free) (run : Run) (n : ℕ) (one : touched.runs.now ≡ run ∷ []) (none : touched.words.now ≡ [])
     (reached : IsReached image (suc n)) (root : run.root.items ≡ inode_path (height_of (root_of image 0)) (suc n) 1) (height : run.height ≡ height_of (root_of image (suc n))) (some : 0 < length run.bytes.now)
     (below : run_end run ≤ size_of image (suc n)) where
   abbrev write : Change
-  write = writes (suc n) run.off (length run.bytes.now)
+  write = writes (suc n) run.offset (length run.bytes.now)
 
   abbrev word_path : WordPath
-  word_path = inode_path (height_of (root_of image 0)) (suc n) 1 ++ digits (suc (height_of (root_of image (suc n)))) (run.off / 8)
+  word_path = inode_path (height_of (root_of image 0)) (suc n) 1 ++ digits (suc (height_of (root_of image (suc n)))) (run.offset / 8)
 
-  begins : Begins (common_all (all_paths touched)) (run_path run (run.off / 8))
-  begins = all-begin (all_paths touched) (run_path run (run.off / 8)) (has-of-run touched can.shape run (run.off / 8) (subst (λ runs. Has runs run) (sym one) (inl refl)) (omega arith) (omega (arith, some)))
+  begins : Begins (common_all (all_paths touched)) (run_path run (run.offset / 8))
+  begins = all-begin (all_paths touched) (run_path run (run.offset / 8)) (has-of-run touched can.shape run (run.offset / 8) (subst (λ runs. Has runs run) (sym one) (inl refl)) (omega arith) (omega (arith, some)))
 
-  path_is : run_path run (run.off / 8) ≡ word_path
-  path_is = ap (λ (p : WordPath). p ++ digits (suc run.height) (run.off / 8)) root ∙ ap (λ h. inode_path (height_of (root_of image 0)) (suc n) 1 ++ digits (suc h) (run.off / 8)) height
+  path_is : run_path run (run.offset / 8) ≡ word_path
+  path_is = ap (λ (p : WordPath). p ++ digits (suc run.height) (run.offset / 8)) root ∙ ap (λ h. inode_path (height_of (root_of image 0)) (suc n) 1 ++ digits (suc h) (run.offset / 8)) height
 
   front : (d : ℕ) → d ≤ length (common_all (all_paths touched)) → take d (common_all (all_paths touched)) ≡ take d word_path
-  front d low = ap (take d) (sym begins.same) ∙ take-take d (length (common_all (all_paths touched))) (run_path run (run.off / 8)) low ∙ ap (take d) path_is
+  front d low = ap (take d) (sym begins.same) ∙ take-take d (length (common_all (all_paths touched))) (run_path run (run.offset / 8)) low ∙ ap (take d) path_is
 
   nothing : preparation image write ≡ []
-  nothing = rw (not_above (size_of image (suc n)) (run.off + length run.bytes.now) below) refl
+  nothing = rw (not_above (size_of image (suc n)) (run.offset + length run.bytes.now) below) refl
 
   agree : (d : ℕ) → d < length (common_all (all_paths touched)) → ((e : ℕ) → e < d → is_pointed image (take e (common_all (all_paths touched))) ≡ true) →
       is_there_after image write (take d (common_all (all_paths touched))) ≡ is_pointed image (take d (common_all (all_paths touched)))
   agree d low exists =
       let long : length (common_all (all_paths touched)) ≤ length word_path = subst (λ (p : WordPath). length (common_all (all_paths touched)) ≤ length p) path_is begins.long in
       rw (front d (omega (arith, low)))
-      (word_agrees image wf n reached write nothing refl (write_height image (suc n) run.off (length run.bytes.now) below) (run.off / 8) (omega (arith, below, some)) d (omega (arith, low, long))
+      (word_agrees image wf n reached write nothing refl (write_height image (suc n) run.offset (length run.bytes.now) below) (run.offset / 8) (omega (arith, below, some)) d (omega (arith, low, long))
       (λ e less. ap (is_pointed image) (sym (front e (omega (arith, less, low)))) ∙ exists e less))
 
   same_paths : all_paths touched ≡ layout.touched image write
@@ -225,4 +225,4 @@ module _ {kept : ℕ → Bool} (image : Image) (wf : IsWellFormed image) (bound 
   run_cover = change_cover image write touched same_paths agree
 
   pub run_need : copied_count image touched ≡ layout.need image write
-  run_need = ap (λ (ps : List WordPath). length ps) (change_copies image write touched same_paths agree) ∙ sym (write_need image (suc n) run.off (length run.bytes.now) below)
+  run_need = ap (λ (ps : List WordPath). length ps) (change_copies image write touched same_paths agree) ∙ sym (write_need image (suc n) run.offset (length run.bytes.now) below)

@@ -26,12 +26,12 @@ not_above a b low = go (nat_lt a b) refl
 
 -- ---- a write below the size
 
-module _ (image : Image) (i off len : ℕ) (below : off + len ≤ size_of image i) where
+module _ (image : Image) (i offset len : ℕ) (below : offset + len ≤ size_of image i) where
   abbrev change : Change
-  change = writes i off len
+  change = writes i offset len
 
-  inside : nat_lt (size_of image i) (off + len) ≡ false
-  inside = not_above (size_of image i) (off + len) below
+  inside : nat_lt (size_of image i) (offset + len) ≡ false
+  inside = not_above (size_of image i) (offset + len) below
 
   pub write_height : (t : ℕ) → height_after image change t ≡ height_of (root_of image t)
   write_height t = rw inside refl
@@ -43,30 +43,30 @@ module _ (image : Image) (i off len : ℕ) (below : off + len ≤ size_of image 
   -- what is touched, by the tests of the definition
   abbrev parts : Bool → ℕ → Bool → List WordPath
   parts starts end past =
-      map (content_path image change i) (if starts then range_with_len (off / 8) (suc ((end - 1) / 8 - off / 8)) else []) ++ (if past then inode_word_path image change i 2 ∷ [] else [])
+      map (content_path image change i) (if starts then range_with_len (offset / 8) (suc ((end - 1) / 8 - offset / 8)) else []) ++ (if past then inode_word_path image change i 2 ∷ [] else [])
 
-  write_touched : 0 < len → layout.touched image change ≡ map (content_path image change i) (range_with_len (off / 8) (suc ((off + len - 1) / 8 - off / 8)))
+  write_touched : 0 < len → layout.touched image change ≡ map (content_path image change i) (range_with_len (offset / 8) (suc ((offset + len - 1) / 8 - offset / 8)))
   write_touched some =
-      let starts : nat_lt off (size_of image i) ≡ true = lt-ltb off (size_of image i) (omega (arith, below, some)) in
-      let end : min (off + len) (size_of image i) ≡ off + len = omega (arith, below) in
-      ap (λ x. parts x (min (off + len) (size_of image i)) (nat_lt (size_of image i) (off + len))) starts
-      ∙ ap (λ n. parts true n (nat_lt (size_of image i) (off + len))) end
-      ∙ ap (parts true (off + len)) inside
-      ∙ append-nil (map (content_path image change i) (range_with_len (off / 8) (suc ((off + len - 1) / 8 - off / 8))))
+      let starts : nat_lt offset (size_of image i) ≡ true = lt-ltb offset (size_of image i) (omega (arith, below, some)) in
+      let end : min (offset + len) (size_of image i) ≡ offset + len = omega (arith, below) in
+      ap (λ x. parts x (min (offset + len) (size_of image i)) (nat_lt (size_of image i) (offset + len))) starts
+      ∙ ap (λ n. parts true n (nat_lt (size_of image i) (offset + len))) end
+      ∙ ap (parts true (offset + len)) inside
+      ∙ append-nil (map (content_path image change i) (range_with_len (offset / 8) (suc ((offset + len - 1) / 8 - offset / 8))))
 
 -- ---- the run of such a write
 
 module _ (image : Image) (touched : Touched) (run : Run) (i : ℕ) (one : touched.runs.now ≡ run ∷ []) (none : touched.words.now ≡ []) (root : run.root.items ≡ inode_path (height_of (root_of image 0)) (suc i) 1)
     (height : run.height ≡ height_of (root_of image (suc i))) (some : 0 < length run.bytes.now) (below : run_end run ≤ size_of image (suc i)) where
   abbrev write : Change
-  write = writes (suc i) run.off (length run.bytes.now)
+  write = writes (suc i) run.offset (length run.bytes.now)
 
   same_path : (k : ℕ) → run_path run k ≡ content_path image write (suc i) k
   same_path k =
       ap (λ (p : WordPath). p ++ digits (suc run.height) k) root
       ∙ ap (λ h. inode_path (height_of (root_of image 0)) (suc i) 1 ++ digits (suc h) k) height
-      ∙ sym (ap (λ h. tree_path h (suc i) (suc (height_after image write (suc i))) k) (write_height image (suc i) run.off (length run.bytes.now) below 0)
-      ∙ ap (λ h. tree_path (height_of (root_of image 0)) (suc i) (suc h) k) (write_height image (suc i) run.off (length run.bytes.now) below (suc i)))
+      ∙ sym (ap (λ h. tree_path h (suc i) (suc (height_after image write (suc i))) k) (write_height image (suc i) run.offset (length run.bytes.now) below 0)
+      ∙ ap (λ h. tree_path (height_of (root_of image 0)) (suc i) (suc h) k) (write_height image (suc i) run.offset (length run.bytes.now) below (suc i)))
 
   same_paths : (from count : ℕ) → map (run_path run) (range_with_len from count) ≡ map (content_path image write (suc i)) (range_with_len from count)
   same_paths from count = map-same (run_path run) (content_path image write (suc i)) from count (λ k low high. same_path k)
@@ -77,8 +77,8 @@ module _ (image : Image) (touched : Touched) (run : Run) (i : ℕ) (one : touche
       ∙ ap (λ (words : List WordPath). run_paths (run ∷ []) ++ words) no_words
       ∙ append-nil (run_paths (run ∷ []))
       ∙ append-nil (paths_of_run run)
-      ∙ same_paths (run.off / 8) (suc ((run_end run - 1) / 8 - run.off / 8))
-      ∙ sym (write_touched image (suc i) run.off (length run.bytes.now) below some)
+      ∙ same_paths (run.offset / 8) (suc ((run_end run - 1) / 8 - run.offset / 8))
+      ∙ sym (write_touched image (suc i) run.offset (length run.bytes.now) below some)
     where
       no_words : word_paths touched ≡ []
       no_words = rw none refl

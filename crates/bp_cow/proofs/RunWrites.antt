@@ -59,7 +59,7 @@ long_along : (base : Trail) (depth index : ℕ) → length (along base depth ind
 long_along base zero index = omega arith
 long_along base (suc depth) index = omega (arith, long_along base depth (index / 512))
 
-module _ {kept : ℕ → Bool} (old new : Image) (bound : ℕ → ℕ) (wf : IsWellFormed old) (touched : Touched) (free : ℕ → Bool) (can : CanCommit old bound kept touched free) (run : Run) (n : ℕ) (is : IsFileRun old bound touched run n)
+module _ {in_snapshot : ℕ → Bool} (old new : Image) (bound : ℕ → ℕ) (wf : IsWellFormed old) (touched : Touched) (free : ℕ → Bool) (can : CanCommit old bound in_snapshot touched free) (run : Run) (n : ℕ) (is : IsFileRun old bound touched run n)
     (turned : Trail → Type 0) (stage : IsCommitted old new (IsTreePointer old bound) (IsTreeWord old bound) turned (after_commit old (job_of touched))) where
   -- where the size is touched it is the one that is given
   pub sized_size : (i : ℕ) → i < length touched.words.now → size_of new (suc n) ≡ (job_of touched).value i
@@ -101,7 +101,7 @@ module _ {kept : ℕ → Bool} (old new : Image) (bound : ℕ → ℕ) (wf : IsW
   -- a word on another trail than those that are touched stays
   kept_apart : (t k : ℕ) →
       (0 < length touched.words.now → tree_trail (height_of (word old 2)) t (suc (height_of (root_of old t))) k ≡ tree_trail (height_of (word old 2)) 0 (suc (height_of (root_of old 0))) (8 * suc n + 2) → ⊥) →
-      ((l : ℕ) → run.off / 8 ≤ l → l ≤ (run_end run - 1) / 8 → tree_trail (height_of (word old 2)) t (suc (height_of (root_of old t))) k ≡ tree_trail (height_of (word old 2)) (suc n) (suc (height_of (root_of old (suc n)))) l → ⊥) →
+      ((l : ℕ) → run.offset / 8 ≤ l → l ≤ (run_end run - 1) / 8 → tree_trail (height_of (word old 2)) t (suc (height_of (root_of old t))) k ≡ tree_trail (height_of (word old 2)) (suc n) (suc (height_of (root_of old (suc n)))) l → ⊥) →
       after_commit old (job_of touched) (tree_trail (height_of (word old 2)) t (suc (height_of (root_of old t))) k) ≡ content_word old (root_of old t) k
   kept_apart t k no_size other =
       after-others old bound touched free wf can (k % 512) (along (root_trail (height_of (word old 2)) t) (height_of (root_of old t)) (k / 512)) (omega arith)
@@ -113,11 +113,11 @@ module _ {kept : ℕ → Bool} (old new : Image) (bound : ℕ → ℕ) (wf : IsW
       one_run r (inl e) = e
       one_run r (inr none) = absurd none
 
-      apart : (r : Run) (l : ℕ) → Has touched.runs.now r → r.off / 8 ≤ l → l ≤ (run_end r - 1) / 8 →
+      apart : (r : Run) (l : ℕ) → Has touched.runs.now r → r.offset / 8 ≤ l → l ≤ (run_end r - 1) / 8 →
           (k % 512) ∷ along (root_trail (height_of (word old 2)) t) (height_of (root_of old t)) (k / 512) ≡ trail_of (run_path r l) (length (run_path r l)) → ⊥
       apart r l has low high same =
           let here : run ≡ r = one_run r (subst (λ runs. Has runs r) is.one has) in
-          other l (subst (λ (x : Run). x.off / 8 ≤ l) (sym here) low) (subst (λ (x : Run). l ≤ (run_end x - 1) / 8) (sym here) high)
+          other l (subst (λ (x : Run). x.offset / 8 ≤ l) (sym here) low) (subst (λ (x : Run). l ≤ (run_end x - 1) / 8) (sym here) high)
           (same ∙ ap (λ (x : Run). trail_of (run_path x l) (length (run_path x l))) (sym here) ∙ run_trail l)
 
   -- in the file's tree the number tells
@@ -179,28 +179,28 @@ module _ {kept : ℕ → Bool} (old new : Image) (bound : ℕ → ℕ) (wf : IsW
     -- each byte of the file is the new one, or else the one that stood there
     pub sized_bytes : (o : ℕ) → o < max (size_of old (suc n)) (size_of new (suc n)) → byte new (root_of new (suc n)) o ≡ run_byte run o (byte old (root_of old (suc n)) o)
     sized_bytes o low =
-        commits.bytes (suc n) o is.reached is.is_file low ∙ go (cases_lt (o / 8) (run.off / 8)) (cases_lt ((run_end run - 1) / 8) (o / 8))
+        commits.bytes (suc n) o is.reached is.is_file low ∙ go (cases_lt (o / 8) (run.offset / 8)) (cases_lt ((run_end run - 1) / 8) (o / 8))
       where
         inside : 8 * (o / 8) < bound (suc n)
         inside = omega (arith, low, grown, can.sizes (suc n) is.reached)
 
-        byte_before : o < run.off → run_byte run o (byte old (root_of old (suc n)) o) ≡ byte old (root_of old (suc n)) o
-        byte_before less = rw (lt-leb run.off o less) refl
+        byte_before : o < run.offset → run_byte run o (byte old (root_of old (suc n)) o) ≡ byte old (root_of old (suc n)) o
+        byte_before less = rw (lt-leb run.offset o less) refl
 
         byte_behind : run_end run ≤ o → run_byte run o (byte old (root_of old (suc n)) o) ≡ byte old (root_of old (suc n)) o
-        byte_behind past = rw (le-ltb o (run_end run) past) (go_any (nat_le run.off o))
+        byte_behind past = rw (le-ltb o (run_end run) past) (go_any (nat_le run.offset o))
           where
-            go_any : (b : Bool) → (if b && false then slice_index run.bytes.now (o - run.off) else byte old (root_of old (suc n)) o) ≡ byte old (root_of old (suc n)) o
+            go_any : (b : Bool) → (if b && false then slice_index run.bytes.now (o - run.offset) else byte old (root_of old (suc n)) o) ≡ byte old (root_of old (suc n)) o
             go_any true = refl
             go_any false = refl
 
-        stays : ((l : ℕ) → run.off / 8 ≤ l → l ≤ (run_end run - 1) / 8 → o / 8 ≡ l → ⊥) →
+        stays : ((l : ℕ) → run.offset / 8 ≤ l → l ≤ (run_end run - 1) / 8 → o / 8 ≡ l → ⊥) →
             byte_of (changed_word (changes_of old (job_of touched)) old (suc n) (o / 8)) (o % 8) ≡ byte old (root_of old (suc n)) o
         stays other =
             ap (λ w. byte_of w (o % 8))
             (kept_apart (suc n) (o / 8) (λ _ same. apart_trees n (8 * suc n + 2) (o / 8) (sym same)) (λ l first last same. other l first last (same_number n (o / 8) l is.reached inside last same).1))
 
-        go : (o / 8 < run.off / 8) ⊎ (run.off / 8 ≤ o / 8) → ((run_end run - 1) / 8 < o / 8) ⊎ (o / 8 ≤ (run_end run - 1) / 8) →
+        go : (o / 8 < run.offset / 8) ⊎ (run.offset / 8 ≤ o / 8) → ((run_end run - 1) / 8 < o / 8) ⊎ (o / 8 ≤ (run_end run - 1) / 8) →
             byte_of (changed_word (changes_of old (job_of touched)) old (suc n) (o / 8)) (o % 8) ≡ run_byte run o (byte old (root_of old (suc n)) o)
         go (inr first) (inr last) =
             let number : 8 * (o / 8) + o % 8 ≡ o = omega arith in
@@ -215,7 +215,7 @@ module _ {kept : ℕ → Bool} (old new : Image) (bound : ℕ → ℕ) (wf : IsW
 
 -- ---- a run alone
 
-module _ {kept : ℕ → Bool} (old new : Image) (wf : IsWellFormed old) (touched : Touched) (free : ℕ → Bool) (can : CanCommit old (size_of old) kept touched free) (run : Run) (n : ℕ) (one : touched.runs.now ≡ run ∷ []) (none : length touched.words.now ≡ 0)
+module _ {in_snapshot : ℕ → Bool} (old new : Image) (wf : IsWellFormed old) (touched : Touched) (free : ℕ → Bool) (can : CanCommit old (size_of old) in_snapshot touched free) (run : Run) (n : ℕ) (one : touched.runs.now ≡ run ∷ []) (none : length touched.words.now ≡ 0)
     (reached : IsReached old (suc n)) (is_file : kind_of old (suc n) ≡ 1) (root : run.root.items ≡ inode_path (height_of (root_of old 0)) (suc n) 1) (height : run.height ≡ height_of (root_of old (suc n))) (some : 0 < length run.bytes.now)
     (below : run_end run ≤ size_of old (suc n)) (small : (i : ℕ) → slice_index run.bytes.now i < 256) (turned : Trail → Type 0)
     (stage : IsCommitted old new (IsTreePointer old (size_of old)) (IsTreeWord old (size_of old)) turned (after_commit old (job_of touched))) where

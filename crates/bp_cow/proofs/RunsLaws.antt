@@ -229,10 +229,10 @@ pub record HasEnd (runs : List Run) (paths : List WordPath) (path : WordPath) : 
 end-behind : (first : Run) (runs : List Run) (paths : List WordPath) (path : WordPath) → HasEnd runs paths path → HasEnd (first ∷ runs) paths path
 end-behind first runs paths path end = record { which = suc (suc end.which); here = λ count. omega (arith, end.here count); is = end.is }
 
-pub end-first : (runs : List Run) (paths : List WordPath) (run : Run) → Has runs run → HasEnd runs paths (run_path run (run.off / 8))
+pub end-first : (runs : List Run) (paths : List WordPath) (run : Run) → Has runs run → HasEnd runs paths (run_path run (run.offset / 8))
 end-first [] paths run has = absurd has
-end-first (first ∷ runs) paths run (inl e) = record { which = 0; here = λ count. omega arith; is = ap (λ (r : Run). run_path r (r.off / 8)) e }
-end-first (first ∷ runs) paths run (inr more) = end-behind first runs paths (run_path run (run.off / 8)) (end-first runs paths run more)
+end-first (first ∷ runs) paths run (inl e) = record { which = 0; here = λ count. omega arith; is = ap (λ (r : Run). run_path r (r.offset / 8)) e }
+end-first (first ∷ runs) paths run (inr more) = end-behind first runs paths (run_path run (run.offset / 8)) (end-first runs paths run more)
 
 pub end-last : (runs : List Run) (paths : List WordPath) (run : Run) → Has runs run → HasEnd runs paths (run_path run ((run_end run - 1) / 8))
 end-last [] paths run has = absurd has
@@ -256,18 +256,18 @@ end-past runs paths i past =
     ap (end_path_of runs paths) (sym back) ∙ end-of-word runs paths (i - 2 * length runs)
 
 -- two paths of each run come before them
-pub end-at : (runs : List Run) (paths : List WordPath) (i : ℕ) (run : Run) → i < 2 * length runs → run ≡ slice_index_or runs (i / 2) run → end_path_of runs paths i ≡ run_path run (if i % 2 == 0 then run.off / 8 else (run_end run - 1) / 8)
+pub end-at : (runs : List Run) (paths : List WordPath) (i : ℕ) (run : Run) → i < 2 * length runs → run ≡ slice_index_or runs (i / 2) run → end_path_of runs paths i ≡ run_path run (if i % 2 == 0 then run.offset / 8 else (run_end run - 1) / 8)
 end-at [] paths i run low is = absurd (omega (arith, low))
-end-at (first ∷ runs) paths zero run low is = ap (λ (r : Run). run_path r (r.off / 8)) (sym is)
+end-at (first ∷ runs) paths zero run low is = ap (λ (r : Run). run_path r (r.offset / 8)) (sym is)
 end-at (first ∷ runs) paths (suc zero) run low is = ap (λ (r : Run). run_path r ((run_end r - 1) / 8)) (sym is)
 end-at (first ∷ runs) paths (suc (suc i)) run low is =
     let half : suc (suc i) / 2 ≡ suc (i / 2) = omega arith in
     let parity : suc (suc i) % 2 ≡ i % 2 = omega arith in
     end-at runs paths i run (omega (arith, low)) (subst (λ n. run ≡ slice_index_or (first ∷ runs) n run) half is)
-    ∙ ap (λ n. run_path run (if n == 0 then run.off / 8 else (run_end run - 1) / 8)) (sym parity)
+    ∙ ap (λ n. run_path run (if n == 0 then run.offset / 8 else (run_end run - 1) / 8)) (sym parity)
 
 -- by cases: the first or the last word of a run, or a word
-pub ends-by : (runs : List Run) (paths : List WordPath) (count : ℕ) (P : WordPath → Type 0) → ((run : Run) → Has runs run → P (run_path run (run.off / 8))) → ((run : Run) → Has runs run → P (run_path run ((run_end run - 1) / 8))) →
+pub ends-by : (runs : List Run) (paths : List WordPath) (count : ℕ) (P : WordPath → Type 0) → ((run : Run) → Has runs run → P (run_path run (run.offset / 8))) → ((run : Run) → Has runs run → P (run_path run ((run_end run - 1) / 8))) →
     ((i : ℕ) → i < count → P (path_of paths i)) → (i : ℕ) → i < ends_of runs count → P (end_path_of runs paths i)
 ends-by [] paths count P of_first of_last of_word i here = of_word i here
 ends-by (run ∷ runs) paths count P of_first of_last of_word zero here = of_first run (inl refl)

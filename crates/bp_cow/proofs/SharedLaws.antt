@@ -178,8 +178,8 @@ pub record IsInside (run : Run) (leaves : ℕ) (path : WordPath) (e number : ℕ
   pub here : length run.root.items + e ≤ length path
   pub trail : trail_of path (length run.root.items + e) ≡ along (trail_of run.root.items (length run.root.items)) e number
   pub digits : HasFewDigits e number
-  pub low : run.off / 4096 / 512 ^ (run.height - e) ≤ number
-  pub high : number ≤ (run.off / 4096 + (leaves - 1)) / 512 ^ (run.height - e)
+  pub low : run.offset / 4096 / 512 ^ (run.height - e) ≤ number
+  pub high : number ≤ (run.offset / 4096 + (leaves - 1)) / 512 ^ (run.height - e)
 
 module _ (run : Run) (leaves : ℕ) (path : WordPath) (some : 0 < leaves) where
   abbrev pub root : List ℕ
@@ -189,7 +189,7 @@ module _ (run : Run) (leaves : ℕ) (path : WordPath) (some : 0 < leaves) where
   base = trail_of root (length root)
 
   front-root : (j d : ℕ) → d ≤ length root → trail_of (run_way run j) d ≡ trail_of root d
-  front-root j d low = trail_of-append root (digits run.height (run.off / 4096 + j)) d low
+  front-root j d low = trail_of-append root (digits run.height (run.offset / 4096 + j)) d low
 
   -- the path leaves that of the root
   pub shared-root : (n : ℕ) → AreAlike path root n → n < length root → (d : ℕ) → (d < n + 1) ↔ IsShared (run_way run) leaves path d
@@ -204,10 +204,10 @@ module _ (run : Run) (leaves : ℕ) (path : WordPath) (some : 0 < leaves) where
 
   module _ (is : IsRun run) (few : leaves ≤ run_leaves run) where
     abbrev pub first : ℕ
-    first = run.off / 4096
+    first = run.offset / 4096
 
     abbrev pub last : ℕ
-    last = run.off / 4096 + (leaves - 1)
+    last = run.offset / 4096 + (leaves - 1)
 
     pub inside-start : length root ≤ length path → trail_of path (length root) ≡ base → IsInside run leaves path 0 0
     inside-start long same =
@@ -348,7 +348,7 @@ module _ (run : Run) (leaves : ℕ) (path : WordPath) (some : 0 < leaves) where
 pub way-slots : (touched : Touched) → IsTouched touched → (i d : ℕ) → i < ways (job_of touched) → d < length ((job_of touched).way i) → slice_index ((job_of touched).way i) d < 512
 way-slots touched is i d here = ways-by touched (λ p. d < length p → slice_index p d < 512)
     (λ run leaf has low inside. subst (λ n. n < 512) (slot-run_way run leaf d inside)
-    (run-slots run (512 * (run.off / 4096 + leaf)) d (is.runs run has) (omega (arith, inside, length-run_way run leaf, length-run_path run (512 * (run.off / 4096 + leaf))))))
+    (run-slots run (512 * (run.offset / 4096 + leaf)) d (is.runs run has) (omega (arith, inside, length-run_way run leaf, length-run_path run (512 * (run.offset / 4096 + leaf))))))
     (λ k few inside. subst (λ n. n < 512) (sym (slot-above (path_of (word_paths touched) k) d inside)) (is.slots k d few (omega (arith, inside, length-above (path_of (word_paths touched) k)))))
     i here
 

@@ -54,11 +54,11 @@ lays_empty run first from to old none = record {
 }
 
 -- what becomes of a word that lies in the run does not depend on what it was
-pub run_word-covered : (run : Run) (k one other : ℕ) → run.off ≤ 8 * k → 8 * k + 8 ≤ run_end run → run_word run k one ≡ run_word run k other
+pub run_word-covered : (run : Run) (k one other : ℕ) → run.offset ≤ 8 * k → 8 * k + 8 ≤ run_end run → run_word run k one ≡ run_word run k other
 run_word-covered run k one other low high = sym (run_word-inside run k one bytes low high size item) ∙ run_word-inside run k other bytes low high size item
   where
     byte : ℕ → ℕ
-    byte i = get_or run.bytes.now (8 * k - run.off + i) 0
+    byte i = get_or run.bytes.now (8 * k - run.offset + i) 0
 
     bytes : List ℕ
     bytes = map byte (range_with_len 0 8)

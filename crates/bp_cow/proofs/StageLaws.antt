@@ -9,9 +9,9 @@ use Rattle.bp_cow.specs.Stage.{IsStage}
 use Rattle.bp_shapes.proofs.TrailLaws.{cases_trail, Turns, pointer-turned, word-turned, slot-turned, skeleton-turned}
 
 -- nothing is done
-pub stage_start : {kept : ℕ → Bool} {Counts : Trail → Type 0} (old : Image) (Pointer : Trail → Type 0) (anew : Trail → Type 0) (value : Trail → Option ℕ) (laid : Trail → ℕ) (free : ℕ → Bool) →
-    IsSkeleton old Pointer → IsExactSet old Pointer kept free → ((p : Trail) → anew p → ⊥) → ((p : Trail) → value p ≡ None) →
-    IsStage old old Pointer Counts anew value laid kept free
+pub stage_start : {in_snapshot : ℕ → Bool} {Counts : Trail → Type 0} (old : Image) (Pointer : Trail → Type 0) (anew : Trail → Type 0) (value : Trail → Option ℕ) (laid : Trail → ℕ) (free : ℕ → Bool) →
+    IsSkeleton old Pointer → IsExactSet old Pointer in_snapshot free → ((p : Trail) → anew p → ⊥) → ((p : Trail) → value p ≡ None) →
+    IsStage old old Pointer Counts anew value laid in_snapshot free
 stage_start old Pointer anew value laid free skeleton exact none no_value = record {
   whole = refl;
   skeleton = skeleton;
@@ -21,7 +21,7 @@ stage_start old Pointer anew value laid free skeleton exact none no_value = reco
   still = λ p slot live n low m. refl;
   bits = λ p live. refl;
   fresh = λ p live new. absurd (none p new);
-  unkept = λ p live new. absurd (none p new);
+  outside_snapshot = λ p live new. absurd (none p new);
   unvalued = λ p live. no_value p;
   early = λ p slot live n. no_value (slot ∷ p);
   taken = λ b any. either b any;
@@ -37,8 +37,8 @@ stage_start old Pointer anew value laid free skeleton exact none no_value = reco
     other : (b : ℕ) → free b ≡ true → free b ≡ false → ⊥
     other b one two = absurd (cc)
 
-module _ {kept : ℕ → Bool} {old now : Image} {Pointer Counts anew : Trail → Type 0} {value : Trail → Option ℕ} {laid : Trail → ℕ} {free : ℕ → Bool} (pointers : ArePointers Pointer)
-    (stage : IsStage old now Pointer Counts anew value laid kept free) where
+module _ {in_snapshot : ℕ → Bool} {old now : Image} {Pointer Counts anew : Trail → Type 0} {value : Trail → Option ℕ} {laid : Trail → ℕ} {free : ℕ → Bool} (pointers : ArePointers Pointer)
+    (stage : IsStage old now Pointer Counts anew value laid in_snapshot free) where
   same_count : block_count now ≡ block_count old
   same_count = ap (λ n. n / 512) stage.whole
 
@@ -52,7 +52,7 @@ module _ {kept : ℕ → Bool} {old now : Image} {Pointer Counts anew : Trail �
       free_after copy ≡ false →
       ((b : ℕ) → b ≢ copy → free_after b ≡ free b) →
       ((slot : ℕ) → slot < 512 → (anew (slot ∷ here) → ⊥) → Counts (slot ∷ here) → slot_word next copy slot ≡ laid (slot ∷ here)) →
-      IsStage old next Pointer Counts (λ p. anew p ⊎ (p ≡ here)) value laid kept free_after
+      IsStage old next Pointer Counts (λ p. anew p ⊎ (p ≡ here)) value laid in_snapshot free_after
   stage_copy {next} {pointer} {copy} {here} {free_after} live first turns bits leads was_free not_free others slots = record {
     whole = turns.whole ∙ stage.whole;
     skeleton = skeleton-turned now next Pointer pointers here pointer turns stage.skeleton (λ l. (rw leads in_range, unnamed));
@@ -64,7 +64,7 @@ module _ {kept : ℕ → Bool} {old now : Image} {Pointer Counts anew : Trail �
         ∙ stage.still p slot l (λ n. unmade (inl n)) low (λ n. none (inl n));
     bits = λ p l. low_bits p l (cases_trail p here);
     fresh = λ p l n. fresh p l n (cases_trail p here);
-    unkept = λ p l n. unkept p l n (cases_trail p here);
+    outside_snapshot = λ p l n. outside_snapshot p l n (cases_trail p here);
     unvalued = stage.unvalued;
     early = λ p slot l unmade. stage.early p slot l (λ n. unmade (inl n));
     taken = taken;
@@ -123,10 +123,10 @@ module _ {kept : ℕ → Bool} {old now : Image} {Pointer Counts anew : Trail �
           let before = stage.fresh p l n in
           (λ null. before.0 (sym at ∙ null), λ has. before.1 (subst (LeadsTo old Pointer) at has))
 
-      unkept : (p : Trail) → Pointer p → anew p ⊎ (p ≡ here) → (p ≡ here) ⊎ (p ≢ here) → kept (block_on next p) ≡ false
-      unkept p l n (inl e) = ap kept (ap (block_on next) e ∙ block_here) ∙ stage.loose copy was_free
-      unkept p l (inr e) (inr apart) = absurd (apart e)
-      unkept p l (inl n) (inr apart) = ap kept (block_there p l apart) ∙ stage.unkept p l n
+      outside_snapshot : (p : Trail) → Pointer p → anew p ⊎ (p ≡ here) → (p ≡ here) ⊎ (p ≢ here) → in_snapshot (block_on next p) ≡ false
+      outside_snapshot p l n (inl e) = ap in_snapshot (ap (block_on next) e ∙ block_here) ∙ stage.loose copy was_free
+      outside_snapshot p l (inr e) (inr apart) = absurd (apart e)
+      outside_snapshot p l (inl n) (inr apart) = ap in_snapshot (block_there p l apart) ∙ stage.outside_snapshot p l n
 
       -- where a pointer of the next image led before
       full_before : (b : ℕ) → free b ≡ false → free_after b ≡ false
@@ -151,7 +151,7 @@ module _ {kept : ℕ → Bool} {old now : Image} {Pointer Counts anew : Trail �
           same_block : block_on now here ≡ block_on old here
           same_block = ap block_of (stage.same here live first)
 
-      known : (b : ℕ) → 1 ≤ b → b < block_count old → free_after b ≡ false → (LeadsTo old Pointer b → ⊥) → kept b ≡ false → LeadsTo next Pointer b
+      known : (b : ℕ) → 1 ≤ b → b < block_count old → free_after b ≡ false → (LeadsTo old Pointer b → ⊥) → in_snapshot b ≡ false → LeadsTo next Pointer b
       known b low high full dead loose = go (cases_eq b copy)
         where
           go : (b ≡ copy) ⊎ (b ≡ copy → ⊥) → LeadsTo next Pointer b
@@ -164,8 +164,8 @@ module _ {kept : ℕ → Bool} {old now : Image} {Pointer Counts anew : Trail �
       range b is (inl e) = subst (λ x. (1 ≤ x) × (x < block_count old)) (sym e) copy_range
       range b is (inr apart) = stage.in_range b (sym (others b apart) ∙ is)
 
-      loose : (b : ℕ) → free_after b ≡ true → (b ≡ copy) ⊎ (b ≡ copy → ⊥) → kept b ≡ false
-      loose b is (inl e) = ap kept e ∙ stage.loose copy was_free
+      loose : (b : ℕ) → free_after b ≡ true → (b ≡ copy) ⊎ (b ≡ copy → ⊥) → in_snapshot b ≡ false
+      loose b is (inl e) = ap in_snapshot e ∙ stage.loose copy was_free
       loose b is (inr apart) = stage.loose b (sym (others b apart) ∙ is)
 
   -- A word of a copied block that is no pointer is given anew.
@@ -174,7 +174,7 @@ module _ {kept : ℕ → Bool} {old now : Image} {Pointer Counts anew : Trail �
       Turns now next Pointer (slot ∷ p) given →
       value_after (slot ∷ p) ≡ Some given →
       ((q : Trail) → q ≢ slot ∷ p → value_after q ≡ value q) →
-      IsStage old next Pointer Counts anew value_after laid kept free
+      IsStage old next Pointer Counts anew value_after laid in_snapshot free
   stage_word {next} p slot {given} value_after live made low content turns here values = record {
     whole = turns.whole ∙ stage.whole;
     skeleton = skeleton-turned now next Pointer pointers (slot ∷ p) given turns stage.skeleton (λ l. absurd (content l));
@@ -188,7 +188,7 @@ module _ {kept : ℕ → Bool} {old now : Image} {Pointer Counts anew : Trail �
     fresh = λ q l n.
         let before = stage.fresh q l n in
         (λ null. before.0 (sym (block_same q l) ∙ null), λ has. before.1 (subst (LeadsTo old Pointer) (block_same q l) has));
-    unkept = λ q l n. ap kept (block_same q l) ∙ stage.unkept q l n;
+    outside_snapshot = λ q l n. ap in_snapshot (block_same q l) ∙ stage.outside_snapshot q l n;
     unvalued = λ q l. values q (λ e. content (subst Pointer e l)) ∙ stage.unvalued q l;
     early = λ q s l unmade. values (s ∷ q) (λ e. unmade (subst anew (sym (tail_same e)) made)) ∙ stage.early q s l unmade;
     taken = taken;
@@ -223,7 +223,7 @@ module _ {kept : ℕ → Bool} {old now : Image} {Pointer Counts anew : Trail �
 
 -- ---- at the end
 
-module _ {kept : ℕ → Bool} {old now : Image} {Pointer Counts anew : Trail → Type 0} {value : Trail → Option ℕ} {laid : Trail → ℕ} {free : ℕ → Bool} (stage : IsStage old now Pointer Counts anew value laid kept free)
+module _ {in_snapshot : ℕ → Bool} {old now : Image} {Pointer Counts anew : Trail → Type 0} {value : Trail → Option ℕ} {laid : Trail → ℕ} {free : ℕ → Bool} (stage : IsStage old now Pointer Counts anew value laid in_snapshot free)
     (before : IsSkeleton old Pointer) where
   -- the block to which a pointer led that was turned is not in the new image
   left : (p : Trail) → Pointer p → anew p → (q : Trail) → Pointer q → (anew q ⊎ (anew q → ⊥)) → block_on old p ≢ 0 → block_on now q ≡ block_on old p → ⊥
@@ -238,10 +238,10 @@ module _ {kept : ℕ → Bool} {old now : Image} {Pointer Counts anew : Trail �
 
   -- once the blocks that were left are given back, the set is exact
   pub exact-end : (free_after : ℕ → Bool) → ((p : Trail) → anew p ⊎ (anew p → ⊥)) →
-      ((p : Trail) → Pointer p → anew p → block_on old p ≢ 0 → kept (block_on old p) ≡ false → free_after (block_on old p) ≡ true) →
+      ((p : Trail) → Pointer p → anew p → block_on old p ≢ 0 → in_snapshot (block_on old p) ≡ false → free_after (block_on old p) ≡ true) →
       ((b : ℕ) → free b ≡ true → free_after b ≡ true) →
-      ((b : ℕ) → free_after b ≡ true → (free b ≡ true) ⊎ IsGiven old Pointer anew kept b) →
-      IsExactSet now Pointer kept free_after
+      ((b : ℕ) → free_after b ≡ true → (free b ≡ true) ⊎ IsGiven old Pointer anew in_snapshot b) →
+      IsExactSet now Pointer in_snapshot free_after
   exact-end free_after decide given still from = record {
     live = λ b has. live b has (free_after b) refl;
     dead = λ b low high none loose. dead b low high none loose (free b) refl;
@@ -256,11 +256,11 @@ module _ {kept : ℕ → Bool} {old now : Image} {Pointer Counts anew : Trail �
       live b has false at = at
       live b has true at = absurd (go (from b at))
         where
-          go : (free b ≡ true) ⊎ IsGiven old Pointer anew kept b → ⊥
+          go : (free b ≡ true) ⊎ IsGiven old Pointer anew in_snapshot b → ⊥
           go (inl is) = clash b is (stage.taken b (inr has))
           go (inr one) = left one.0 one.1 one.2 has.trail has.pointer (decide has.trail) (λ null. one.4 (sym one.3 ∙ null)) (has.named ∙ sym one.3)
 
-      dead : (b : ℕ) → 1 ≤ b → b < block_count now → (LeadsTo now Pointer b → ⊥) → kept b ≡ false → (x : Bool) → free b ≡ x → free_after b ≡ true
+      dead : (b : ℕ) → 1 ≤ b → b < block_count now → (LeadsTo now Pointer b → ⊥) → in_snapshot b ≡ false → (x : Bool) → free b ≡ x → free_after b ≡ true
       dead b low high none loose true at = still b at
       dead b low high none loose false at = go (free_after b) refl
         where
@@ -273,17 +273,17 @@ module _ {kept : ℕ → Bool} {old now : Image} {Pointer Counts anew : Trail �
             where
               at_old : (has : LeadsTo old Pointer b) → anew has.trail ⊎ (anew has.trail → ⊥) → ⊥
               at_old has (inl made) =
-                  let yes_free : free_after b ≡ true = ap free_after (sym has.named) ∙ given has.trail has.pointer made (λ null. has.not_null (sym has.named ∙ null)) (ap kept has.named ∙ loose) in
+                  let yes_free : free_after b ≡ true = ap free_after (sym has.named) ∙ given has.trail has.pointer made (λ null. has.not_null (sym has.named ∙ null)) (ap in_snapshot has.named ∙ loose) in
                   absurd (cc)
               at_old has (inr unturned) = none (record { trail = has.trail; pointer = has.pointer; named = stays has.trail has.pointer unturned ∙ has.named; not_null = has.not_null })
 
-      in_range : (b : ℕ) → (free b ≡ true) ⊎ IsGiven old Pointer anew kept b → (1 ≤ b) × (b < block_count now)
+      in_range : (b : ℕ) → (free b ≡ true) ⊎ IsGiven old Pointer anew in_snapshot b → (1 ≤ b) × (b < block_count now)
       in_range b (inl is) = rw (ap (λ n. n / 512) stage.whole) (stage.in_range b is)
       in_range b (inr one) =
           let some : b ≢ 0 = one.4 in
           let low : block_on old one.0 < block_count old = before.in_range one.0 one.1 in
           rw (ap (λ n. n / 512) stage.whole) (omega (arith, some), subst (λ x. x < block_count old) one.3 low)
 
-      loose : (b : ℕ) → (free b ≡ true) ⊎ IsGiven old Pointer anew kept b → kept b ≡ false
+      loose : (b : ℕ) → (free b ≡ true) ⊎ IsGiven old Pointer anew in_snapshot b → in_snapshot b ≡ false
       loose b (inl is) = stage.loose b is
       loose b (inr one) = one.5

@@ -65,7 +65,7 @@ module _ {plan : Plan} {from i depth : ℕ} {now : Image} {free : ℕ → Bool} 
       let some : block_on (seen plan now) p ≢ 0 = fresh.0 in
       let low : block_on (seen plan now) p < block_count (seen plan now) = stage.skeleton.in_range p live in
       let count : block_count (seen plan now) ≡ block_count plan.old = ap (λ n. n / 512) stage.whole in
-      at.on.can.exact.dead _ (omega (arith, some)) (rw count at low) fresh.1 (stage.unkept p live new)
+      at.on.can.exact.dead _ (omega (arith, some)) (rw count at low) fresh.1 (stage.outside_snapshot p live new)
 
   still_free : (b : ℕ) → free b ≡ true → plan.free b ≡ true
   still_free b is =
@@ -183,7 +183,7 @@ whole_length way = record { can = way.can; here = way.here; low = way.high; high
 abbrev IsMadeOf : Plan → ℕ → (Trail → Type 0) → ℕ → Image → (ℕ → Bool) → Type 0
 IsMadeOf plan from anew count now free =
     IsBuilding plan.old now plan.place (pointing_to (word plan.old plan.place) plan.top) (front plan.job 0 from)
-    (IsTreePointer plan.old plan.bound) (IsTreeWord plan.old plan.bound) anew (value_upto plan.job count) (laid_on plan.old plan.job) plan.kept free
+    (IsTreePointer plan.old plan.bound) (IsTreeWord plan.old plan.bound) anew (value_upto plan.job count) (laid_on plan.old plan.job) plan.in_snapshot free
 
 -- its pointers are now among those of the first ways
 whole_way : {plan : Plan} {from i depth : ℕ} {free : ℕ → Bool} → IsOnWay plan from i depth → depth ≡ length (plan.job.way i) → (words : Image) (count : ℕ) →

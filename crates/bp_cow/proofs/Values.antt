@@ -36,7 +36,7 @@ value-of job (suc n) i low once = go (cases_eq i n) (λ small. value-of job n i 
         differ false e = rw e (rest (omega (arith, low, other)))
         differ true e = absurd (other (once n (omega arith) ((bytes_eq-Decides (word_trail job i) (word_trail job n)).0 e)))
 
-module _ {kept : ℕ → Bool} (old : Image) (bound : ℕ → ℕ) (touched : Touched) (free : ℕ → Bool) (wf : IsWellFormed old) (can : CanCommit old bound kept touched free) where
+module _ {in_snapshot : ℕ → Bool} (old : Image) (bound : ℕ → ℕ) (touched : Touched) (free : ℕ → Bool) (wf : IsWellFormed old) (can : CanCommit old bound in_snapshot touched free) where
   abbrev path : ℕ → List ℕ
   path i = path_of (word_paths touched) i
 
@@ -48,16 +48,16 @@ module _ {kept : ℕ → Bool} (old : Image) (bound : ℕ → ℕ) (touched : To
       ap (after_commit old (job_of touched)) (sym is) ∙ ap (λ v. unwrap_or v (laid_on old (job_of touched) (word_trail (job_of touched) i))) given
 
   -- a word of a run has the bytes of the runs in that tree, and else those that it had
-  pub after-run : (run : Run) (k : ℕ) → Has touched.runs.now run → run.off / 8 ≤ k → k ≤ (run_end run - 1) / 8 →
+  pub after-run : (run : Run) (k : ℕ) → Has touched.runs.now run → run.offset / 8 ≤ k → k ≤ (run_end run - 1) / 8 →
       after_commit old (job_of touched) (trail_of (run_path run k) (length (run_path run k))) ≡ laid_word touched.runs.now run.root.items k (word_on old (trail_of (run_path run k) (length (run_path run k))))
   after-run run k has low high =
-      let way = way-to touched.runs.now touched.runs.now (word_paths touched) run (k / 512 - run.off / 4096) has (omega (arith, low, high)) in
+      let way = way-to touched.runs.now touched.runs.now (word_paths touched) run (k / 512 - run.offset / 4096) has (omega (arith, low, high)) in
       let i : ℕ = way.which in
       let at : trail_of (run_path run k) (length (run_path run k)) ≡ k % 512 ∷ end_of (job_of touched) i =
-      run-trail run k low ∙ ap (λ q. k % 512 ∷ q) (sym (leaf-end touched i run (k / 512 - run.off / 4096) way.is)) in
+      run-trail run k low ∙ ap (λ q. k % 512 ∷ q) (sym (leaf-end touched i run (k / 512 - run.offset / 4096) way.is)) in
       let none : value_upto (job_of touched) (job_of touched).words (k % 512 ∷ end_of (job_of touched) i) ≡ None =
       value-none (job_of touched) (job_of touched).words _ (λ n here same. can.beside run n k has here low high (sym (word-trail can n here) ∙ sym same ∙ sym at)) in
-      let number : 512 * (run.off / 4096 + (k / 512 - run.off / 4096)) + k % 512 ≡ k = omega (arith, low) in
+      let number : 512 * (run.offset / 4096 + (k / 512 - run.offset / 4096)) + k % 512 ≡ k = omega (arith, low) in
       ap (after_commit old (job_of touched)) at
       ∙ ap (λ v. unwrap_or v (laid_on old (job_of touched) (k % 512 ∷ end_of (job_of touched) i))) none
       ∙ laid-leaf old (job_of touched) (k % 512) i way.is.here (λ l small same w. leaves-agree can i l way.is.here small same (k % 512) w)
@@ -67,7 +67,7 @@ module _ {kept : ℕ → Bool} (old : Image) (bound : ℕ → ℕ) (touched : To
 
   -- each other word is as it was
   pub after-others : (slot : ℕ) (p : Trail) → slot < 512 → ((i : ℕ) → i < length touched.words.now → slot ∷ p ≢ trail_of (path i) (length (path i))) →
-      ((run : Run) (k : ℕ) → Has touched.runs.now run → run.off / 8 ≤ k → k ≤ (run_end run - 1) / 8 → slot ∷ p ≢ trail_of (run_path run k) (length (run_path run k))) →
+      ((run : Run) (k : ℕ) → Has touched.runs.now run → run.offset / 8 ≤ k → k ≤ (run_end run - 1) / 8 → slot ∷ p ≢ trail_of (run_path run k) (length (run_path run k))) →
       after_commit old (job_of touched) (slot ∷ p) ≡ word_on old (slot ∷ p)
   after-others slot p low no_word no_run =
       ap (λ v. unwrap_or v (laid_on old (job_of touched) (slot ∷ p))) none ∙ search_leaf (job_of touched).leaves (λ i few past same. absurd (omega (arith, few, past)))
@@ -82,15 +82,15 @@ module _ {kept : ℕ → Bool} (old : Image) (bound : ℕ → ℕ) (touched : To
           ∙ laid-leaf old (job_of touched) slot i few (λ l small twice w. leaves-agree can i l few small twice slot w)
           ∙ at.is.patch slot (word_on old (slot ∷ end_of (job_of touched) i))
           ∙ ap (λ q. laid_word touched.runs.now at.run.root.items number (word_on old (slot ∷ q))) (sym same)
-          ∙ laid-kept touched.runs.now at.run.root.items number (word_on old (slot ∷ p)) (λ run has roots. run_word-outside run number (word_on old (slot ∷ p)) (split run has roots (cases_lt number (run.off / 8)) (cases_lt ((run_end run - 1) / 8) number)))
+          ∙ laid-kept touched.runs.now at.run.root.items number (word_on old (slot ∷ p)) (λ run has roots. run_word-outside run number (word_on old (slot ∷ p)) (split run has roots (cases_lt number (run.offset / 8)) (cases_lt ((run_end run - 1) / 8) number)))
         where
           at : HasLeaf touched.runs.now touched.runs.now (word_paths touched) i
           at = leaf-at touched i few
 
           number : ℕ
-          number = 512 * (at.run.off / 4096 + at.leaf) + slot
+          number = 512 * (at.run.offset / 4096 + at.leaf) + slot
 
-          leaf : number / 512 ≡ at.run.off / 4096 + at.leaf
+          leaf : number / 512 ≡ at.run.offset / 4096 + at.leaf
           leaf = omega (arith, low)
 
           last : number % 512 ≡ slot
@@ -102,8 +102,8 @@ module _ {kept : ℕ → Bool} (old : Image) (bound : ℕ → ℕ) (touched : To
               sym (leaf-trail-of at.run at.leaf number leaf ∙ ap (λ s. s ∷ trail_of (run_way at.run at.leaf) (length (run_way at.run at.leaf))) last
               ∙ ap (λ q. slot ∷ q) (sym (leaf-end touched i at.run at.leaf at.is) ∙ sym same))
 
-          split : (run : Run) → Has touched.runs.now run → run.root.items ≡ at.run.root.items → (number < run.off / 8) ⊎ (run.off / 8 ≤ number) → ((run_end run - 1) / 8 < number) ⊎ (number ≤ (run_end run - 1) / 8) →
-              (8 * number + 8 ≤ run.off) ⊎ (run_end run ≤ 8 * number)
+          split : (run : Run) → Has touched.runs.now run → run.root.items ≡ at.run.root.items → (number < run.offset / 8) ⊎ (run.offset / 8 ≤ number) → ((run_end run - 1) / 8 < number) ⊎ (number ≤ (run_end run - 1) / 8) →
+              (8 * number + 8 ≤ run.offset) ⊎ (run_end run ≤ 8 * number)
           split run has roots (inl before) any = inl (omega (arith, before))
           split run has roots (inr first) (inl behind) = inr (omega (arith, behind))
           split run has roots (inr first) (inr inside) =

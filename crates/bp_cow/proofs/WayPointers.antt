@@ -57,7 +57,7 @@ module _ (touched : Touched) where
   pub first-has : (run : Run) (runs : List Run) → touched.runs.now ≡ run ∷ runs → Has touched.runs.now run
   first-has run runs e = subst (λ rs. Has rs run) (sym e) (inl refl)
 
-module _ {kept : ℕ → Bool} {old : Image} {bound : ℕ → ℕ} {touched : Touched} {free : ℕ → Bool} (can : CanCommit old bound kept touched free) where
+module _ {in_snapshot : ℕ → Bool} {old : Image} {bound : ℕ → ℕ} {touched : Touched} {free : ℕ → Bool} (can : CanCommit old bound in_snapshot touched free) where
   abbrev path : ℕ → List ℕ
   path i = path_of (word_paths touched) i
 
@@ -74,7 +74,7 @@ module _ {kept : ℕ → Bool} {old : Image} {bound : ℕ → ℕ} {touched : To
 
   pub ways-slots : (i : ℕ) → i < ways (job_of touched) → (d : ℕ) → d < length ((job_of touched).way i) → slice_index ((job_of touched).way i) d < 512
   ways-slots = ways-by touched (λ p. (d : ℕ) → d < length p → slice_index p d < 512)
-      (λ run j has low d short. subst (λ n. n < 512) (slot-run_way run j d short) (run-slots run (512 * (run.off / 4096 + j)) d (can.shape.runs run has) (omega (arith, short, length-run_path run (512 * (run.off / 4096 + j)), length-run_way run j))))
+      (λ run j has low d short. subst (λ n. n < 512) (slot-run_way run j d short) (run-slots run (512 * (run.offset / 4096 + j)) d (can.shape.runs run has) (omega (arith, short, length-run_path run (512 * (run.offset / 4096 + j)), length-run_way run j))))
       (λ i here d low.
       let less : d < length (path i) - 1 = omega (arith, low, length-above (path i)) in
       subst (λ n. n < 512) (sym (get_or-take (length (path i) - 1) (path i) d 0 less)) (can.shape.slots i d here (omega (arith, less))))
@@ -114,6 +114,6 @@ module _ {kept : ℕ → Bool} {old : Image} {bound : ℕ → ℕ} {touched : To
       let both = same-leaf old bound can.forest one.run two.run (can.shape.runs one.run one.is.has) (can.shape.runs two.run two.is.has) (can.runs one.run one.is.has) (can.runs two.run two.is.has) one.leaf two.leaf one.is.low two.is.low
       (sym (leaf-end touched i one.run one.leaf one.is) ∙ same ∙ leaf-end touched l two.run two.leaf two.is) in
       one.is.patch slot w
-      ∙ ap (λ (root : List ℕ). laid_word touched.runs.now root (512 * (one.run.off / 4096 + one.leaf) + slot) w) both.0
+      ∙ ap (λ (root : List ℕ). laid_word touched.runs.now root (512 * (one.run.offset / 4096 + one.leaf) + slot) w) both.0
       ∙ ap (λ n. laid_word touched.runs.now two.run.root.items (512 * n + slot) w) both.1
       ∙ sym (two.is.patch slot w)

@@ -25,7 +25,7 @@ use Rattle.bp_cow.proofs.CoverLaws.{end-slots, some-ends}
 use Rattle.bp_cow.proofs.RunPointers.{leaf-plain}
 use Rattle.bp_cow.proofs.WayPointers.{above-trail, first-way, ways-fronts, ways-short, ways-slots, word-trail, ways-count, leaves-bare, leaves-agree}
 
-module _ {kept : ℕ → Bool} {old : Image} {bound : ℕ → ℕ} {touched : Touched} {free : ℕ → Bool} (can : CanCommit old bound kept touched free) where
+module _ {in_snapshot : ℕ → Bool} {old : Image} {bound : ℕ → ℕ} {touched : Touched} {free : ℕ → Bool} (can : CanCommit old bound in_snapshot touched free) where
   abbrev path : ℕ → List ℕ
   path i = path_of (word_paths touched) i
 
@@ -48,8 +48,8 @@ module _ {kept : ℕ → Bool} {old : Image} {bound : ℕ → ℕ} {touched : To
             ap (λ p. trail_of p d) way ∙ above-trail (path 0) d less ∙ ap (λ r. trail_of (end_path_of r (word_paths touched) 0) d) (sym e)
         go (run ∷ runs) e =
             let way : (job_of touched).way 0 ≡ run_way run 0 = first-way touched run runs e in
-            let leaf : run.off / 8 / 512 ≡ run.off / 4096 + 0 = omega arith in
-            ap (λ p. trail_of p d) way ∙ front-run_way run 0 (run.off / 8) d leaf (subst (λ p. d ≤ length p) way low) ∙ ap (λ r. trail_of (end_path_of r (word_paths touched) 0) d) (sym e)
+            let leaf : run.offset / 8 / 512 ≡ run.offset / 4096 + 0 = omega arith in
+            ap (λ p. trail_of p d) way ∙ front-run_way run 0 (run.offset / 8) d leaf (subst (λ p. d ≤ length p) way low) ∙ ap (λ r. trail_of (end_path_of r (word_paths touched) 0) d) (sym e)
 
     pub first-pointer : (d : ℕ) → d ≤ length ((job_of touched).way 0) → IsTreePointer old bound (trail_of first d)
     first-pointer d low = subst (IsTreePointer old bound) (first-front d low) (ways-fronts can 0 some-ways d low)
@@ -75,15 +75,15 @@ module _ {kept : ℕ → Bool} {old : Image} {bound : ℕ → ℕ} {touched : To
 
     begin-leaf : (run : Run) (j : ℕ) → Has touched.runs.now run → j < run_leaves run → (n ≤ length (run_way run j)) × (trail_of (run_way run j) n ≡ trail_of first n)
     begin-leaf run j has low =
-        (long, front-run_way run j k n leaf long ∙ between-run run (run.off / 8) k ((run_end run - 1) / 8) n from_first to_last few (omega (arith, long, length-run_way run j)) (from_start ∙ sym from_end) ∙ from_start)
+        (long, front-run_way run j k n leaf long ∙ between-run run (run.offset / 8) k ((run_end run - 1) / 8) n from_first to_last few (omega (arith, long, length-run_way run j)) (from_start ∙ sym from_end) ∙ from_start)
       where
-        start : HasEnd touched.runs.now (word_paths touched) (run_path run (run.off / 8))
+        start : HasEnd touched.runs.now (word_paths touched) (run_path run (run.offset / 8))
         start = end-first touched.runs.now (word_paths touched) run has
 
         end : HasEnd touched.runs.now (word_paths touched) (run_path run ((run_end run - 1) / 8))
         end = end-last touched.runs.now (word_paths touched) run has
 
-        from_start : trail_of (run_path run (run.off / 8)) n ≡ trail_of first n
+        from_start : trail_of (run_path run (run.offset / 8)) n ≡ trail_of first n
         from_start = ap (λ p. trail_of p n) (sym start.is) ∙ alike.same start.which (start.here (length touched.words.now))
 
         from_end : trail_of (run_path run ((run_end run - 1) / 8)) n ≡ trail_of first n
@@ -91,28 +91,28 @@ module _ {kept : ℕ → Bool} {old : Image} {bound : ℕ → ℕ} {touched : To
 
         -- the word itself is no pointer
         long : n ≤ length (run_way run j)
-        long = go (cases_eq n (length (run_path run (run.off / 8))))
+        long = go (cases_eq n (length (run_path run (run.offset / 8))))
           where
-            whole : n ≤ length (run_path run (run.off / 8))
+            whole : n ≤ length (run_path run (run.offset / 8))
             whole = subst (λ p. n ≤ length p) start.is (alike.long start.which (start.here (length touched.words.now)))
 
-            go : (n ≡ length (run_path run (run.off / 8))) ⊎ (n ≡ length (run_path run (run.off / 8)) → ⊥) → n ≤ length (run_way run j)
+            go : (n ≡ length (run_path run (run.offset / 8))) ⊎ (n ≡ length (run_path run (run.offset / 8)) → ⊥) → n ≤ length (run_way run j)
             go (inl e) =
-                absurd (leaf-plain old bound can.forest run (can.shape.runs run has) (can.runs run has) 0 (run.off / 8 % 512) (omega arith)
-                (subst (IsTreePointer old bound) (sym from_start ∙ ap (trail_of (run_path run (run.off / 8))) e ∙ first-trail run) (first-pointer n short)))
-            go (inr other) = omega (arith, whole, other, length-run_path run (run.off / 8), length-run_way run j)
+                absurd (leaf-plain old bound can.forest run (can.shape.runs run has) (can.runs run has) 0 (run.offset / 8 % 512) (omega arith)
+                (subst (IsTreePointer old bound) (sym from_start ∙ ap (trail_of (run_path run (run.offset / 8))) e ∙ first-trail run) (first-pointer n short)))
+            go (inr other) = omega (arith, whole, other, length-run_path run (run.offset / 8), length-run_way run j)
 
         some : 0 < length run.bytes.now
         some = (can.shape.runs run has).some
 
         -- a touched word of the leaf
         k : ℕ
-        k = max (run.off / 8) (512 * (run.off / 4096 + j))
+        k = max (run.offset / 8) (512 * (run.offset / 4096 + j))
 
-        leaf : k / 512 ≡ run.off / 4096 + j
+        leaf : k / 512 ≡ run.offset / 4096 + j
         leaf = omega arith
 
-        from_first : run.off / 8 ≤ k
+        from_first : run.offset / 8 ≤ k
         from_first = omega arith
 
         to_last : k ≤ (run_end run - 1) / 8
@@ -130,13 +130,13 @@ module _ {kept : ℕ → Bool} {old : Image} {bound : ℕ → ℕ} {touched : To
         in_block (slice_index first d) (trail_of first d) (first-pointer d (omega (arith, low, short))) (exists d low)
         (end-slots touched can.shape 0 d (some-ends touched can.shape) (omega (arith, low, alike.long 0 (some-ends touched can.shape))))
 
-    pub can_build : IsWellFormed old → (place : ℕ) → ((k : ℕ) → k < n → block_on old (trail_of first k) ≢ 0) → place_on old (trail_of first n) ≡ place → IsFeasible old bound (job_of touched) n place kept free
+    pub can_build : IsWellFormed old → (place : ℕ) → ((k : ℕ) → k < n → block_on old (trail_of first k) ≢ 0) → place_on old (trail_of first n) ≡ place → IsFeasible old bound (job_of touched) n place in_snapshot free
     can_build wf place exists at = record {
       some = some-ways;
       some_blocks = let least = wf.formatted.sized.at_least in omega (arith, least);
       whole = wf.formatted.sized.whole;
       forest = can.forest;
-      exact = unheld_exact old bound can.forest kept free can.exact;
+      exact = unheld_exact old bound can.forest in_snapshot free can.exact;
       below = λ i here. (begin-way i here).0;
       short = ways-short can;
       cover = λ i here. (begin-way i here).1 ∙ sym (first-front n short);
@@ -162,7 +162,7 @@ module _ {kept : ℕ → Bool} {old : Image} {bound : ℕ → ℕ} {touched : To
           ap (λ r. length (end_path_of r (word_paths touched) 0)) e ∙ omega (arith, len, length-above (path 0)) ∙ ap (λ (p : List ℕ). length p + 1) (sym way)
       go (run ∷ runs) e =
           let way : (job_of touched).way 0 ≡ run_way run 0 = first-way touched run runs e in
-          ap (λ r. length (end_path_of r (word_paths touched) 0)) e ∙ omega (arith, length-run_path run (run.off / 8), length-run_way run 0) ∙ ap (λ (p : List ℕ). length p + 1) (sym way)
+          ap (λ r. length (end_path_of r (word_paths touched) 0)) e ∙ omega (arith, length-run_path run (run.offset / 8), length-run_way run 0) ∙ ap (λ (p : List ℕ). length p + 1) (sym way)
 
   pub alike-less : (m : ℕ) → BeginAlike touched (suc m) → BeginAlike touched m
   alike-less m alike = record {
@@ -171,7 +171,7 @@ module _ {kept : ℕ → Bool} {old : Image} {bound : ℕ → ℕ} {touched : To
   }
 
 -- the pointers that the way to the cover reads
-pub first-range : {kept : ℕ → Bool} (old : Image) (bound : ℕ → ℕ) (touched : Touched) (free : ℕ → Bool) → IsWellFormed old → CanCommit old bound kept touched free →
+pub first-range : {in_snapshot : ℕ → Bool} (old : Image) (bound : ℕ → ℕ) (touched : Touched) (free : ℕ → Bool) → IsWellFormed old → CanCommit old bound in_snapshot touched free →
     (d : ℕ) → BeginAlike touched (d + 1) → block_on old (trail_of (end_path touched 0) d) < block_count old
 first-range old bound touched free wf can d alike =
     let next : d + 1 ≡ suc d = omega arith in

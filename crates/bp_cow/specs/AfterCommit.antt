@@ -23,7 +23,7 @@ HasValue image touched i = i < length touched.words.now →
 
 -- a word of a run has the new bytes of the runs in its tree, and otherwise its old bytes
 abbrev pub HasRunBytes : Image → Touched → Run → ℕ → Type 0
-HasRunBytes image touched run k = Has touched.runs.now run → run.off / 8 ≤ k → k ≤ (run_end run - 1) / 8 →
+HasRunBytes image touched run k = Has touched.runs.now run → run.offset / 8 ≤ k → k ≤ (run_end run - 1) / 8 →
     after_commit image (job_of touched) (end_trail (run_path run k)) ≡
     laid_word touched.runs.now run.root.items k (word_on image (end_trail (run_path run k)))
 
@@ -33,7 +33,7 @@ IsNoTouchedWord touched q = (i : ℕ) → i < length touched.words.now → q ≢
 
 -- the trail is not that of a word of a run
 abbrev pub IsNoRunWord : Touched → Trail → Type 0
-IsNoRunWord touched q = (run : Run) (k : ℕ) → Has touched.runs.now run → run.off / 8 ≤ k → k ≤ (run_end run - 1) / 8 →
+IsNoRunWord touched q = (run : Run) (k : ℕ) → Has touched.runs.now run → run.offset / 8 ≤ k → k ≤ (run_end run - 1) / 8 →
     q ≢ end_trail (run_path run k)
 
 -- a word that is neither a touched word nor a word of a run keeps its value

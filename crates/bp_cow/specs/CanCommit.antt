@@ -15,10 +15,10 @@ use Rattle.bp_cow.specs.declared.touched.Run.{Run}
 use Rattle.bp_cow.specs.declared.touched.Touched.{Touched}
 use Rattle.bp_cow.specs.declared.touched.TreeSize.{TreeSize}
 
--- the set has exactly the kept blocks of the image (the blocks of the snapshot)
-pub record TellsKept (kept : ℕ → Bool) (image : Image) (set : Set) : Type 0 where
+-- the set has exactly the blocks of the image's snapshot
+pub record TellsSnapshot (in_snapshot : ℕ → Bool) (image : Image) (set : Set) : Type 0 where
   pub room : block_count image ≤ length set
-  pub same : (b : ℕ) → has set b ≡ kept b
+  pub same : (b : ℕ) → has set b ≡ in_snapshot b
 
 -- The run is in the tree of a reachable inode, which has the height that the run states. The run ends below the tree's
 -- size in `bound`, and the size that the run states is at least that size.
@@ -41,14 +41,14 @@ pub record IsTreeIn (old : Image) (bound : ℕ → ℕ) (tree : TreeSize) : Type
 
 -- The condition on the image and the touched words. `bound` is for each tree the greater of its old size and its new
 -- size. With these sizes the reachable trees are sound, no block is in two of them, and the free blocks are exactly
--- those that none of them has and that are not kept. Each proper prefix of a touched path is the path of a pointer, and
--- no touched path is.
-pub record CanCommit (old : Image) (bound : ℕ → ℕ) (kept : ℕ → Bool) (touched : Touched) (free : ℕ → Bool)
+-- those that none of them has and that are not in the snapshot. Each proper prefix of a touched path is the path of a
+-- pointer, and no touched path is.
+pub record CanCommit (old : Image) (bound : ℕ → ℕ) (in_snapshot : ℕ → Bool) (touched : Touched) (free : ℕ → Bool)
     : Type 0 where
   pub shape : IsTouched touched
   pub forest : IsForest old bound
   pub sizes : (t : ℕ) → IsReached old t → size_of old t ≤ bound t
-  pub exact : AreUnheld old (IsReached old) bound kept free
+  pub exact : AreUnheld old (IsReached old) bound in_snapshot free
   pub pointers : (i d : ℕ) → i < length touched.words.now → d < length (path_of (word_paths touched) i) →
       IsTreePointer old bound (trail_of (path_of (word_paths touched) i) d)
   pub contents : (i : ℕ) → i < length touched.words.now → ¬ IsTreePointer old bound (touched_trail touched i)
@@ -57,14 +57,15 @@ pub record CanCommit (old : Image) (bound : ℕ → ℕ) (kept : ℕ → Bool) (
   -- the paths are different, and none is the path of a word of a run
   pub apart : (i k : ℕ) → i < length touched.words.now → k < length touched.words.now
       → touched_trail touched i ≡ touched_trail touched k → i ≡ k
-  pub beside : (run : Run) (i k : ℕ) → Has touched.runs.now run → i < length touched.words.now → run.off / 8 ≤ k
+  pub beside : (run : Run) (i k : ℕ) → Has touched.runs.now run → i < length touched.words.now → run.offset / 8 ≤ k
       → k ≤ (run_end run - 1) / 8 →
       touched_trail touched i ≢ end_trail (run_path run k)
 
--- the statement `Holds` is true for all sizes, kept blocks and free blocks with which the words can be committed
+-- the statement `Holds` is true for all sizes, blocks of the snapshot and free blocks with which the words can be
+-- committed
 abbrev pub WhereCanCommit : Image → Touched → Type 0 → Type 0
 WhereCanCommit image touched Holds =
-    (bound : ℕ → ℕ) (kept free : ℕ → Bool) → CanCommit image bound kept touched free → Holds
+    (bound : ℕ → ℕ) (in_snapshot free : ℕ → Bool) → CanCommit image bound in_snapshot touched free → Holds
 
 -- ---- with the sizes of the image itself
 
@@ -78,21 +79,21 @@ HasRunsIn image touched = (run : Run) → Has touched.runs.now run → IsRunIn i
 
 -- the touched words can be committed with the sizes of the image and these free blocks
 abbrev pub CanCommitAsIs : Image → (ℕ → Bool) → Touched → (ℕ → Bool) → Type 0
-CanCommitAsIs image kept touched free = CanCommit image (size_of image) kept touched free
+CanCommitAsIs image in_snapshot touched free = CanCommit image (size_of image) in_snapshot touched free
 
 -- a single touched word can be committed if it is content word k of reachable tree t, below its size, and no root word
 -- in the inode file
 abbrev pub CanCommitWord : Image → (ℕ → Bool) → Touched → (ℕ → Bool) → ℕ → ℕ → Type 0
-CanCommitWord image kept touched free t k =
+CanCommitWord image in_snapshot touched free t k =
     HasTrees image touched → touched.runs.now ≡ [] → length touched.words.now ≡ 1 →
     IsReached image t → 8 * k < size_of image t → (t ≡ 0 → k % 8 ≢ 1) →
     touched_trail touched 0 ≡ tree_trail (height_of (word image super_root)) t (suc (height_of (root_of image t))) k →
-    CanCommitAsIs image kept touched free
+    CanCommitAsIs image in_snapshot touched free
 
 -- runs without touched words can be committed
 abbrev pub CanCommitRuns : Image → (ℕ → Bool) → Touched → (ℕ → Bool) → Type 0
-CanCommitRuns image kept touched free =
-    HasTrees image touched → length touched.words.now ≡ 0 → HasRunsIn image touched → CanCommitAsIs image kept touched free
+CanCommitRuns image in_snapshot touched free =
+    HasTrees image touched → length touched.words.now ≡ 0 → HasRunsIn image touched → CanCommitAsIs image in_snapshot touched free
 
 -- a tree with the root path, height and size of an inode of the image is a tree of the image
 abbrev pub IsInodeTree : Image → ℕ → TreeSize → Type 0

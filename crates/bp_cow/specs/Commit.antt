@@ -13,7 +13,7 @@ use Rattle.bp_layout.specs.WellFormed.{IsWellFormed}
 use Rattle.bp_layout.specs.WordPaths.{address}
 use Rattle.bp_layout.specs.Words.{Image, block_count}
 use Rattle.bp_shapes.specs.Forest.{IsForest, IsTreePointer}
-use Rattle.bp_shapes.specs.Sets.{kept_of}
+use Rattle.bp_shapes.specs.Sets.{in_snapshot_of}
 use Rattle.bp_commit.specs.Performs.{TakesBlocks}
 use Rattle.bp_cow.specs.CanCommit.{CanCommit}
 use Rattle.bp_cow.specs.Committed.{IsCommitted, after_commit}
@@ -40,18 +40,18 @@ HasRoom memory touched = commit_stores (current_words memory) touched + 2 ≤ ro
 abbrev pub cover_word : Image → Touched → ℕ
 cover_word image touched = address image (commit_cover image touched)
 
--- the block of the cover's word is not kept, unless it is the superblock
+-- the block of the cover's word is not in the snapshot, unless it is the superblock
 abbrev pub HasLooseCover : Image → (ℕ → Bool) → Touched → Type 0
-HasLooseCover image kept touched =
-    block_words ≤ cover_word image touched → kept (cover_word image touched / block_words) ≡ false
+HasLooseCover image in_snapshot touched =
+    block_words ≤ cover_word image touched → in_snapshot (cover_word image touched / block_words) ≡ false
 
--- The full condition of a commit, on the memory and on the set of free blocks. Kept blocks are not free, and the one
--- store in place goes to none of them.
-pub record CanCommitIn (bound : ℕ → ℕ) (kept : ℕ → Bool) (memory : Memory) (touched : Touched) (blocks : Set)
+-- The full condition of a commit, on the memory and on the set of free blocks. Blocks of the snapshot are not free, and
+-- the one store in place goes to none of them.
+pub record CanCommitIn (bound : ℕ → ℕ) (in_snapshot : ℕ → Bool) (memory : Memory) (touched : Touched) (blocks : Set)
     : Type 0 where
   pub well_formed : IsWellFormed (current_words memory)
-  pub can : CanCommit (current_words memory) bound kept touched (has blocks)
-  pub loose : HasLooseCover (current_words memory) kept touched
+  pub can : CanCommit (current_words memory) bound in_snapshot touched (has blocks)
+  pub loose : HasLooseCover (current_words memory) in_snapshot touched
   pub fits : block_count (current_words memory) ≤ length blocks
   pub some : HasBlocks memory touched blocks
   pub room : HasRoom memory touched
@@ -68,29 +68,29 @@ OnCommit bound touched cover old new Holds = IsForest old bound → IsCommittedB
 
 -- The effect of a commit. One store at the word of the cover, alone in its epoch after a quiet preparation, gives each
 -- touched word its value. The stores before it go to the blocks taken for copies, at least one to each, and nowhere
--- else. No store goes to a kept block.
+-- else. No store goes to a block of the snapshot.
 --
--- Afterwards a block is free exactly if it is not kept and no tree has it in the new image, of the inodes that were
--- reached in the old one. So the blocks that were copied are free, unless they are kept.
-pub record CommitsTouched (bound : ℕ → ℕ) (kept : ℕ → Bool) (touched : Touched) (old new : Memory)
+-- Afterwards a block is free exactly if it is not in the snapshot and no tree has it in the new image, of the inodes
+-- that were reached in the old one. So the blocks that were copied are free, unless they are in the snapshot.
+pub record CommitsTouched (bound : ℕ → ℕ) (in_snapshot : ℕ → Bool) (touched : Touched) (old new : Memory)
     (blocks blocks_after : Set) : Type 0 where
   pub value : ℕ
   pub commit : AddsCommit Same (cover_word (current_words old) touched) value 2
       (commit_stores (current_words old) touched) old new
   pub taken : List ℕ
-  pub takes : TakesBlocks (current_words old) kept taken commit.prepared
+  pub takes : TakesBlocks (current_words old) in_snapshot taken commit.prepared
   pub number : length taken ≡ copied_count (current_words old) touched
   -- the taken blocks were in the set of free blocks
   pub from : Each (λ b. has blocks b ≡ true) taken
   -- the pointers above the cover's word do not change
   pub stays : address (current_words new) (commit_cover (current_words old) touched)
       ≡ cover_word (current_words old) touched
-  pub loose : HasLooseCover (current_words old) kept touched
+  pub loose : HasLooseCover (current_words old) in_snapshot touched
   pub words : IsCommittedBy bound touched (length (commit_cover (current_words old) touched)) (current_words old)
       (current_words new)
-  pub exact : AreUnheld (current_words new) (IsReached (current_words old)) bound kept (has blocks_after)
+  pub exact : AreUnheld (current_words new) (IsReached (current_words old)) bound in_snapshot (has blocks_after)
 
 -- the effect of a commit on the parts of a file system; the function gives the memory of a region
 abbrev pub CommitsParts : {R : Type 0} → (R → Memory) → (ℕ → ℕ) → Touched → Parts R → Parts R → Type 0
 CommitsParts memory bound touched old new =
-    CommitsTouched bound (kept_of old) touched (memory old.region) (memory new.region) old.blocks new.blocks
+    CommitsTouched bound (in_snapshot_of old) touched (memory old.region) (memory new.region) old.free_blocks new.free_blocks

@@ -12,7 +12,7 @@ use Rattle.bp_cow.specs.declared.touched.Touched.{Touched}
 -- word, between which its other words lie, and the paths of the words.
 abbrev pub end_path_of : List Run → List WordPath → ℕ → WordPath
 end_path_of [] paths i = path_of paths i
-end_path_of (run ∷ runs) paths zero = run_path run (run.off / 8)
+end_path_of (run ∷ runs) paths zero = run_path run (run.offset / 8)
 end_path_of (run ∷ runs) paths (suc zero) = run_path run ((run_end run - 1) / 8)
 end_path_of (run ∷ runs) paths (suc (suc i)) = end_path_of runs paths i
 

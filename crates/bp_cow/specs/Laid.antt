@@ -24,7 +24,7 @@ HasFirstWords image block count value = (slot : ℕ) → slot < count → slot_w
 
 -- the run has all bytes of the leaf whose first word has number `first`
 abbrev pub CoversLeaf : Run → ℕ → Type 0
-CoversLeaf run first = (run.off ≤ 8 * first) × (8 * first + block_size ≤ run_end run)
+CoversLeaf run first = (run.offset ≤ 8 * first) × (8 * first + block_size ≤ run_end run)
 
 -- the words of a leaf, whose first word has number `first` in the tree with this root path, with the bytes of these
 -- runs written over them

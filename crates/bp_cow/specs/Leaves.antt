@@ -15,5 +15,5 @@ pub record IsLeaf (all runs : List Run) (paths : List WordPath) (i : ℕ) (run :
   pub here : i < leaves_of runs
   pub way : way_of runs paths i ≡ run_way run leaf
   pub patch : (slot old : ℕ) → patch_of all runs i slot old
-      ≡ laid_word all run.root.items (block_words * (run.off / block_size + leaf) + slot) old
+      ≡ laid_word all run.root.items (block_words * (run.offset / block_size + leaf) + slot) old
   pub live : (trees : List TreeSize) (depth : ℕ) → live_of runs trees paths i depth ≡ run_live run leaf depth

@@ -15,12 +15,12 @@ use Rattle.bp_cow.specs.declared.touched.Touched.{Touched}
 
 -- The condition of a plan. `bound`: the sizes of the trees that count; `from`: the number of slots of the cover;
 -- `place`: the place of its word.
-pub record IsFeasible (old : Image) (bound : ℕ → ℕ) (job : Job) (from place : ℕ) (kept free : ℕ → Bool) : Type 0 where
+pub record IsFeasible (old : Image) (bound : ℕ → ℕ) (job : Job) (from place : ℕ) (in_snapshot free : ℕ → Bool) : Type 0 where
   pub some : 0 < ways job
   pub some_blocks : 0 < block_count old
   pub whole : length old ≡ block_words * block_count old
   pub forest : IsForest old bound
-  pub exact : IsExactSet old (IsTreePointer old bound) kept free
+  pub exact : IsExactSet old (IsTreePointer old bound) in_snapshot free
   -- each way begins with the cover, and each of its prefixes is a pointer
   pub below : (i : ℕ) → i < ways job → from ≤ length (job.way i)
   pub short : (i : ℕ) → i < ways job → length (job.way i) ≤ 11
@@ -42,12 +42,12 @@ pub record IsFeasible (old : Image) (bound : ℕ → ℕ) (job : Job) (from plac
   pub placed : IsPlaced old (IsTreePointer old bound) (front job 0 from)
   pub at : place_on old (front job 0 from) ≡ place
 
--- a plan: the image before, the sizes of its trees that count, the kept blocks, the free blocks before, the task, the
--- place of the cover, and the copy of the cover's block
+-- a plan: the image before, the sizes of its trees that count, the blocks of the snapshot, the free blocks before, the
+-- task, the place of the cover, and the copy of the cover's block
 pub record Plan : Type 0 where
   pub old : Image
   pub bound : ℕ → ℕ
-  pub kept : ℕ → Bool
+  pub in_snapshot : ℕ → Bool
   pub free : ℕ → Bool
   pub job : Job
   pub place : ℕ
@@ -68,10 +68,10 @@ abbrev pub IsMade : Plan → ℕ → ℕ → ℕ → Image → (ℕ → Bool) �
 IsMade plan from i depth now free =
     IsBuilding plan.old now plan.place (pointing_to (word plan.old plan.place) plan.top) (front plan.job 0 from)
     (IsTreePointer plan.old plan.bound) (IsTreeWord plan.old plan.bound) (IsAnew plan.job from i depth)
-    (value_upto plan.job (i - plan.job.leaves)) (laid_on plan.old plan.job) plan.kept free
+    (value_upto plan.job (i - plan.job.leaves)) (laid_on plan.old plan.job) plan.in_snapshot free
 
 abbrev pub CanMake : Plan → ℕ → Type 0
-CanMake plan from = IsFeasible plan.old plan.bound plan.job from plan.place plan.kept plan.free
+CanMake plan from = IsFeasible plan.old plan.bound plan.job from plan.place plan.in_snapshot plan.free
 
 -- the block at a depth of a way
 abbrev pub reached : Plan → ℕ → ℕ → Image → ℕ

@@ -6,9 +6,9 @@ use Rattle.bp_shapes.specs.Trail.{Trail, word_on, block_on, place_on, IsSkeleton
 
 -- The state of an image while a commit makes its copies. `Counts`: the content words that count. `anew`: the pointers
 -- that lead to a block taken by this commit. `value`: the values of the touched words. `laid`: the other words of the
--- copied blocks, with the bytes of the runs. `kept`: the blocks that are never free.
+-- copied blocks, with the bytes of the runs. `in_snapshot`: the blocks that are never free.
 pub record IsStage (old now : Image) (Pointer Counts anew : Trail → Type 0) (value : Trail → Option ℕ)
-    (laid : Trail → ℕ) (kept free : ℕ → Bool) : Type 0 where
+    (laid : Trail → ℕ) (in_snapshot free : ℕ → Bool) : Type 0 where
   pub whole : length now ≡ length old
   pub skeleton : IsSkeleton now Pointer
   pub superblock : (place : ℕ) → place < block_words → place ≢ super_root → word now place ≡ word old place
@@ -21,20 +21,20 @@ pub record IsStage (old now : Image) (Pointer Counts anew : Trail → Type 0) (v
       → word_on now (slot ∷ p) ≡ word_on old (slot ∷ p)
   pub bits : (p : Trail) → Pointer p → word_on now p % block_size ≡ word_on old p % block_size
   pub fresh : (p : Trail) → Pointer p → anew p → (block_on now p ≢ 0) × (LeadsTo old Pointer (block_on now p) → ⊥)
-  pub unkept : (p : Trail) → Pointer p → anew p → kept (block_on now p) ≡ false
+  pub outside_snapshot : (p : Trail) → Pointer p → anew p → in_snapshot (block_on now p) ≡ false
   pub unvalued : (p : Trail) → Pointer p → value p ≡ None
   pub early : (p : Trail) (slot : ℕ) → Pointer p → (anew p → ⊥) → value (slot ∷ p) ≡ None
   pub taken : (b : ℕ) → LeadsTo old Pointer b ⊎ LeadsTo now Pointer b → free b ≡ false
   pub known : (b : ℕ) → 1 ≤ b → b < block_count old → free b ≡ false → (LeadsTo old Pointer b → ⊥)
-      → kept b ≡ false → LeadsTo now Pointer b
+      → in_snapshot b ≡ false → LeadsTo now Pointer b
   pub in_range : (b : ℕ) → free b ≡ true → (1 ≤ b) × (b < block_count old)
-  pub loose : (b : ℕ) → free b ≡ true → kept b ≡ false
+  pub loose : (b : ℕ) → free b ≡ true → in_snapshot b ≡ false
 
 -- The words while copies are made. The last store, of a pointer at the cover's place, is not done yet.
 pub record IsBuilding (old words : Image) (place pointer : ℕ) (cover : Trail) (Pointer Counts anew : Trail → Type 0)
-    (value : Trail → Option ℕ) (laid : Trail → ℕ) (kept free : ℕ → Bool) : Type 0 where
+    (value : Trail → Option ℕ) (laid : Trail → ℕ) (in_snapshot free : ℕ → Bool) : Type 0 where
   pub some : 0 < block_count old
-  pub stage : IsStage old (slice_set words place pointer) Pointer Counts anew value laid kept free
+  pub stage : IsStage old (slice_set words place pointer) Pointer Counts anew value laid in_snapshot free
   pub placed : IsPlaced (slice_set words place pointer) Pointer cover
   pub at : place_on (slice_set words place pointer) cover ≡ place
   pub below : (p : Trail) → anew p → length cover ≤ length p

@@ -36,5 +36,5 @@ pub record HasTurned (plan : Plan) (touched : Touched) (from place : ℕ) (block
       + (job_of touched).words) old new
   pub stage : IsStage plan.old (current_words new) (IsTreePointer plan.old plan.bound) (IsTreeWord plan.old plan.bound)
       (IsAnew (job_of touched) from (ways (job_of touched)) from)
-      (value_upto (job_of touched) (job_of touched).words) (laid_on plan.old (job_of touched)) plan.kept
+      (value_upto (job_of touched) (job_of touched).words) (laid_on plan.old (job_of touched)) plan.in_snapshot
       (has left)

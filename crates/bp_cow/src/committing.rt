@@ -8,18 +8,18 @@ ghost use Rattle.bp_layout.specs.Words.{word, block_count};
 ghost use Rattle.bp_shapes.specs.Forest.{IsExactSet, IsTreePointer};
 ghost use Rattle.pm_epochs.specs.Crash.{commit};
 ghost use Rattle.pm_region.specs.Memory.{words_in, room_in, Adds};
-ghost use Rattle.bp_cow.specs.CanCommit.{TellsKept};
+ghost use Rattle.bp_cow.specs.CanCommit.{TellsSnapshot};
 ghost use Rattle.bp_cow.specs.Commit.{CanCommitIn, CommitsParts};
 ghost use Rattle.bp_cow.specs.Found.{AreWaysIn};
 ghost use Rattle.bp_cow.specs.Plan.{Plan};
 ghost use Rattle.bp_cow.specs.Touched.{IsTouched, only_value};
 ghost use Rattle.bp_cow.specs.Turned.{CanTurn, HasTurned};
 ghost use Rattle.bp_cow.specs.Ways.{AreShared};
-ghost use Rattle.bp_shapes.specs.Sets.{kept_of};
+ghost use Rattle.bp_shapes.specs.Sets.{in_snapshot_of};
 
-use crate::build::make;
+use crate::build::copy_subtree;
 use crate::covering::FoundWays;
-use crate::giving::give_back;
+use crate::giving::free_replaced;
 use crate::touched::Touched;
 use crate::ways::Shared;
 use bp_free::{Blocks, Parts};
@@ -48,13 +48,13 @@ fn turn_over<R: Region>(
     ensures base { length (R.memory region.new).base ≡ length (R.memory region.old).base }
 {
     let pointer = region.load(place);
-    let top = make(region, blocks, touched, shared, from, place);
+    let top = copy_subtree(region, blocks, touched, shared, from, place);
     let turned = bp_layout::pointer_word(top as u64) + pointer % BLOCK_SIZE;
     commit_word(region, place, turned);
 }
 
 /// Copies the blocks from the cover down with the touched words in place, sets the cover's pointer to the copies, and
-/// frees the old blocks that are not kept.
+/// frees the old blocks that are not in the snapshot.
 fn commit_copies<R: Region>(
     parts: &mut Parts<R>,
     touched: &Touched<'_>,
@@ -64,14 +64,14 @@ fn commit_copies<R: Region>(
 )
     ghost plan: { Plan }
     requires touched { IsTouched touched.now }
-    requires can { CanTurn plan touched.now from place parts.old.blocks (R.memory parts.old.region) }
-    requires fits { block_count plan.old ≤ length parts.old.blocks }
-    requires kept { TellsKept plan.kept plan.old parts.old.frozen }
+    requires can { CanTurn plan touched.now from place parts.old.free_blocks (R.memory parts.old.region) }
+    requires fits { block_count plan.old ≤ length parts.old.free_blocks }
+    requires snapshot { TellsSnapshot plan.in_snapshot plan.old parts.old.snapshot_blocks }
     requires shared { AreShared touched.now shared.now }
-    ensures done { (taken : Set) × HasTurned plan touched.now from place parts.old.blocks taken
+    ensures done { (taken : Set) × HasTurned plan touched.now from place parts.old.free_blocks taken
         (R.memory parts.old.region) (R.memory parts.new.region) }
     ensures exact { IsExactSet (words_in R.memory parts.new.region)
-        (IsTreePointer plan.old plan.bound) plan.kept (has parts.new.blocks) }
+        (IsTreePointer plan.old plan.bound) plan.in_snapshot (has parts.new.free_blocks) }
     ensures keeps { KeepsSets parts.old parts.new }
 {
     let _words = parts.region.words();
@@ -79,16 +79,16 @@ fn commit_copies<R: Region>(
     let top = pm_words::block_of(pointer) as u32;
     turn_over(
         &mut parts.region,
-        &mut parts.blocks,
+        &mut parts.free_blocks,
         touched,
         shared,
         from,
         place,
     );
-    give_back(
+    free_replaced(
         &parts.region,
-        &mut parts.blocks,
-        &parts.frozen,
+        &mut parts.free_blocks,
+        &parts.snapshot_blocks,
         touched,
         shared,
         from,
@@ -111,12 +111,12 @@ fn commit_one<R: Region>(region: &mut R, touched: &Touched<'_>, place: u64)
 /// Gives the touched words their values by one store at the word of the cover, alone in its epoch. If the cover is the
 /// only touched word, the store is its value; otherwise it is a pointer to copies of the blocks from the cover to the
 /// touched words. Takes as many blocks as `copies_below` returns. At the end frees the blocks that were copied, except
-/// kept ones, to which no store goes. The caller passes the result of `find_ways`.
+/// those of the snapshot, to which no store goes. The caller passes the result of `find_ways`.
 pub fn commit_at<R: Region>(parts: &mut Parts<R>, touched: &Touched<'_>, found: &FoundWays)
     ghost bound: { ℕ → ℕ }
-    requires can { CanCommitIn bound (kept_of parts.old) (R.memory parts.old.region) touched.now parts.old.blocks }
+    requires can { CanCommitIn bound (in_snapshot_of parts.old) (R.memory parts.old.region) touched.now parts.old.free_blocks }
     requires found { AreWaysIn (words_in R.memory parts.old.region) touched.now found.now }
-    requires kept { TellsKept (kept_of parts.old) (words_in R.memory parts.old.region) parts.old.frozen }
+    requires snapshot { TellsSnapshot (in_snapshot_of parts.old) (words_in R.memory parts.old.region) parts.old.snapshot_blocks }
     ensures commits { CommitsParts R.memory bound touched.now parts.old parts.new }
     ensures keeps { KeepsSets parts.old parts.new }
 {

@@ -32,7 +32,7 @@ impl Run<'_> {
     /// Returns how many slots the paths of the run's first and last word have in common at their start.
     fn alike(&self) -> usize
         requires { IsRun self.now }
-        ensures { (n : ℕ) → (n ≤ result) ↔ BothBegin (run_path self.now (self.now.off / 8))
+        ensures { (n : ℕ) → (n ≤ result) ↔ BothBegin (run_path self.now (self.now.offset / 8))
             (run_path self.now ((run_end self.now - 1) / 8)) n }
     {
         let (first, last) = (self.end_word(true), self.end_word(false));
@@ -44,8 +44,8 @@ impl Run<'_> {
     fn alike_with(&self, other: &Run<'_>) -> Option<usize>
         requires run { IsRun self.now }
         requires other { IsRun other.now }
-        ensures { IfSome result (λ alike. (n : ℕ) → (n ≤ alike) ↔ BothBegin (run_path self.now (self.now.off / 8))
-            (run_path other.now (other.now.off / 8)) n) }
+        ensures { IfSome result (λ alike. (n : ℕ) → (n ≤ alike) ↔ BothBegin (run_path self.now (self.now.offset / 8))
+            (run_path other.now (other.now.offset / 8)) n) }
     {
         if self.height == other.height && self.is_under(&other.root) {
             let (first, last) = (self.end_word(true), other.end_word(true));

@@ -1,11 +1,11 @@
-//! Frees the blocks that a commit replaced, except kept ones.
+//! Frees the blocks that a commit replaced, except those of the snapshot.
 
 ghost use Rattle.std.specs.Prelude.{◌≡◌, ◌+◌, ◌<◌, ◌≤◌, length, true, false};
 ghost use Rattle.bp_free.specs.Set.{TakesNumber, has};
 ghost use Rattle.bp_shapes.specs.Trail.{block_on};
 ghost use Rattle.bp_layout.specs.Words.{block_count};
 ghost use Rattle.pm_region.specs.Memory.{words_in};
-ghost use Rattle.bp_cow.specs.CanCommit.{TellsKept};
+ghost use Rattle.bp_cow.specs.CanCommit.{TellsSnapshot};
 ghost use Rattle.bp_cow.specs.Job.{ways, front};
 ghost use Rattle.bp_cow.specs.Plan.{Plan, planned};
 ghost use Rattle.bp_cow.specs.Return.{IsLeft, IsBack, CanGive};
@@ -19,16 +19,16 @@ use bp_free::Blocks;
 use bp_tree::load_slot;
 use pm_region::Region;
 
-/// Frees a block, unless it is kept.
-fn give_loose(blocks: &mut Blocks, frozen: &Blocks, block: u32)
+/// Frees a block, unless it is in the snapshot.
+fn give_loose(blocks: &mut Blocks, snapshot_blocks: &Blocks, block: u32)
     requires in_range { block < length blocks.old }
-    requires known { block < length frozen.now }
+    requires known { block < length snapshot_blocks.now }
     requires used { has blocks.old block ≡ false }
-    ensures given { has frozen.now block ≡ false → TakesNumber (has blocks.new) (has blocks.old) block }
-    ensures stays { has frozen.now block ≡ true → blocks.new ≡ blocks.old }
+    ensures given { has snapshot_blocks.now block ≡ false → TakesNumber (has blocks.new) (has blocks.old) block }
+    ensures stays { has snapshot_blocks.now block ≡ true → blocks.new ≡ blocks.old }
     ensures size { length blocks.new ≡ length blocks.old }
 {
-    if !frozen.is_free(block) {
+    if !snapshot_blocks.is_free(block) {
         give(blocks, block);
     }
 }
@@ -42,12 +42,12 @@ struct OldBlock {
     block: u32,
 }
 
-/// Goes one block further down a way of the old image. Frees the block there if it is not kept and no earlier way freed
-/// it.
+/// Goes one block further down a way of the old image. Frees the block there if it is not in the snapshot and no
+/// earlier way freed it.
 fn give_step<R: Region>(
     region: &R,
     blocks: &mut Blocks,
-    frozen: &Blocks,
+    snapshot_blocks: &Blocks,
     touched: &Touched<'_>,
     way: &Way<'_>,
     from: usize,
@@ -60,7 +60,7 @@ fn give_step<R: Region>(
         (words_in R.memory region.now) }
     requires more { at.depth < length ((job_of touched.now).way way.now.index) }
     requires block { at.block ≡ block_on plan.old (front (job_of touched.now) way.now.index at.depth) }
-    requires kept { TellsKept plan.kept plan.old frozen.now }
+    requires snapshot { TellsSnapshot plan.in_snapshot plan.old snapshot_blocks.now }
     ensures back { IsBack (planned plan touched.now) from way.now.index (at.depth + 1) plan.free_after (has blocks.new) }
     ensures block { result ≡ block_on plan.old (front (job_of touched.now) way.now.index (at.depth + 1)) }
     ensures size { length blocks.new ≡ length blocks.old }
@@ -69,16 +69,16 @@ fn give_step<R: Region>(
     let pointer = load_slot(region, at.block as u64, touched.slot(way, at.depth) as u64);
     let next = pm_words::block_of(pointer) as u32;
     if next != 0 && is_new(touched, way, at.depth + 1) {
-        give_loose(blocks, frozen, next);
+        give_loose(blocks, snapshot_blocks, next);
     }
     next
 }
 
-/// Frees the old blocks on a way that are not kept and that no earlier way freed.
+/// Frees the old blocks on a way that are not in the snapshot and that no earlier way freed.
 fn give_way<R: Region>(
     region: &R,
     blocks: &mut Blocks,
-    frozen: &Blocks,
+    snapshot_blocks: &Blocks,
     touched: &Touched<'_>,
     way: &Way<'_>,
     from: usize,
@@ -89,7 +89,7 @@ fn give_way<R: Region>(
     requires is_way { IsWay touched.now way.now }
     requires can { CanGive (planned plan touched.now) from way.now.index from blocks.old (words_in R.memory region.now) }
     requires top { top ≡ block_on plan.old (front (job_of touched.now) 0 from) }
-    requires kept { TellsKept plan.kept plan.old frozen.now }
+    requires snapshot { TellsSnapshot plan.in_snapshot plan.old snapshot_blocks.now }
     ensures back { IsBack (planned plan touched.now) from (way.now.index + 1) from plan.free_after (has blocks.new) }
     ensures size { length blocks.new ≡ length blocks.old }
 {
@@ -97,15 +97,16 @@ fn give_way<R: Region>(
     let mut block = top;
     for depth in from..end {
         let at = OldBlock { depth, block };
-        block = give_step(region, blocks, frozen, touched, way, from, at);
+        block = give_step(region, blocks, snapshot_blocks, touched, way, from, at);
     }
 }
 
-/// Frees the old blocks on all ways that are not kept. `top` is the block to which the cover's pointer led before.
-pub(crate) fn give_back<R: Region>(
+/// Frees the old blocks on all ways that are not in the snapshot. `top` is the block to which the cover's pointer led
+/// before.
+pub(crate) fn free_replaced<R: Region>(
     region: &R,
     blocks: &mut Blocks,
-    frozen: &Blocks,
+    snapshot_blocks: &Blocks,
     touched: &Touched<'_>,
     shared: &Shared,
     from: usize,
@@ -117,14 +118,14 @@ pub(crate) fn give_back<R: Region>(
     requires taken { plan.free_after ≡ has blocks.old }
     requires top { top ≡ block_on plan.old (front (job_of touched.now) 0 from) }
     requires fits { block_count plan.old ≤ length blocks.old }
-    requires kept { TellsKept plan.kept plan.old frozen.now }
+    requires snapshot { TellsSnapshot plan.in_snapshot plan.old snapshot_blocks.now }
     requires shared { AreShared touched.now shared.now }
     ensures back { IsBack (planned plan touched.now) from (ways (job_of touched.now)) from plan.free_after (has blocks.new) }
     ensures size { length blocks.new ≡ length blocks.old }
 {
     let ways = touched.ways(&shared.ends);
     if top != 0 {
-        give_loose(blocks, frozen, top);
+        give_loose(blocks, snapshot_blocks, top);
     }
     for i in 0..ways {
         if touched.adds_no_block(i, shared) {
@@ -133,7 +134,7 @@ pub(crate) fn give_back<R: Region>(
         give_way(
             region,
             blocks,
-            frozen,
+            snapshot_blocks,
             touched,
             &touched.way(i, shared),
             from,

@@ -79,10 +79,10 @@ pub fn commits_are_told_on_trees(old: &[u64], new: &[u64], touched: &Touched<'_>
 pub fn a_word_or_runs_can_be_committed(image: &[u64], touched: &Touched<'_>)
     requires well_formed { IsWellFormed image.now }
     requires touched { IsTouched touched.now }
-    ensures word { (kept free : ℕ → Bool) (t k : ℕ) → AreFreeBlocks image.now kept free →
-        CanCommitWord image.now kept touched.now free t k }
-    ensures runs { (kept free : ℕ → Bool) → AreFreeBlocks image.now kept free →
-        CanCommitRuns image.now kept touched.now free }
+    ensures word { (in_snapshot free : ℕ → Bool) (t k : ℕ) → AreFreeBlocks image.now in_snapshot free →
+        CanCommitWord image.now in_snapshot touched.now free t k }
+    ensures runs { (in_snapshot free : ℕ → Bool) → AreFreeBlocks image.now in_snapshot free →
+        CanCommitRuns image.now in_snapshot touched.now free }
 {}
 
 /// States that the tree of a reachable inode, and the inode file, can be given with its size in the image. The same

@@ -17,13 +17,13 @@ use pm_region::Region;
 /// Whether some path below directory `i` has more than `left` bytes. It allocates no memory, and descends no further
 /// than there are bytes left.
 #[cycle(depth)]
-pub(crate) fn has_long_path<R: Region>(region: &R, i: u32, left: usize) -> bool
+pub(crate) fn has_long_path<R: Region>(region: &R, ino: u32, left: usize) -> bool
     requires well_formed { IsWellFormed (words_in R.memory region.now) }
-    requires reached { IsReached (words_in R.memory region.now) i }
-    requires directory { IsDirectory (words_in R.memory region.now) i }
-    ensures { IsTrue result ↔ HasLongPath (words_in R.memory region.now) i left }
+    requires reached { IsReached (words_in R.memory region.now) ino }
+    requires directory { IsDirectory (words_in R.memory region.now) ino }
+    ensures { IsTrue result ↔ HasLongPath (words_in R.memory region.now) ino left }
 {
-    let tree = tree_of(region, i);
+    let tree = tree_of(region, ino);
     for leaf in 0..leaf_count(tree) {
         if let Some(words) = entry_row(region, tree, leaf) {
             if has_long_entry(region, words, left) {

@@ -57,14 +57,14 @@ fn name_in(bytes: &[u8], row: Row) -> &[u8]
 }
 
 /// Collects the entries of directory `i` that are not empty, in the order of their slots.
-fn entries_of<R: Region>(alloc: Global, region: &R, i: u32) -> Result<Entries, AllocError>
+fn entries_of<R: Region>(alloc: Global, region: &R, ino: u32) -> Result<Entries, AllocError>
     requires well_formed { IsWellFormed (words_in R.memory region.now) }
-    requires reached { IsReached (words_in R.memory region.now) i }
-    requires directory { IsDirectory (words_in R.memory region.now) i }
+    requires reached { IsReached (words_in R.memory region.now) ino }
+    requires directory { IsDirectory (words_in R.memory region.now) ino }
     ensures { let image = words_in R.memory region.now in
-        IfOk result (λ entries. entries ≡ entries_named image i 0 (entry_count image i)) }
+        IfOk result (λ entries. entries ≡ entries_named image ino 0 (entry_count image ino)) }
 {
-    let tree = tree_of(region, i);
+    let tree = tree_of(region, ino);
     let mut entries = Entries::with_capacity(alloc, count(region, tree) as usize)?;
     for leaf in 0..leaf_count(tree) {
         if let Some(words) = entry_row(region, tree, leaf) {
@@ -80,13 +80,13 @@ impl Entries {
     /// # Errors
     ///
     /// * `AllocError`: allocation fails.
-    pub(crate) fn of<R: Region>(alloc: Global, region: &R, i: u32) -> Result<Entries, AllocError>
+    pub(crate) fn of<R: Region>(alloc: Global, region: &R, ino: u32) -> Result<Entries, AllocError>
         requires well_formed { IsWellFormed (words_in R.memory region.now) }
-        requires reached { IsReached (words_in R.memory region.now) i }
-        requires directory { IsDirectory (words_in R.memory region.now) i }
-        ensures { IfOk result (λ entries. AreEntries (words_in R.memory region.now) i entries) }
+        requires reached { IsReached (words_in R.memory region.now) ino }
+        requires directory { IsDirectory (words_in R.memory region.now) ino }
+        ensures { IfOk result (λ entries. AreEntries (words_in R.memory region.now) ino entries) }
     {
-        let mut entries = entries_of(alloc, region, i)?;
+        let mut entries = entries_of(alloc, region, ino)?;
         entries.sort();
         Ok(entries)
     }
@@ -126,14 +126,14 @@ impl Entries {
     }
 
     /// Appends a name of at most 240 bytes.
-    fn push(&mut self, inode: u32, name: &[u8]) -> Result<(), AllocError>
+    fn push(&mut self, ino: u32, name: &[u8]) -> Result<(), AllocError>
         requires { length name.now ≤ max_name }
-        ensures { OnOk result (self.new ≡ self.old ++ (inode, name.now) ∷ []) }
+        ensures { OnOk result (self.new ≡ self.old ++ (ino, name.now) ∷ []) }
     {
         let first = self.bytes.len();
         self.bytes.extend_from_slice(name)?;
         self.rows.push(Row {
-            inode,
+            inode: ino,
             first,
             len: name.len(),
         })?;

@@ -44,14 +44,22 @@ fn export_stretch<R: Region, K: Sink>(
         result replies.old (K.view out.old) replies.new (K.view out.new) }
     ensures room { length block.new ≡ block_size }
 {
-    let off = BLOCK_SIZE * leaf;
-    let count = read(region, tree, off, block);
+    let offset = BLOCK_SIZE * leaf;
+    let count = read(region, tree, offset, block);
     let bytes = &block[..count];
     if are_zeros(bytes) {
         return Ok(None);
     }
-    tell(Call::Write { path, off, bytes }, replies, out)?;
-    Ok(Some(off + count as u64))
+    tell(
+        Call::Write {
+            path,
+            offset,
+            bytes,
+        },
+        replies,
+        out,
+    )?;
+    Ok(Some(offset + count as u64))
 }
 
 /// Writes the lines for the stretches of a file that are not all zeros, and returns where the last of them ends. A

@@ -23,10 +23,10 @@ impl Firsts {
     }
 
     /// Returns the text for the number of an inode.
-    pub(crate) fn get(&self, i: u32) -> Option<&[u8]>
-        ensures { MatchOption result (first_text self.now i ≡ None) (λ text. first_text self.now i ≡ Some text.now) }
+    pub(crate) fn get(&self, ino: u32) -> Option<&[u8]>
+        ensures { MatchOption result (first_text self.now ino ≡ None) (λ text. first_text self.now ino ≡ Some text.now) }
     {
-        match self.texts.get(&i) {
+        match self.texts.get(&ino) {
             Some(text) => Some(text.as_slice()),
             None => None,
         }
@@ -37,11 +37,11 @@ impl Firsts {
     /// # Errors
     ///
     /// * `AllocError`: allocation fails.
-    pub(crate) fn add(&mut self, alloc: Global, i: u32, text: &[u8]) -> Result<(), AllocError>
-        ensures { OnOk result ((j : ℕ) → first_text self.new j ≡ (if j == i then Some text.now else first_text self.old j)) }
+    pub(crate) fn add(&mut self, alloc: Global, ino: u32, text: &[u8]) -> Result<(), AllocError>
+        ensures { OnOk result ((j : ℕ) → first_text self.new j ≡ (if j == ino then Some text.now else first_text self.old j)) }
     {
         let copy = Vec::from_slice(alloc, text)?;
-        match self.texts.insert(i, copy) {
+        match self.texts.insert(ino, copy) {
             Ok(_) => Ok(()),
             Err(_) => Err(AllocError),
         }

@@ -80,29 +80,29 @@ fn export_new<R: Region, K: Sink>(
 fn export_name<R: Region, K: Sink>(
     alloc: Global,
     region: &R,
-    i: u32,
+    ino: u32,
     tree: Tree,
     counts: &Counts,
     work: &mut Work,
     out: &mut K,
 ) -> Result<(), Fault>
     requires well_formed { IsWellFormed (words_in R.memory region.now) }
-    requires file { IsFile (words_in R.memory region.now) i }
-    requires root { tree.root ≡ root_of (words_in R.memory region.now) i }
-    requires size { tree.size ≡ size_of (words_in R.memory region.now) i }
+    requires file { IsFile (words_in R.memory region.now) ino }
+    requires root { tree.root ≡ root_of (words_in R.memory region.now) ino }
+    requires size { tree.size ≡ size_of (words_in R.memory region.now) ino }
     requires counts { AreCounts (words_in R.memory region.now) counts.now }
     requires inodes { length counts.now ≡ block_inodes * block_count (words_in R.memory region.now) }
     requires below { 1 ≤ length work.old.path.items }
     requires stands { let words = words_in R.memory region.now in
-        (place : Place) × StandsHeld words counts.now (itself words i) i work.old place }
-    ensures tours { ToursItself (words_in R.memory region.now) counts.now i result
+        (place : Place) × StandsHeld words counts.now (itself words ino) ino work.old place }
+    ensures tours { ToursItself (words_in R.memory region.now) counts.now ino result
         work.old (K.view out.old) work.new (K.view out.new) }
     ensures path { work.new.path.items ≡ work.old.path.items }
 {
-    if counts.names(i) <= 1 {
+    if counts.names(ino) <= 1 {
         return export_new(region, tree, work, out);
     }
-    if let Some(first) = work.firsts.get(i) {
+    if let Some(first) = work.firsts.get(ino) {
         let call = Call::Link {
             from: first,
             to: &work.path,
@@ -110,7 +110,7 @@ fn export_name<R: Region, K: Sink>(
         tell(call, &mut work.replies, out)?;
         return Ok(());
     }
-    work.firsts.add(alloc, i, &work.path)?;
+    work.firsts.add(alloc, ino, &work.path)?;
     export_new(region, tree, work, out)
 }
 
@@ -122,7 +122,7 @@ fn export_name<R: Region, K: Sink>(
 fn export_entry<R: Region, K: Sink>(
     alloc: Global,
     region: &R,
-    i: u32,
+    ino: u32,
     counts: &Counts,
     work: &mut Work,
     out: &mut K,
@@ -132,15 +132,15 @@ fn export_entry<R: Region, K: Sink>(
     requires inodes { length counts.now ≡ block_inodes * block_count (words_in R.memory region.now) }
     requires below { 1 ≤ length work.old.path.items }
     requires stands { let words = words_in R.memory region.now in
-        (place : Place) × StandsHeld words counts.now (itself words i) i work.old place }
-    ensures tours { ToursItself (words_in R.memory region.now) counts.now i result
+        (place : Place) × StandsHeld words counts.now (itself words ino) ino work.old place }
+    ensures tours { ToursItself (words_in R.memory region.now) counts.now ino result
         work.old (K.view out.old) work.new (K.view out.new) }
-    ensures kind { IfOk result (λ kind. kind_word kind ≡ kind_of (words_in R.memory region.now) i) }
+    ensures kind { IfOk result (λ kind. kind_word kind ≡ kind_of (words_in R.memory region.now) ino) }
     ensures path { work.new.path.items ≡ work.old.path.items }
 {
-    let inode = get(region, i);
+    let inode = get(region, ino);
     match inode.kind {
-        Kind::File => export_name(alloc, region, i, Tree::of(&inode), counts, work, out)?,
+        Kind::File => export_name(alloc, region, ino, Tree::of(&inode), counts, work, out)?,
         Kind::Dir => tell(Call::Mkdir(&work.path), &mut work.replies, out)?,
     }
     Ok(inode.kind)
@@ -155,21 +155,21 @@ fn export_entry<R: Region, K: Sink>(
 fn export_below<R: Region, K: Sink>(
     alloc: Global,
     region: &R,
-    i: u32,
+    ino: u32,
     counts: &Counts,
     work: &mut Work,
     out: &mut K,
 ) -> Result<(), Fault>
     requires well_formed { IsWellFormed (words_in R.memory region.now) }
-    requires directory { IsDirectory (words_in R.memory region.now) i }
+    requires directory { IsDirectory (words_in R.memory region.now) ino }
     requires counts { AreCounts (words_in R.memory region.now) counts.now }
     requires inodes { length counts.now ≡ block_inodes * block_count (words_in R.memory region.now) }
-    requires stands { (place : Place) × StandsHeld (words_in R.memory region.now) counts.now inside i work.old place }
-    ensures tours { ToursHeld (words_in R.memory region.now) counts.now inside i result
+    requires stands { (place : Place) × StandsHeld (words_in R.memory region.now) counts.now inside ino work.old place }
+    ensures tours { ToursHeld (words_in R.memory region.now) counts.now inside ino result
         work.old (K.view out.old) work.new (K.view out.new) }
     ensures path { OnOk result (work.new.path.items ≡ work.old.path.items) }
 {
-    let entries = Entries::of(alloc, region, i)?;
+    let entries = Entries::of(alloc, region, ino)?;
     let here = work.path.len();
     for k in 0..entries.len() {
         let (inode, name) = entries.at(k);

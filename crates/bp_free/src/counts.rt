@@ -35,19 +35,19 @@ impl Counts {
     }
 
     /// Returns the number of names of an inode.
-    pub fn names(&self, i: u32) -> u32
-        requires { i < length self.now }
-        ensures { result ≡ slice_index self.now i }
+    pub fn names(&self, ino: u32) -> u32
+        requires { ino < length self.now }
+        ensures { result ≡ slice_index self.now ino }
     {
-        self.names.get(i as usize)
+        self.names.get(ino as usize)
     }
 
     /// Sets the number of names of an inode.
-    pub fn set(&mut self, i: u32, names: u32)
-        requires { i < length self.old }
-        ensures { self.new ≡ slice_set self.old i names }
+    pub fn set(&mut self, ino: u32, names: u32)
+        requires { ino < length self.old }
+        ensures { self.new ≡ slice_set self.old ino names }
     {
-        self.names.set(i as usize, names);
+        self.names.set(ino as usize, names);
     }
 
     /// Sets the number of names of each inode to 0.

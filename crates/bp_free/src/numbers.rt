@@ -213,7 +213,7 @@ impl<K: Kind> Numbers<K> {
     }
 
     /// Removes the least number of a set that is not empty, and returns it.
-    pub fn take_least(&mut self) -> u32
+    pub fn alloc_lowest(&mut self) -> u32
         requires { 0 < length (members self.old) }
         ensures { TakesLeast self.old self.new result }
     {
@@ -386,7 +386,7 @@ impl Numbers<BlockNumbers> {
     ///
     /// Otherwise the result is a block near the last one that was chosen so. It is not the least one, since exactly
     /// the blocks that were freed last are older versions of others. The search looks at [`NEAR`] numbers at most, and
-    /// then continues as [`Numbers::take_least`]. A set that was made by [`Numbers::new`] has no hints.
+    /// then continues as [`Numbers::alloc_lowest`]. A set that was made by [`Numbers::new`] has no hints.
     pub fn take_in_place_of(&mut self, block: u64) -> u32
         requires { 0 < length (members self.old) }
         ensures { TakesOne self.old self.new result }
@@ -442,7 +442,7 @@ impl Numbers<BlockNumbers> {
                 self.claim(near);
                 near
             }
-            None => self.take_least(),
+            None => self.alloc_lowest(),
         }
     }
 

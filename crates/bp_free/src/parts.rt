@@ -10,13 +10,13 @@ pub struct Parts<R> {
     /// The words.
     pub region: R,
     /// The blocks that belong to no tree and not to the snapshot.
-    pub blocks: Blocks,
+    pub free_blocks: Blocks,
     /// The inodes that no path reaches.
-    pub inodes: Inodes,
+    pub free_inodes: Inodes,
     /// The number of names of each inode.
-    pub counts: Counts,
+    pub link_counts: Counts,
     /// The blocks of the snapshot: no call stores to them or frees them.
-    pub frozen: Blocks,
+    pub snapshot_blocks: Blocks,
 }
 
 /// Error: fewer blocks are free than a call needs.

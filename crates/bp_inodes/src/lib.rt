@@ -41,35 +41,35 @@ pub fn inode_file<R: Region>(region: &R) -> Tree
 }
 
 /// Returns inode number `i`.
-pub fn get<R: Region>(region: &R, i: u32) -> Inode
+pub fn get<R: Region>(region: &R, ino: u32) -> Inode
     requires sound { let words = words_in R.memory region.now in IsSound words (root_of words 0) (size_of words 0) }
-    requires some { 1 ≤ i }
-    requires there { i < inode_count (words_in R.memory region.now) }
-    requires least { 1 ≤ kind_of (words_in R.memory region.now) i }
-    requires most { kind_of (words_in R.memory region.now) i ≤ 2 }
-    ensures kind { kind_word result.kind ≡ kind_of (words_in R.memory region.now) i }
-    ensures root { result.root ≡ root_of (words_in R.memory region.now) i }
-    ensures size { result.size ≡ size_of (words_in R.memory region.now) i }
+    requires some { 1 ≤ ino }
+    requires there { ino < inode_count (words_in R.memory region.now) }
+    requires least { 1 ≤ kind_of (words_in R.memory region.now) ino }
+    requires most { kind_of (words_in R.memory region.now) ino ≤ 2 }
+    ensures kind { kind_word result.kind ≡ kind_of (words_in R.memory region.now) ino }
+    ensures root { result.root ≡ root_of (words_in R.memory region.now) ino }
+    ensures size { result.size ≡ size_of (words_in R.memory region.now) ino }
 {
     let inodes = inode_file(region);
-    let block = leaf_block(region, inodes, (i / BLOCK_INODES) as u64);
+    let block = leaf_block(region, inodes, (ino / BLOCK_INODES) as u64);
     // An existing inode is in a block, and word numbers have 32 bits, so its place fits.
     let _words = region.words();
-    let first = BLOCK_WORDS * block + INODE_WORDS * (i % BLOCK_INODES) as u64;
+    let first = BLOCK_WORDS * block + INODE_WORDS * (ino % BLOCK_INODES) as u64;
     let words = region.load_words(first, 3);
     Inode::read(&[words[0], words[1], words[2]])
 }
 
 /// Returns the place in the region of a word of an inode.
-pub fn place<R: Region>(region: &R, i: u32, field: u64) -> u64
+pub fn place<R: Region>(region: &R, ino: u32, field: u64) -> u64
     requires sound { let words = words_in R.memory region.now in IsSound words (root_of words 0) (size_of words 0) }
     requires full { let words = words_in R.memory region.now in IsFull words (root_of words 0) (size_of words 0) }
-    requires there { i < inode_count (words_in R.memory region.now) }
+    requires there { ino < inode_count (words_in R.memory region.now) }
     requires field { field < inode_words }
-    ensures place { ContentStandsAt (words_in R.memory region.now) 0 (inode_words * i + field) result }
+    ensures place { ContentStandsAt (words_in R.memory region.now) 0 (inode_words * ino + field) result }
     ensures in_range { result < length (words_in R.memory region.now) }
 {
-    content_place(region, inode_file(region), INODE_WORDS * i as u64 + field)
+    content_place(region, inode_file(region), INODE_WORDS * ino as u64 + field)
 }
 
 /// Makes the inode at a place of the region a file or a directory without bytes.
@@ -87,46 +87,46 @@ fn put<R: Region>(region: &mut R, place: u64, kind: Kind)
 }
 
 /// Makes an unreachable inode a file or a directory without bytes, by stores to its words only.
-pub fn fill<R: Region>(region: &mut R, i: u32, kind: Kind)
+pub fn fill<R: Region>(region: &mut R, ino: u32, kind: Kind)
     requires well_formed { IsWellFormed (words_in R.memory region.old) }
-    requires free { IsFreeInode (words_in R.memory region.old) i }
+    requires free { IsFreeInode (words_in R.memory region.old) ino }
     requires room { 3 ≤ room_in (R.memory region.old) }
-    ensures { FillsInode (R.memory region.old) (R.memory region.new) i (kind_word kind) }
+    ensures { FillsInode (R.memory region.old) (R.memory region.new) ino (kind_word kind) }
 {
-    let at = place(region, i, 0);
+    let at = place(region, ino, 0);
     put(region, at, kind);
 }
 
 /// Returns the tree of an inode.
-pub fn tree_of<R: Region>(region: &R, i: u32) -> Tree
+pub fn tree_of<R: Region>(region: &R, ino: u32) -> Tree
     requires well_formed { IsWellFormed (words_in R.memory region.now) }
-    requires reached { IsReached (words_in R.memory region.now) i }
-    requires some { 1 ≤ i }
-    ensures root { result.root ≡ root_of (words_in R.memory region.now) i }
-    ensures size { result.size ≡ size_of (words_in R.memory region.now) i }
+    requires reached { IsReached (words_in R.memory region.now) ino }
+    requires some { 1 ≤ ino }
+    ensures root { result.root ≡ root_of (words_in R.memory region.now) ino }
+    ensures size { result.size ≡ size_of (words_in R.memory region.now) ino }
 {
-    let inode = get(region, i);
+    let inode = get(region, ino);
     Tree::of(&inode)
 }
 
 /// Returns the path of the root word of an inode.
-pub fn root_path<R: Region>(region: &R, i: u32) -> Slots
+pub fn root_path<R: Region>(region: &R, ino: u32) -> Slots
     requires { 4 ≤ length (words_in R.memory region.now) }
-    ensures { result.items ≡ inode_path (height_of (root_of (words_in R.memory region.now) 0)) i 1 }
+    ensures { result.items ≡ inode_path (height_of (root_of (words_in R.memory region.now) 0)) ino 1 }
 {
     word_path(
         inode_file(region),
-        INODE_SIZE * u64::from(i) + WORD_SIZE * ROOT_FIELD,
+        INODE_SIZE * u64::from(ino) + WORD_SIZE * ROOT_FIELD,
     )
 }
 
 /// Returns the path of the size word of an inode.
-pub fn size_path<R: Region>(region: &R, i: u32) -> Slots
+pub fn size_path<R: Region>(region: &R, ino: u32) -> Slots
     requires { 4 ≤ length (words_in R.memory region.now) }
-    ensures { result.items ≡ inode_path (height_of (root_of (words_in R.memory region.now) 0)) i 2 }
+    ensures { result.items ≡ inode_path (height_of (root_of (words_in R.memory region.now) 0)) ino 2 }
 {
     word_path(
         inode_file(region),
-        INODE_SIZE * u64::from(i) + WORD_SIZE * SIZE_FIELD,
+        INODE_SIZE * u64::from(ino) + WORD_SIZE * SIZE_FIELD,
     )
 }

@@ -7,7 +7,7 @@ ghost use Rattle.bp_limits.specs.Limits.{block_size};
 use crate::faults::SystemFaults;
 use crate::opening::open;
 use crate::saving::Saver;
-use crate::second_file::Names;
+use crate::temp_file::Names;
 use crate::{Access, BLOCK, Failed, files};
 use bp_limits::BLOCK_SIZE;
 use std::alloc::{AllocError, Global};

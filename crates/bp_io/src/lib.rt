@@ -13,9 +13,9 @@ mod mem_files;
 mod memory_streams;
 mod opening;
 mod saving;
-mod second_file;
 mod std_streams;
 mod streams;
+mod temp_file;
 mod window;
 
 pub use access::Access;

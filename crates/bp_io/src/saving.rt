@@ -4,7 +4,7 @@ ghost use Rattle.std.specs.Prelude.{◌≡◌, ◌<◌, ◌+◌, ◌^◌, is_som
 
 use crate::held::HeldBlocks;
 use crate::opening::{check_length, lock};
-use crate::second_file::{Names, SecondFile, Waiting, fill_in_place, has_room, lacks_room};
+use crate::temp_file::{Names, TempFile, Waiting, fill_in_place, has_room, lacks_room};
 use crate::window::Window;
 use crate::{Access, BLOCK};
 use bp_limits::BLOCK_SIZE;
@@ -20,7 +20,7 @@ enum Way {
     /// Nothing was written since the last flush.
     Clean,
     /// By a second file, which takes the place of the attached one at the flush.
-    Beside(SecondFile),
+    Beside(TempFile),
     /// By writing the attached file itself.
     InPlace,
     /// Not at all: a call failed, and what was written since the last flush is lost, or a part of it.
@@ -67,7 +67,7 @@ fn way_to<R: rt::Files<File = File>>(
     let Some(names) = names else {
         return Ok(Way::InPlace);
     };
-    match SecondFile::new(runtime, names, file, waiting, held) {
+    match TempFile::new(runtime, names, file, waiting, held) {
         Ok(second) => Ok(Way::Beside(second)),
         // Another process is writing, or no write reaches the end of the file.
         Err(e) if matches!(e.kind(), ErrorKind::ResourceBusy | ErrorKind::FileTooLarge) => Err(e),

@@ -10,11 +10,11 @@ use Rattle.bp_layout.specs.Reached.IsReached.{inode_file, root_directory, named}
 use Rattle.bp_layout.specs.WellFormed.{IsWellFormed}
 use Rattle.bp_layout.specs.Trees.{has_snapshot}
 use Rattle.bp_layout.specs.Whole.{IsFileSystem}
-use Rattle.bp_layout.proofs.NoSecond.{alone_file_system, has_none}
+use Rattle.bp_layout.proofs.NoSnapshot.{alone_file_system, has_none}
 use Rattle.bp_limits.specs.declared.version.Version.{Version}
 use Rattle.bp_limits.specs.declared.version.Version.TheVariants.{One, Two}
 use Rattle.bp_limits.specs.Limits.{greatest_height, magic, max_blocks, version_at}
-use Rattle.bp_limits.proofs.Versions.{version_marked}
+use Rattle.bp_limits.proofs.Versions.{version_of_magic}
 use Rattle.bp_layout.specs.Formatted.{version_of}
 use Rattle.bp_layout.specs.Lookup.{shown}
 use Rattle.bp_layout.specs.Paths.Node.{dir}
@@ -24,7 +24,7 @@ use Rattle.bp_layout.proofs.SmallTrees.{none_live, empty_sound, empty_has_none, 
 
 -- what the words of a format say, for any image that has them
 pub record HasFormat (image : Image) (version : Version) : Type 0 where
-  pub marked : word image 0 ≡ magic version
+  pub has_magic : word image 0 ≡ magic version
   pub counted : word image 1 ≡ block_count image
   pub root : word image 2 ≡ 4096
   pub size : word image 3 ≡ 4096
@@ -42,7 +42,7 @@ formatted_words image One blocks whole least =
     let stored = λ (place : ℕ). word-after_stores image (format_stores One blocks) place within in
     let number : blocks ≡ block_count (formatted image One blocks) = omega (arith, same) in
     record {
-      marked = stored 0;
+      has_magic = stored 0;
       counted = stored 1 ∙ number;
       root = stored 2;
       size = stored 3;
@@ -59,7 +59,7 @@ formatted_words image Two blocks whole least =
     let stored = λ (place : ℕ). word-after_stores image (format_stores Two blocks) place within in
     let number : blocks ≡ block_count (formatted image Two blocks) = omega (arith, same) in
     record {
-      marked = stored 0;
+      has_magic = stored 0;
       counted = stored 1 ∙ number;
       root = stored 2;
       size = stored 3;
@@ -72,7 +72,7 @@ formatted_words image Two blocks whole least =
 
 module _ (image : Image) (version : Version) (has : HasFormat image version) where
   pub version-is : version_of image ≡ version
-  version-is = ap version_at has.marked ∙ version_marked version
+  version-is = ap version_at has.has_magic ∙ version_of_magic version
 
   inode_file_root : root_of image 0 ≡ 4096
   inode_file_root = has.root
@@ -151,7 +151,7 @@ module _ (image : Image) (version : Version) (has : HasFormat image version) whe
   format_well_formed whole least most = record {
     formatted = record {
       sized = record { whole = whole; at_least = least; at_most = most };
-      marked = has.marked ∙ ap magic (sym version-is);
+      has_magic = has.has_magic ∙ ap magic (sym version-is);
       counted = has.counted;
     };
     low = low_root;
@@ -180,7 +180,7 @@ module _ (image : Image) (version : Version) (has : HasFormat image version) whe
   shows_no_name : (name : Name) (path : Path) → shown image (name ∷ path) ≡ None
   shows_no_name name path = rw (finds_none name) refl
 
--- a format over any words has the mark of its version
+-- a format over any words has the magic number of its version
 pub formatted_version : (image : Image) (version : Version) (blocks : ℕ) → length image ≡ 512 * blocks → 8 ≤ blocks → version_of (formatted image version blocks) ≡ version
 formatted_version image version blocks whole least = version-is (formatted image version blocks) version (formatted_words image version blocks whole least)
 

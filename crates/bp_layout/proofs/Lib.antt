@@ -17,7 +17,7 @@ pub mod OncePointer
 pub mod ChecksSuffice
 pub mod TreeImages
 pub mod BothTrees
-pub mod NoSecond
+pub mod NoSnapshot
 pub mod Format
 pub mod Upgrade
 pub mod FewLeaves

@@ -1,4 +1,5 @@
--- Where no block is kept there is nothing to thaw. And where a thaw left nothing to thaw, all ways are loose.
+-- Where no block is in the snapshot there is nothing to thaw. And where a thaw left nothing to thaw, all ways are
+-- loose.
 use Rattle.std.proofs.Common.{◌≡◌, ◌⊎◌, ℕ, zero, suc, ◌+◌, ◌-◌, ◌<◌, ◌≤◌, List, [], ◌∷◌, length, take, map, filter, Bool, true, false, not, ◌&&◌, ◌||◌, nat_lt, refl, sym, ◌∙◌, ap, subst, arith, inl, inr}
 use Rattle.std.specs.List.{list_any, range_with_len}
 use Rattle.std.specs.Str.{bytes_eq}
@@ -8,22 +9,22 @@ use Rattle.bp_layout.specs.Members.{Has}
 use Rattle.bp_layout.proofs.MemberLaws.{has-behind, has-filter, has-front, has-map, has-range}
 use Rattle.bp_layout.specs.Words.{Image}
 use Rattle.bp_layout.specs.Need.{Change, need, prefixes_from}
-use Rattle.bp_layout.specs.Thaw.{IsLoose, fronts_of, full_need, is_front, is_kept_at, is_there_now, none_kept, targets, thawed, thawed_on}
+use Rattle.bp_layout.specs.Thaw.{IsLoose, fronts_of, full_need, is_front, is_in_snapshot_at, is_there_now, none_in_snapshot, targets, thawed, thawed_on}
 use Rattle.bp_layout.specs.WordPaths.{WordPath}
 
 with_false : (b : Bool) → (b && false) ≡ false
 with_false true = refl
 with_false false = refl
 
-none_at : (image : Image) (paths : List WordPath) → filter (is_kept_at image none_kept) paths ≡ []
+none_at : (image : Image) (paths : List WordPath) → filter (is_in_snapshot_at image none_in_snapshot) paths ≡ []
 none_at image [] = refl
 none_at image (path ∷ paths) = rw (with_false (is_there_now image path)) (none_at image paths)
 
-pub thawed-none : (image : Image) (change : Change) → thawed image none_kept change ≡ []
+pub thawed-none : (image : Image) (change : Change) → thawed image none_in_snapshot change ≡ []
 thawed-none image change = none_at image (fronts_of [] (targets image change))
 
-pub full_need-none : (image : Image) (change : Change) → full_need image none_kept change ≡ need image change
-full_need-none image change = let none : length (thawed image none_kept change) ≡ 0 = ap length (thawed-none image change) in omega (arith, none)
+pub full_need-none : (image : Image) (change : Change) → full_need image none_in_snapshot change ≡ need image change
+full_need-none image change = let none : length (thawed image none_in_snapshot change) ≡ 0 = ap length (thawed-none image change) in omega (arith, none)
 
 -- ---- the fronts of paths
 
@@ -74,19 +75,19 @@ filter_none p xs x none has = go (p x) refl
     go false is = is
     go true is = absurd (subst (λ ys. Has ys x) none (has-filter p xs x has is))
 
--- nothing on these ways is kept: so each way is loose
-pub loose-on : (image : Image) (kept : ℕ → Bool) (paths : List WordPath) → thawed_on image kept paths ≡ [] → (path : WordPath) → Has paths path → (shortest : ℕ) → IsLoose image kept shortest path
-loose-on image kept paths clear path has shortest = go shortest (length path - shortest) (elim (cases_lt shortest (length path)) [ inl less ↦ inr (omega (arith, less)) | inr over ↦ inl (omega (arith, over)) ])
+-- nothing on these ways is in the snapshot: so each way is loose
+pub loose-on : (image : Image) (in_snapshot : ℕ → Bool) (paths : List WordPath) → thawed_on image in_snapshot paths ≡ [] → (path : WordPath) → Has paths path → (shortest : ℕ) → IsLoose image in_snapshot shortest path
+loose-on image in_snapshot paths clear path has shortest = go shortest (length path - shortest) (elim (cases_lt shortest (length path)) [ inl less ↦ inr (omega (arith, less)) | inr over ↦ inl (omega (arith, over)) ])
   where
-    at : (n : ℕ) → n < length path → is_kept_at image kept (take n path) ≡ false
+    at : (n : ℕ) → n < length path → is_in_snapshot_at image in_snapshot (take n path) ≡ false
     at n low =
         let among : Has (prefixes_from 0 path) (take n path) = has-map (λ k. take k path) (range_with_len 0 (length path - 0)) n (has-range 0 (length path - 0) n (omega arith) (omega (arith, low))) in
         elim (fronts-have [] paths path (take n path) has among) [
           | inl never ↦ absurd (cc)
-          | inr some ↦ filter_none (is_kept_at image kept) (fronts_of [] paths) (take n path) clear some
+          | inr some ↦ filter_none (is_in_snapshot_at image in_snapshot) (fronts_of [] paths) (take n path) clear some
         ]
 
-    go : (a n : ℕ) → (n ≡ 0) ⊎ (a + n ≤ length path) → filter (is_kept_at image kept) (map (λ k. take k path) (range_with_len a n)) ≡ []
+    go : (a n : ℕ) → (n ≡ 0) ⊎ (a + n ≤ length path) → filter (is_in_snapshot_at image in_snapshot) (map (λ k. take k path) (range_with_len a n)) ≡ []
     go a zero within = refl
     go a (suc n) (inl none) = absurd (omega (arith, none))
     go a (suc n) (inr within) = rw (at a (omega (arith, within))) (go (a + 1) n (inr (omega (arith, within))))

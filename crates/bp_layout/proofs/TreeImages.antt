@@ -36,6 +36,6 @@ snapshot-sized image sized = record {
 pub snapshot-formatted : (image : Image) → IsFormatted image → IsFormatted (snapshot_of image)
 snapshot-formatted image formatted = record {
   sized = snapshot-sized image formatted.sized;
-  marked = snapshot-word image 0 (λ e. omega (arith, e)) (λ e. omega (arith, e)) ∙ formatted.marked ∙ ap magic (sym (snapshot-version image));
+  has_magic = snapshot-word image 0 (λ e. omega (arith, e)) (λ e. omega (arith, e)) ∙ formatted.has_magic ∙ ap magic (sym (snapshot-version image));
   counted = snapshot-word image 1 (λ e. omega (arith, e)) (λ e. omega (arith, e)) ∙ formatted.counted ∙ ap (λ n. n / 512) (sym (length-snapshot image));
 }

@@ -1,8 +1,8 @@
--- An upgrade: before its mark the image is what it was, and then one of version 2 that shows the same.
+-- An upgrade: before its magic number the image is what it was, and then one of version 2 that shows the same.
 use Rattle.std.proofs.Common.{◌≡◌, ℕ, ◌/◌, ◌≤◌, false, length, refl, sym, ◌∙◌, ap, arith, ne_eqb}
 use Rattle.bp_limits.specs.declared.version.Version.TheVariants.{One, Two}
 use Rattle.bp_limits.specs.Limits.{magic, version_at}
-use Rattle.bp_limits.proofs.Versions.{height_most, version_marked}
+use Rattle.bp_limits.proofs.Versions.{height_most, version_of_magic}
 use Rattle.bp_layout.specs.Words.{Image, word}
 use Rattle.bp_layout.specs.Format.{upgrade_stores, upgraded}
 use Rattle.bp_layout.specs.Formatted.{IsFormatted, version_of}
@@ -12,14 +12,14 @@ use Rattle.bp_layout.specs.Same.{Same}
 use Rattle.bp_layout.specs.WellFormed.{IsWellFormed}
 use Rattle.bp_layout.specs.Whole.{IsFileSystem, SameFiles}
 use Rattle.bp_layout.specs.Trees.{has_snapshot}
-use Rattle.bp_layout.proofs.NoSecond.{alone_file_system, first_has_none, has_none}
+use Rattle.bp_layout.proofs.NoSnapshot.{alone_file_system, first_has_none, has_none}
 use Rattle.bp_layout.proofs.BesideTrees.{SameTrees, still_well_formed, still_one, still_shown}
 use Rattle.bp_layout.proofs.LastValue.{AllWithinImage, last_value, length-after_stores, word-after_stores}
 
 -- in version 1 the words that version 2 keeps for a second inode file may be any
-module _ (old new : Image) (wf : IsWellFormed old) (same : SameTrees old new) (marked : word new 0 ≡ word old 0) (counted : word new 1 ≡ word old 1) (first : version_of old ≡ One) where
+module _ (old new : Image) (wf : IsWellFormed old) (same : SameTrees old new) (has_magic : word new 0 ≡ word old 0) (counted : word new 1 ≡ word old 1) (first : version_of old ≡ One) where
   version-stays : version_of new ≡ version_of old
-  version-stays = ap version_at marked
+  version-stays = ap version_at has_magic
 
   formatted_first : IsFormatted new
   formatted_first = record {
@@ -28,7 +28,7 @@ module _ (old new : Image) (wf : IsWellFormed old) (same : SameTrees old new) (m
       at_least = rw same.whole wf.formatted.sized.at_least;
       at_most = rw same.whole wf.formatted.sized.at_most;
     };
-    marked = marked ∙ wf.formatted.marked ∙ ap magic (sym version-stays);
+    has_magic = has_magic ∙ wf.formatted.has_magic ∙ ap magic (sym version-stays);
     counted = counted ∙ rw same.whole wf.formatted.counted;
   }
 
@@ -70,7 +70,7 @@ module _ (image : Image) (wf : IsWellFormed image) where
 
   -- it is one of version 2
   pub upgraded_version : version_of (upgraded image) ≡ Two
-  upgraded_version = ap version_at (stored 0) ∙ version_marked Two
+  upgraded_version = ap version_at (stored 0) ∙ version_of_magic Two
 
   formatted : IsFormatted (upgraded image)
   formatted = record {
@@ -79,7 +79,7 @@ module _ (image : Image) (wf : IsWellFormed image) where
       at_least = rw whole wf.formatted.sized.at_least;
       at_most = rw whole wf.formatted.sized.at_most;
     };
-    marked = stored 0 ∙ ap magic (sym upgraded_version);
+    has_magic = stored 0 ∙ ap magic (sym upgraded_version);
     counted = stored 1 ∙ rw whole wf.formatted.counted;
   }
 

@@ -3,12 +3,12 @@ use Rattle.std.specs.Prelude.{ℕ, ◌+◌, List, [], ◌∷◌, ◌++◌, flat_
 use Rattle.bp_layout.specs.Words.{Image}
 use Rattle.bp_limits.specs.declared.version.Version.{Version}
 use Rattle.bp_limits.specs.declared.version.Version.TheVariants.{One, Two}
-use Rattle.bp_limits.specs.Limits.{block_size, directory_kind, first_inode, magic, root_field, size_field, super_blocks, super_magic, super_root, super_second_root, super_second_size, super_size}
+use Rattle.bp_limits.specs.Limits.{block_size, directory_kind, first_inode, magic, root_field, size_field, super_blocks, super_magic, super_root, super_snapshot_root, super_snapshot_size, super_size}
 use Rattle.bp_layout.specs.Stores.{after_stores}
 
 -- the stores that record in version 2 that there is no second inode file (no snapshot)
 abbrev pub no_second : List (ℕ × ℕ)
-no_second = (super_second_root, 0) ∷ (super_second_size, 0) ∷ []
+no_second = (super_snapshot_root, 0) ∷ (super_snapshot_size, 0) ∷ []
 
 abbrev pub kept_words : Version → List (ℕ × ℕ)
 kept_words One = []

@@ -17,5 +17,5 @@ version_of image = version_at (word image super_magic)
 -- a sized image with the magic number of its version and the right number of blocks
 pub record IsFormatted (image : Image) : Type 0 where
   pub sized : IsSized image
-  pub marked : word image super_magic ≡ magic (version_of image)
+  pub has_magic : word image super_magic ≡ magic (version_of image)
   pub counted : word image super_blocks ≡ block_count image

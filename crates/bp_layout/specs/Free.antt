@@ -1,5 +1,5 @@
 -- The free blocks and inodes of an image. A set of numbers is given by a function from a number to true or false. Some
--- blocks may be excluded besides those of the trees: the blocks of a snapshot (`kept`).
+-- blocks may be excluded besides those of the trees: the blocks of a snapshot (`in_snapshot`).
 use Rattle.std.specs.Prelude.{◌≡◌, List, ℕ, ◌<◌, ◌≤◌, length, filter, Bool, true, Option, None, Some}
 use Rattle.std.specs.List.{range_with_len}
 use Rattle.bp_layout.specs.Words.{Image, block_count}
@@ -17,14 +17,14 @@ abbrev pub IsFreeInode : Image → ℕ → Type 0
 IsFreeInode image = IsUnused image (IsReached image)
 
 -- The set has exactly the blocks that none of these trees holds, up to a size in bytes for each tree, and that are not
--- kept.
-pub record AreUnheld (image : Image) (Tree : ℕ → Type 0) (bound : ℕ → ℕ) (kept set : ℕ → Bool) : Type 0 where
-  pub free : (b : ℕ) → set b ≡ true → IsUnheld image Tree bound kept b
-  pub all : (b : ℕ) → IsUnheld image Tree bound kept b → set b ≡ true
+-- in the snapshot.
+pub record AreUnheld (image : Image) (Tree : ℕ → Type 0) (bound : ℕ → ℕ) (in_snapshot set : ℕ → Bool) : Type 0 where
+  pub free : (b : ℕ) → set b ≡ true → IsUnheld image Tree bound in_snapshot b
+  pub all : (b : ℕ) → IsUnheld image Tree bound in_snapshot b → set b ≡ true
 
 -- the set has exactly the free blocks
 abbrev pub AreFreeBlocks : Image → (ℕ → Bool) → (ℕ → Bool) → Type 0
-AreFreeBlocks image kept = AreUnheld image (IsReached image) (size_of image) kept
+AreFreeBlocks image in_snapshot = AreUnheld image (IsReached image) (size_of image) in_snapshot
 
 -- the set has exactly the inodes that are none of these trees
 pub record AreUnused (image : Image) (Tree : ℕ → Type 0) (set : ℕ → Bool) : Type 0 where
@@ -40,9 +40,9 @@ abbrev pub numbers_below : ℕ → (ℕ → Bool) → List ℕ
 numbers_below bound set = filter set (range_with_len 0 bound)
 
 -- `count` is the number of free blocks
-pub record HasFree (image : Image) (kept : ℕ → Bool) (count : ℕ) : Type 0 where
+pub record HasFree (image : Image) (in_snapshot : ℕ → Bool) (count : ℕ) : Type 0 where
   pub set : ℕ → Bool
-  pub are : AreFreeBlocks image kept set
+  pub are : AreFreeBlocks image in_snapshot set
   pub number : length (numbers_below (block_count image) set) ≡ count
 
 -- the least free inode, or none if no inode is free

@@ -20,7 +20,7 @@ pub data Entrant : Type 0 where
 -- a range of bytes below the size of an inode's tree: the inode, the first byte and the length in bytes
 pub record Stretch : Type 0 where
   pub inode : ℕ
-  pub off : ℕ
+  pub offset : ℕ
   pub len : ℕ
 
 -- a change of an image, in terms of inodes and slots
@@ -56,8 +56,8 @@ new_entry image i None = record { tree = i; from = size_of image i; to = size_of
 new_entry image i (Some slot) = []
 
 abbrev pub beyond : Image → Change → List Beyond
-beyond image (writes i off len) = if nat_lt (size_of image i) (off + len)
-    then record { tree = i; from = max off (size_of image i); to = off + len } ∷ [] else []
+beyond image (writes i offset len) = if nat_lt (size_of image i) (offset + len)
+    then record { tree = i; from = max offset (size_of image i); to = offset + len } ∷ [] else []
 beyond image (resizes i size) =
     if nat_lt (size_of image i) size then record { tree = i; from = size; to = size } ∷ [] else []
 beyond image (enters i entrant) = new_entry image i (empty_slot image i)
@@ -104,14 +104,14 @@ entered_at heights i (Some slot) = entry_path_at heights i slot 0
 abbrev pub stretch_paths : (ℕ → ℕ) → Stretch → List WordPath
 stretch_paths heights s =
     if s.len == 0 then [] else map (content_path_at heights s.inode)
-    (range_with_len (s.off / 8) (suc ((s.off + s.len - 1) / 8 - s.off / 8)))
+    (range_with_len (s.offset / 8) (suc ((s.offset + s.len - 1) / 8 - s.offset / 8)))
 
 abbrev pub touched_at : (ℕ → ℕ) → Image → Change → List WordPath
-touched_at heights image (writes i off len) =
+touched_at heights image (writes i offset len) =
     map (content_path_at heights i)
-    (if nat_lt off (size_of image i) then range_with_len (off / 8)
-    (suc ((min (off + len) (size_of image i) - 1) / 8 - off / 8)) else [])
-    ++ (if nat_lt (size_of image i) (off + len) then inode_path (heights 0) i size_field ∷ [] else [])
+    (if nat_lt offset (size_of image i) then range_with_len (offset / 8)
+    (suc ((min (offset + len) (size_of image i) - 1) / 8 - offset / 8)) else [])
+    ++ (if nat_lt (size_of image i) (offset + len) then inode_path (heights 0) i size_field ∷ [] else [])
 touched_at heights image (resizes i size) = inode_path (heights 0) i size_field ∷ []
 touched_at heights image (enters i entrant) = entered_at heights i (empty_slot image i) ∷ []
 touched_at heights image (leaves i s) = entry_path_at heights i s 0 ∷ []

@@ -18,16 +18,16 @@ pub record HoldsBlock (image : Image) (Tree : ℕ → Type 0) (bound : ℕ → �
   pub reached : Tree tree
   pub has : HasBlock image (root_of image tree) (bound tree) block
 
--- the block is not block 0, none of these trees holds it, and it is not kept
-pub record IsUnheld (image : Image) (Tree : ℕ → Type 0) (bound : ℕ → ℕ) (kept : ℕ → Bool) (block : ℕ) : Type 0 where
+-- the block is not block 0, none of these trees holds it, and it is not in the snapshot
+pub record IsUnheld (image : Image) (Tree : ℕ → Type 0) (bound : ℕ → ℕ) (in_snapshot : ℕ → Bool) (block : ℕ) : Type 0 where
   pub low : 1 ≤ block
   pub high : block < block_count image
   pub free : HoldsBlock image Tree bound block → ⊥
-  pub loose : kept block ≡ false
+  pub loose : in_snapshot block ≡ false
 
 -- a live block: one of the reachable trees holds it, up to the tree's own size
 abbrev pub IsLiveBlock : Image → ℕ → Type 0
 IsLiveBlock image = HoldsBlock image (IsReached image) (size_of image)
 
 abbrev pub IsFreeBlock : Image → (ℕ → Bool) → ℕ → Type 0
-IsFreeBlock image kept = IsUnheld image (IsReached image) (size_of image) kept
+IsFreeBlock image in_snapshot = IsUnheld image (IsReached image) (size_of image) in_snapshot

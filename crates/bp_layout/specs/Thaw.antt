@@ -1,6 +1,6 @@
--- The pointers of a change that lead to kept blocks: blocks of a snapshot, to which no call stores. A change first
--- replaces these blocks by copies (copy-on-write for the snapshot, called thaw), and then stores only to blocks that
--- are not kept.
+-- The pointers of a change that lead to blocks of the snapshot, to which no call stores. A change first replaces these
+-- blocks by copies (copy-on-write for the snapshot, called thaw), and then stores only to blocks that are not in the
+-- snapshot.
 use Rattle.std.specs.Prelude.{◌≡◌, ℕ, suc, ◌+◌, ◌/◌, List, [], ◌∷◌, ◌++◌, length, filter, flat_map, Bool, false, not, ◌&&◌, nat_lt, Option, None, Some, if◌then◌else◌}
 use Rattle.std.specs.List.{list_any}
 use Rattle.bp_layout.specs.Words.{Image, word, block_of, height_of}
@@ -57,13 +57,13 @@ targets image change =
 
 -- ---- thaw: which blocks are copied
 
--- the case without a snapshot: no block is kept
-abbrev pub none_kept : ℕ → Bool
-none_kept b = false
+-- the case without a snapshot: no block is in the snapshot
+abbrev pub none_in_snapshot : ℕ → Bool
+none_in_snapshot b = false
 
--- the pointer at this path is live and leads to a kept block
-abbrev pub is_kept_at : Image → (ℕ → Bool) → WordPath → Bool
-is_kept_at image kept path = is_there_now image path && kept (block_of (word image (address image path)))
+-- the pointer at this path is live and leads to a block of the snapshot
+abbrev pub is_in_snapshot_at : Image → (ℕ → Bool) → WordPath → Bool
+is_in_snapshot_at image in_snapshot path = is_there_now image path && in_snapshot (block_of (word image (address image path)))
 
 -- the path `front` is a proper prefix of the other path
 abbrev pub is_front : WordPath → WordPath → Bool
@@ -77,17 +77,17 @@ fronts_of earlier [] = []
 fronts_of earlier (path ∷ paths) =
     filter (λ front. not (list_any (is_front front) earlier)) (prefixes_from 0 path) ++ fronts_of (path ∷ earlier) paths
 
--- the pointers among them that lead to kept blocks
+-- the pointers among them that lead to blocks of the snapshot
 abbrev pub thawed_on : Image → (ℕ → Bool) → List WordPath → List WordPath
-thawed_on image kept paths = filter (is_kept_at image kept) (fronts_of [] paths)
+thawed_on image in_snapshot paths = filter (is_in_snapshot_at image in_snapshot) (fronts_of [] paths)
 
 abbrev pub thawed : Image → (ℕ → Bool) → Change → List WordPath
-thawed image kept change = thawed_on image kept (targets image change)
+thawed image in_snapshot change = thawed_on image in_snapshot (targets image change)
 
--- no pointer on a path leads to a kept block, from the prefix of length `shortest` on
+-- no pointer on a path leads to a block of the snapshot, from the prefix of length `shortest` on
 abbrev pub IsLoose : Image → (ℕ → Bool) → ℕ → WordPath → Type 0
-IsLoose image kept shortest path = filter (is_kept_at image kept) (prefixes_from shortest path) ≡ []
+IsLoose image in_snapshot shortest path = filter (is_in_snapshot_at image in_snapshot) (prefixes_from shortest path) ≡ []
 
--- the number of blocks that a change takes in all, with the copies of kept blocks
+-- the number of blocks that a change takes in all, with the copies of blocks of the snapshot
 abbrev pub full_need : Image → (ℕ → Bool) → Change → ℕ
-full_need image kept change = length (thawed image kept change) + need image change
+full_need image in_snapshot change = length (thawed image in_snapshot change) + need image change

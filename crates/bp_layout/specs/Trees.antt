@@ -2,7 +2,7 @@
 -- snapshot, at words 4 and 5. Definitions on an image are about its first tree. To state them of the second tree, use
 -- the image in which that tree is the first.
 use Rattle.std.specs.Prelude.{◌≡◌, ℕ, ◌+◌, ◌==◌, ◌&&◌, nat_lt, Bool, true, slice_set, if◌then◌else◌}
-use Rattle.bp_limits.specs.Limits.{super_root, super_second_root, super_second_size, super_size}
+use Rattle.bp_limits.specs.Limits.{super_root, super_snapshot_root, super_snapshot_size, super_size}
 use Rattle.bp_limits.specs.CallLimits.{is_two}
 use Rattle.bp_layout.specs.Formatted.{version_of}
 use Rattle.bp_layout.specs.Words.{Image, word}
@@ -15,18 +15,18 @@ tree_image image at = if at == super_root then image
 
 -- the image whose first tree is the snapshot
 abbrev pub snapshot_of : Image → Image
-snapshot_of image = tree_image image super_second_root
+snapshot_of image = tree_image image super_snapshot_root
 
 -- the image has a snapshot
 abbrev pub has_snapshot : Image → Bool
-has_snapshot image = is_two (version_of image) && nat_lt 0 (word image super_second_size)
+has_snapshot image = is_two (version_of image) && nat_lt 0 (word image super_snapshot_size)
 
 -- a block of the snapshot
-pub record IsFrozen (image : Image) (block : ℕ) : Type 0 where
+pub record IsInSnapshot (image : Image) (block : ℕ) : Type 0 where
   pub there : has_snapshot image ≡ true
   pub live : IsLiveBlock (snapshot_of image) block
 
 -- the set has exactly the blocks of the snapshot
-pub record AreFrozen (image : Image) (set : ℕ → Bool) : Type 0 where
-  pub are : (b : ℕ) → set b ≡ true → IsFrozen image b
-  pub all : (b : ℕ) → IsFrozen image b → set b ≡ true
+pub record AreInSnapshot (image : Image) (set : ℕ → Bool) : Type 0 where
+  pub are : (b : ℕ) → set b ≡ true → IsInSnapshot image b
+  pub all : (b : ℕ) → IsInSnapshot image b → set b ≡ true

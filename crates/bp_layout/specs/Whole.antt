@@ -1,12 +1,12 @@
 -- An image with both its trees: when it is a file system, which checks fail in it, when it means the same as another,
 -- and its number of free blocks.
 use Rattle.std.specs.Prelude.{◌≡◌, ℕ, ◌==◌, Bool, true, if◌then◌else◌}
-use Rattle.bp_limits.specs.Limits.{super_root, super_second_root, super_second_size, super_size}
+use Rattle.bp_limits.specs.Limits.{super_root, super_snapshot_root, super_snapshot_size, super_size}
 use Rattle.bp_layout.specs.Checks.{Fails}
 use Rattle.bp_layout.specs.Words.{Image}
 use Rattle.bp_layout.specs.Free.{HasFree}
 use Rattle.bp_layout.specs.Same.{Same}
-use Rattle.bp_layout.specs.Trees.{AreFrozen, has_snapshot, snapshot_of}
+use Rattle.bp_layout.specs.Trees.{AreInSnapshot, has_snapshot, snapshot_of}
 use Rattle.bp_layout.specs.WellFormed.{IsWellFormed}
 use Rattle.bp_layout.specs.declared.check.Check.{Check}
 
@@ -19,8 +19,8 @@ pub record IsFileSystem (image : Image) : Type 0 where
 -- of their own; all other places are the same.
 abbrev pub second_place : ℕ → ℕ
 second_place place =
-    if place == super_root then super_second_root
-    else if place == super_size then super_second_size
+    if place == super_root then super_snapshot_root
+    else if place == super_size then super_snapshot_size
     else place
 
 -- a check fails at a place, in the first tree or in the snapshot if there is one
@@ -45,6 +45,6 @@ pub record SameFiles (old new : Image) : Type 0 where
 
 -- `count` is the number of blocks that are in neither tree
 pub record HasSpace (image : Image) (count : ℕ) : Type 0 where
-  pub kept : ℕ → Bool
-  pub are : AreFrozen image kept
-  pub free : HasFree image kept count
+  pub in_snapshot : ℕ → Bool
+  pub are : AreInSnapshot image in_snapshot
+  pub free : HasFree image in_snapshot count

@@ -27,7 +27,7 @@ pub size_covered : (version : Version) → greatest_size version ≡ block_size 
 size_covered One = refl
 size_covered Two = refl
 
--- a mark is that of its version
-pub version_marked : (version : Version) → version_at (magic version) ≡ version
-version_marked One = refl
-version_marked Two = refl
+-- a magic number is that of its version
+pub version_of_magic : (version : Version) → version_at (magic version) ≡ version
+version_of_magic One = refl
+version_of_magic Two = refl

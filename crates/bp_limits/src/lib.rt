@@ -43,10 +43,10 @@ pub const SUPER_ROOT: u64 = 2;
 pub const SUPER_SIZE: u64 = 3;
 
 /// The word of the superblock with the root word of the snapshot's inode file, in version 2.
-pub const SUPER_SECOND_ROOT: u64 = 4;
+pub const SUPER_SNAPSHOT_ROOT: u64 = 4;
 
 /// The word of the superblock with the size of the snapshot's inode file, in version 2; 0 if there is no snapshot.
-pub const SUPER_SECOND_SIZE: u64 = 5;
+pub const SUPER_SNAPSHOT_SIZE: u64 = 5;
 
 // ---- inodes and directories
 

@@ -3,4 +3,4 @@
 
 mod loose;
 
-pub use loose::Loose;
+pub use loose::RawBox;

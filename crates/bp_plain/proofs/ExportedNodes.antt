@@ -39,15 +39,15 @@ module _ (tree : FileTree) (text : List ℕ) (path : Path) (spells : parse text 
   named_here : path_named text ≡ path
   named_here = ap (λ o. unwrap_or o []) spells
 
-  write_goes : (made new : List ℕ) (off : ℕ) → walk tree.now.nodes path ≡ None → get tree.now.nodes path ≡ Some (file made)
-      → nat_lt (greatest_write tree.version) (length new) ≡ false → nat_lt (greatest_size tree.version) (off + length new) ≡ false → nat_lt 0 (length new) ≡ true
-      → plain tree (write text off new) ≡ finished (with_now tree (with_content tree.now path (written made off new)))
-  write_goes made new off way at long large some =
-      ap (answer_or tree (write text off new)) refuses
-      ∙ ap₂ (λ b p. finished (if b then with_now tree (with_written tree.now p off new) else tree)) some named_here
-      ∙ ap (λ o. finished (with_now tree (with_content tree.now path (written (bytes_in o) off new)))) at
+  write_goes : (made new : List ℕ) (offset : ℕ) → walk tree.now.nodes path ≡ None → get tree.now.nodes path ≡ Some (file made)
+      → nat_lt (greatest_write tree.version) (length new) ≡ false → nat_lt (greatest_size tree.version) (offset + length new) ≡ false → nat_lt 0 (length new) ≡ true
+      → plain tree (write text offset new) ≡ finished (with_now tree (with_content tree.now path (written made offset new)))
+  write_goes made new offset way at long large some =
+      ap (answer_or tree (write text offset new)) refuses
+      ∙ ap₂ (λ b p. finished (if b then with_now tree (with_written tree.now p offset new) else tree)) some named_here
+      ∙ ap (λ o. finished (with_now tree (with_content tree.now path (written (bytes_in o) offset new)))) at
     where
-      refuses : refusal tree (write text off new) ≡ None
+      refuses : refusal tree (write text offset new) ≡ None
       refuses = rw (spells, long, way, at, some, large) refl
 
   truncate_goes : (made : List ℕ) (size : ℕ) → walk tree.now.nodes path ≡ None → get tree.now.nodes path ≡ Some (file made) → nat_lt (greatest_size tree.version) size ≡ false
@@ -147,12 +147,12 @@ module _ (version : Version) (before : PathMap) (name : Name) (rest : Path) (way
           ∙ by (same_path q path) (get before.nodes q)
           ∙ sym (get-insert path_cmp-IsTotalOrder before.nodes path (file new) q ∙ ap (λ b. cond b (Some (file new)) (get before.nodes q)) (same_by_cmp q path))
 
-  write_done : (made new : List ℕ) (off : ℕ) → 0 < length new → length new ≤ greatest_write version → off + length new ≤ greatest_size version
-      → plain (holding made) (write text off new) ≡ (done, holding (written made off new))
-  write_done made new off some few fits =
-      write_goes (holding made) text path spells made new off (walks_here made) (get_inserted before.nodes path (file made))
-      (le-ltb (greatest_write version) (length new) few) (le-ltb (greatest_size version) (off + length new) fits) (lt-ltb 0 (length new) some)
-      ∙ ap (λ map. finished (stage version map)) (put_here made (written made off new))
+  write_done : (made new : List ℕ) (offset : ℕ) → 0 < length new → length new ≤ greatest_write version → offset + length new ≤ greatest_size version
+      → plain (holding made) (write text offset new) ≡ (done, holding (written made offset new))
+  write_done made new offset some few fits =
+      write_goes (holding made) text path spells made new offset (walks_here made) (get_inserted before.nodes path (file made))
+      (le-ltb (greatest_write version) (length new) few) (le-ltb (greatest_size version) (offset + length new) fits) (lt-ltb 0 (length new) some)
+      ∙ ap (λ map. finished (stage version map)) (put_here made (written made offset new))
 
   same_length : (made : List ℕ) (size : ℕ) → (size == length made) ≡ true → resized made size ≡ made
   same_length made size same =

@@ -6,7 +6,7 @@ use Rattle.bp_layout.specs.Paths.{Name}
 -- one write of a batch: the path of the file, the offset in bytes, and the bytes to write
 pub record Piece : Type 0 where
   pub path : List ℕ
-  pub off : ℕ
+  pub offset : ℕ
   pub bytes : List ℕ
 
 pub data Call : Type 0 where

@@ -207,7 +207,7 @@ with_moved map p q = record { nodes = moved p q map.nodes; one = moved_one p q m
 -- ---- contents and maps after a call that is not refused
 
 abbrev pub written : List ℕ → ℕ → List ℕ → List ℕ
-written old off new = take off (old ++ replicate (off - length old) 0) ++ new ++ drop (off + length new) old
+written old offset new = take offset (old ++ replicate (offset - length old) 0) ++ new ++ drop (offset + length new) old
 
 abbrev pub resized : List ℕ → ℕ → List ℕ
 resized old size = take size (old ++ replicate (size - length old) 0)
@@ -216,7 +216,7 @@ abbrev pub path_named : List ℕ → Path
 path_named text = unwrap_or (parse text) []
 
 abbrev pub with_written : PathMap → Path → ℕ → List ℕ → PathMap
-with_written map path off new = with_content map path (written (bytes_at map.nodes path) off new)
+with_written map path offset new = with_content map path (written (bytes_at map.nodes path) offset new)
 
 -- the map with the file at a path shortened to this size, or extended to it with zero bytes
 abbrev pub with_size : PathMap → Path → ℕ → PathMap
@@ -224,7 +224,7 @@ with_size map path size = with_content map path (resized (bytes_at map.nodes pat
 
 abbrev pub with_piece : PathMap → Piece → PathMap
 with_piece map piece =
-    if nat_lt 0 (length piece.bytes) then with_written map (path_named piece.path) piece.off piece.bytes else map
+    if nat_lt 0 (length piece.bytes) then with_written map (path_named piece.path) piece.offset piece.bytes else map
 
 -- the map after the pieces of a batch, written one after the other
 abbrev pub with_pieces : PathMap → List Piece → PathMap
@@ -251,7 +251,7 @@ rmdir_refusal nodes p =
 -- the first refusal of one piece of a batch: its bytes must end within its file
 abbrev pub piece_refusal : Nodes → Piece → Option Refusal
 piece_refusal nodes piece = first (file_refusal nodes (path_named piece.path)
-    ∷ when (nat_lt (length (bytes_at nodes (path_named piece.path))) (piece.off + length piece.bytes)) past_end ∷ [])
+    ∷ when (nat_lt (length (bytes_at nodes (path_named piece.path))) (piece.offset + length piece.bytes)) past_end ∷ [])
 
 -- a check on the snapshot's nodes, or `no_snap` if there is no snapshot
 abbrev pub on_snap : Option PathMap → (Nodes → Option Refusal) → Option Refusal
@@ -262,10 +262,10 @@ on_snap (Some map) refusals = refusals map.nodes
 abbrev pub refusal : FileTree → Call → Option Refusal
 refusal tree (create text) = on_path text (new_refusal tree.now.nodes)
 refusal tree (mkdir text) = on_path text (new_refusal tree.now.nodes)
-refusal tree (read text off len) = on_path text (file_refusal tree.now.nodes)
-refusal tree (write text off new) = on_path text (λ p. first (
+refusal tree (read text offset len) = on_path text (file_refusal tree.now.nodes)
+refusal tree (write text offset new) = on_path text (λ p. first (
     when (nat_lt (greatest_write tree.version) (length new)) too_long ∷ file_refusal tree.now.nodes p
-    ∷ when (nat_lt 0 (length new) && nat_lt (greatest_size tree.version) (off + length new)) too_big ∷ []))
+    ∷ when (nat_lt 0 (length new) && nat_lt (greatest_size tree.version) (offset + length new)) too_big ∷ []))
 refusal tree (truncate text size) = on_path text (λ p. first (
     file_refusal tree.now.nodes p ∷ when (nat_lt (greatest_size tree.version) size) too_big ∷ []))
 refusal tree (unlink text) =
@@ -282,7 +282,7 @@ refusal tree snap = first (when (not (is_two tree.version)) old_version ∷ when
 refusal tree unsnap = when (is_none tree.snap) no_snap
 refusal tree (snap_list text) = on_path text (λ p. on_snap tree.snap (λ nodes. dir_refusal nodes p))
 refusal tree (snap_stat text) = on_path text (λ p. on_snap tree.snap (λ nodes. walk nodes p))
-refusal tree (snap_read text off len) = on_path text (λ p. on_snap tree.snap (λ nodes. file_refusal nodes p))
+refusal tree (snap_read text offset len) = on_path text (λ p. on_snap tree.snap (λ nodes. file_refusal nodes p))
 refusal tree (batch pieces) = first (map (λ piece. when (is_none (parse piece.path)) bad_path) pieces
     ++ when (nat_lt max_batch (sum_by (λ piece. length piece.bytes) pieces)) too_long
     ∷ map (piece_refusal tree.now.nodes) pieces)
@@ -295,7 +295,7 @@ with_now tree map = record tree { now = map }
 abbrev pub tree_after : FileTree → Call → FileTree
 tree_after tree (create text) = with_now tree (with_file tree.now (path_named text))
 tree_after tree (mkdir text) = with_now tree (with_dir tree.now (path_named text))
-tree_after tree (write text off new) = with_now tree (with_written tree.now (path_named text) off new)
+tree_after tree (write text offset new) = with_now tree (with_written tree.now (path_named text) offset new)
 tree_after tree (truncate text size) = with_now tree
     (with_content tree.now (path_named text) (resized (bytes_at tree.now.nodes (path_named text)) size))
 tree_after tree (unlink text) = with_now tree (with_nothing tree.now (path_named text))
@@ -314,7 +314,7 @@ changes tree (create text) = true
 changes tree (mkdir text) = true
 changes tree (unlink text) = true
 changes tree (rmdir text) = true
-changes tree (write text off new) = nat_lt 0 (length new)
+changes tree (write text offset new) = nat_lt 0 (length new)
 changes tree (truncate text size) = not (size == length (bytes_at tree.now.nodes (path_named text)))
 -- a rename between two paths of one file changes nothing
 changes tree (rename from to) = not (same_path (path_named from) (path_named to))
@@ -332,7 +332,7 @@ is_changing tree call = is_none (refusal tree call) && changes tree call
 -- ---- calls: answers
 
 abbrev pub read_answer : Nodes → List ℕ → ℕ → ℕ → Answer
-read_answer nodes text off len = bytes (take len (drop off (bytes_at nodes (path_named text))))
+read_answer nodes text offset len = bytes (take len (drop offset (bytes_at nodes (path_named text))))
 
 abbrev pub stat_answer : Nodes → Path → Option Node → Answer
 stat_answer nodes path (Some (file content)) = file_of (length content)
@@ -344,11 +344,11 @@ snap_nodes None = from_entries []
 snap_nodes (Some map) = map.nodes
 
 abbrev pub answer : FileTree → Call → Answer
-answer tree (read text off len) = read_answer tree.now.nodes text off len
+answer tree (read text offset len) = read_answer tree.now.nodes text offset len
 answer tree (list text) = names (listing tree.now.nodes (path_named text))
 answer tree (stat text) = stat_answer tree.now.nodes (path_named text) (get tree.now.nodes (path_named text))
 answer tree (links text) = links_of (path_count tree.now.one (path_named text))
-answer tree (snap_read text off len) = read_answer (snap_nodes tree.snap) text off len
+answer tree (snap_read text offset len) = read_answer (snap_nodes tree.snap) text offset len
 answer tree (snap_list text) = names (listing (snap_nodes tree.snap) (path_named text))
 answer tree (snap_stat text) =
     stat_answer (snap_nodes tree.snap) (path_named text) (get (snap_nodes tree.snap) (path_named text))

@@ -18,7 +18,7 @@ spanned text span = slice_range text span.at (span.at + span.len)
 
 abbrev pub piece_in : List ℕ → GivenPiece → Piece
 piece_in text piece =
-    record { path = spanned text piece.path; off = piece.off; bytes = spanned text piece.bytes }
+    record { path = spanned text piece.path; offset = piece.offset; bytes = spanned text piece.bytes }
 
 abbrev pub call_of : GivenCall → Call
 call_of (given.Create path) = create path.now
@@ -27,8 +27,8 @@ call_of (given.Unlink path) = unlink path.now
 call_of (given.Rmdir path) = rmdir path.now
 call_of (given.List path) = list path.now
 call_of (given.Stat path) = stat path.now
-call_of (given.Read path off len) = read path.now off len
-call_of (given.Write path off bytes) = write path.now off bytes.now
+call_of (given.Read path offset len) = read path.now offset len
+call_of (given.Write path offset bytes) = write path.now offset bytes.now
 call_of (given.Truncate path size) = truncate path.now size
 call_of (given.Rename from to) = rename from.now to.now
 call_of (given.Link from to) = link from.now to.now
@@ -38,7 +38,7 @@ call_of given.Snap = snap
 call_of given.Unsnap = unsnap
 call_of (given.SnapList path) = snap_list path.now
 call_of (given.SnapStat path) = snap_stat path.now
-call_of (given.SnapRead path off len) = snap_read path.now off len
+call_of (given.SnapRead path offset len) = snap_read path.now offset len
 call_of (given.Batch text pieces) = batch (map (piece_in text.now) pieces.now)
 
 abbrev pub refusal_of : FsError → Refusal
@@ -67,8 +67,8 @@ pub record LiesIn (text : List ℕ) (piece : GivenPiece) : Type 0 where
 -- The condition on a call of `Plain::apply`: a read asks for at most `max_read` bytes, and a batch has 1 to
 -- `max_pieces` pieces whose parts lie within its text.
 abbrev pub CanAsk : GivenCall → Type 0
-CanAsk (given.Read path off len) = len ≤ max_read
-CanAsk (given.SnapRead path off len) = len ≤ max_read
+CanAsk (given.Read path offset len) = len ≤ max_read
+CanAsk (given.SnapRead path offset len) = len ≤ max_read
 CanAsk (given.Batch text pieces) =
     (1 ≤ length pieces.now) × (length pieces.now ≤ max_pieces) × All (LiesIn text.now) pieces.now
 CanAsk call = Unit {0}

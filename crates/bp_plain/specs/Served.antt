@@ -6,7 +6,7 @@ use Rattle.bp_plain.specs.Calls.Call.{read, snap_read, batch}
 
 -- a read, also of the snapshot, asks for at most `max_read` bytes, and a batch has 1 to `max_pieces` pieces
 abbrev pub IsServed : Call → Type 0
-IsServed (read text off len) = len ≤ max_read
-IsServed (snap_read text off len) = len ≤ max_read
+IsServed (read text offset len) = len ≤ max_read
+IsServed (snap_read text offset len) = len ≤ max_read
 IsServed (batch pieces) = (1 ≤ length pieces) × (length pieces ≤ max_pieces)
 IsServed call = Unit {0}

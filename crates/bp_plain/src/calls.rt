@@ -15,7 +15,7 @@ pub struct Piece {
     /// Path of the file.
     pub path: Span,
     /// Offset of the first byte in the file, in bytes.
-    pub off: u64,
+    pub offset: u64,
     /// Bytes to write.
     pub bytes: Span,
 }
@@ -35,21 +35,21 @@ pub enum Call<'a> {
     List(&'a [u8]),
     /// Returns the size of the file, or the number of names in the directory, at a path.
     Stat(&'a [u8]),
-    /// Reads at most `len` bytes of the file at a path, from byte `off` on.
+    /// Reads at most `len` bytes of the file at a path, from byte `offset` on.
     Read {
         /// Path of the file.
         path: &'a [u8],
         /// Offset of the first byte in the file, in bytes.
-        off: u64,
+        offset: u64,
         /// Greatest number of bytes to return.
         len: usize,
     },
-    /// Writes bytes to the file at a path, from byte `off` on. Bytes between its old end and `off` become 0.
+    /// Writes bytes to the file at a path, from byte `offset` on. Bytes between its old end and `offset` become 0.
     Write {
         /// Path of the file.
         path: &'a [u8],
         /// Offset of the first byte in the file, in bytes.
-        off: u64,
+        offset: u64,
         /// Bytes to write. If there are none, the file does not change.
         bytes: &'a [u8],
     },
@@ -91,7 +91,7 @@ pub enum Call<'a> {
         /// Path of the file.
         path: &'a [u8],
         /// Offset of the first byte in the file, in bytes.
-        off: u64,
+        offset: u64,
         /// Greatest number of bytes to return.
         len: usize,
     },

@@ -10,47 +10,48 @@ use crate::replies::Reply;
 use bp_limits::Version;
 use std::alloc::{AllocError, Global};
 
-/// Returns at most `len` bytes of `content` from byte `off` on.
-pub(crate) fn part(content: &[u8], off: u64, len: usize) -> &[u8]
-    ensures { result.now ≡ take len (drop off content.now) }
+/// Returns at most `len` bytes of `content` from byte `offset` on.
+pub(crate) fn part(content: &[u8], offset: u64, len: usize) -> &[u8]
+    ensures { result.now ≡ take len (drop offset content.now) }
 {
-    if off >= content.len() as u64 {
+    if offset >= content.len() as u64 {
         return &[];
     }
-    let rest = &content[off as usize..];
+    let rest = &content[offset as usize..];
     &rest[..rest.len().min(len)]
 }
 
 /// Returns whether a write has bytes and ends past the version's greatest file size.
-pub(crate) fn ends_too_late(version: Version, off: u64, new: &[u8]) -> bool
-    ensures { result ≡ (nat_lt 0 (length new.now) && nat_lt (greatest_size version) (off + length new.now)) }
+pub(crate) fn ends_too_late(version: Version, offset: u64, new: &[u8]) -> bool
+    ensures { result ≡ (nat_lt 0 (length new.now) && nat_lt (greatest_size version) (offset + length new.now)) }
 {
-    !new.is_empty() && u128::from(off) + new.len() as u128 > u128::from(version.greatest_size())
+    !new.is_empty() && u128::from(offset) + new.len() as u128 > u128::from(version.greatest_size())
 }
 
-/// Returns the old bytes with the new ones written over them from byte `off` on, and 0 between the old end and `off`.
+/// Returns the old bytes with the new ones written over them from byte `offset` on, and 0 between the old end and
+/// `offset`.
 pub(crate) fn written(
     alloc: Global,
     old: &[u8],
-    off: usize,
+    offset: usize,
     new: &[u8],
 ) -> Result<Vec<u8>, AllocError>
-    ensures { IfOk result (λ content. content.items ≡ plain.written old.now off new.now) }
+    ensures { IfOk result (λ content. content.items ≡ plain.written old.now offset new.now) }
 {
-    let mut content = resized(alloc, old, off)?;
+    let mut content = resized(alloc, old, offset)?;
     content.extend_from_slice(new)?;
-    content.extend_from_slice(behind(old, off, new.len()))?;
+    content.extend_from_slice(behind(old, offset, new.len()))?;
     Ok(content)
 }
 
-/// Returns the bytes of `content` after byte `off + len`.
-fn behind(content: &[u8], off: usize, len: usize) -> &[u8]
-    ensures { result.now ≡ drop (off + len) content.now }
+/// Returns the bytes of `content` after byte `offset + len`.
+fn behind(content: &[u8], offset: usize, len: usize) -> &[u8]
+    ensures { result.now ≡ drop (offset + len) content.now }
 {
-    if off >= content.len() {
+    if offset >= content.len() {
         return &[];
     }
-    let rest = &content[off..];
+    let rest = &content[offset..];
     if len >= rest.len() {
         return &[];
     }

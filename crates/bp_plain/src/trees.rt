@@ -119,8 +119,12 @@ impl Plain {
             Call::Rmdir(text) => self.refuses_rmdir(alloc, text),
             Call::List(text) => self.refuses_list(alloc, text),
             Call::Stat(text) => self.refuses_stat(alloc, text),
-            Call::Read { path, off, len } => self.refuses_read(alloc, path, off, len),
-            Call::Write { path, off, bytes } => self.refuses_write(alloc, path, off, bytes),
+            Call::Read { path, offset, len } => self.refuses_read(alloc, path, offset, len),
+            Call::Write {
+                path,
+                offset,
+                bytes,
+            } => self.refuses_write(alloc, path, offset, bytes),
             Call::Truncate { path, size } => self.refuses_truncate(alloc, path, size),
             Call::Rename { from, to } => self.refuses_rename(alloc, from, to),
             Call::Link { from, to } => self.refuses_link(alloc, from, to),
@@ -130,7 +134,9 @@ impl Plain {
             Call::Unsnap => Ok(self.refuses_unsnap()),
             Call::SnapList(text) => self.refuses_snap_list(alloc, text),
             Call::SnapStat(text) => self.refuses_snap_stat(alloc, text),
-            Call::SnapRead { path, off, len } => self.refuses_snap_read(alloc, path, off, len),
+            Call::SnapRead { path, offset, len } => self.refuses_snap_read(
+                alloc, path, offset, len,
+            ),
             Call::Batch { text, pieces } => self.refuses_batch(alloc, text, pieces),
         }
     }
@@ -188,11 +194,11 @@ impl Plain {
         &self,
         alloc: Global,
         text: &[u8],
-        _off: u64,
+        _offset: u64,
         _len: usize,
     ) -> Result<Option<FsError>, AllocError>
         ensures { IfOk result (λ found.
-            option_map refusal_of found ≡ plain.refusal self.now (read text.now _off _len)) }
+            option_map refusal_of found ≡ plain.refusal self.now (read text.now _offset _len)) }
     {
         match parse(alloc, text)? {
             None => Ok(Some(FsError::BadPath)),
@@ -204,11 +210,11 @@ impl Plain {
         &self,
         alloc: Global,
         text: &[u8],
-        off: u64,
+        offset: u64,
         new: &[u8],
     ) -> Result<Option<FsError>, AllocError>
         ensures { IfOk result (λ found.
-            option_map refusal_of found ≡ plain.refusal self.now (write text.now off new.now)) }
+            option_map refusal_of found ≡ plain.refusal self.now (write text.now offset new.now)) }
     {
         match parse(alloc, text)? {
             None => Ok(Some(FsError::BadPath)),
@@ -218,7 +224,7 @@ impl Plain {
                     FsError::TooLong,
                 ),
                 self.current().refuses_file(&path),
-                when(ends_too_late(self.version(), off, new), FsError::TooBig),
+                when(ends_too_late(self.version(), offset, new), FsError::TooBig),
             ])),
         }
     }
@@ -303,11 +309,11 @@ impl Plain {
         &self,
         alloc: Global,
         text: &[u8],
-        _off: u64,
+        _offset: u64,
         _len: usize,
     ) -> Result<Option<FsError>, AllocError>
         ensures { IfOk result (λ found.
-            option_map refusal_of found ≡ plain.refusal self.now (snap_read text.now _off _len)) }
+            option_map refusal_of found ≡ plain.refusal self.now (snap_read text.now _offset _len)) }
     {
         match parse(alloc, text)? {
             None => Ok(Some(FsError::BadPath)),
@@ -368,8 +374,12 @@ impl Plain {
             Call::Rmdir(text) => self.rmdir(alloc, text, reply),
             Call::List(text) => self.list(alloc, text, reply),
             Call::Stat(text) => self.stat(alloc, text, reply),
-            Call::Read { path, off, len } => self.read(alloc, path, off, len, reply),
-            Call::Write { path, off, bytes } => self.write(alloc, path, off, bytes, reply),
+            Call::Read { path, offset, len } => self.read(alloc, path, offset, len, reply),
+            Call::Write {
+                path,
+                offset,
+                bytes,
+            } => self.write(alloc, path, offset, bytes, reply),
             Call::Truncate { path, size } => self.truncate(alloc, path, size, reply),
             Call::Rename { from, to } => self.rename(alloc, from, to, reply),
             Call::Link { from, to } => self.link(alloc, from, to, reply),
@@ -379,7 +389,7 @@ impl Plain {
             Call::Unsnap => self.unsnap(reply),
             Call::SnapList(text) => self.snap_list(alloc, text, reply),
             Call::SnapStat(text) => self.snap_stat(alloc, text, reply),
-            Call::SnapRead { path, off, len } => self.snap_read(alloc, path, off, len, reply),
+            Call::SnapRead { path, offset, len } => self.snap_read(alloc, path, offset, len, reply),
             Call::Batch { text, pieces } => self.batch(alloc, text, pieces, reply),
         }
     }
@@ -444,30 +454,30 @@ impl Plain {
         &self,
         alloc: Global,
         text: &[u8],
-        off: u64,
+        offset: u64,
         len: usize,
         reply: &mut Reply,
     ) -> Result<(), AllocError>
         requires { len ≤ max_read }
-        ensures { OnOk result ((reply.new.answer, self.now) ≡ carried_out self.now (read text.now off len)) }
+        ensures { OnOk result ((reply.new.answer, self.now) ≡ carried_out self.now (read text.now offset len)) }
     {
-        self.current().read(alloc, text, off, len, reply)
+        self.current().read(alloc, text, offset, len, reply)
     }
 
     fn write(
         &mut self,
         alloc: Global,
         text: &[u8],
-        off: u64,
+        offset: u64,
         new: &[u8],
         reply: &mut Reply,
     ) -> Result<(), AllocError>
-        ensures done { OnOk result ((reply.new.answer, self.new) ≡ carried_out self.old (write text.now off new.now)) }
+        ensures done { OnOk result ((reply.new.answer, self.new) ≡ carried_out self.old (write text.now offset new.now)) }
         ensures kept { OnErr result (self.new ≡ self.old) }
     {
         if !new.is_empty() {
             let path = path_of(alloc, text)?;
-            self.current.write(alloc, &path, off, new)?;
+            self.current.write(alloc, &path, offset, new)?;
         }
         reply.set_done();
         Ok(())
@@ -568,16 +578,16 @@ impl Plain {
         &self,
         alloc: Global,
         text: &[u8],
-        off: u64,
+        offset: u64,
         len: usize,
         reply: &mut Reply,
     ) -> Result<(), AllocError>
         requires few { len ≤ max_read }
-        requires passes { plain.refusal self.now (snap_read text.now off len) ≡ None }
-        ensures { OnOk result ((reply.new.answer, self.now) ≡ carried_out self.now (snap_read text.now off len)) }
+        requires passes { plain.refusal self.now (snap_read text.now offset len) ≡ None }
+        ensures { OnOk result ((reply.new.answer, self.now) ≡ carried_out self.now (snap_read text.now offset len)) }
     {
         match self.snapshot() {
-            Some(map) => map.read(alloc, text, off, len, reply),
+            Some(map) => map.read(alloc, text, offset, len, reply),
             None => unreachable!(),
         }
     }

@@ -1,8 +1,8 @@
 -- A play goes on by one turn.
 use Rattle.std.proofs.Common.{◌≡◌, ℕ, zero, suc, ◌+◌, ◌≤◌, List, [], ◌∷◌, ◌++◌, length, refl, sym, ◌∙◌, ap, subst, add-one, arith}
 use Rattle.pm_epochs.specs.declared.event.Event.{Event}
-use Rattle.pm_epochs.specs.declared.event.Event.TheVariants.{Store, Barrier, Mark}
-use Rattle.pm_epochs.specs.Log.{marks}
+use Rattle.pm_epochs.specs.declared.event.Event.TheVariants.{Store, Barrier, CallEnd}
+use Rattle.pm_epochs.specs.Log.{call_ends}
 use Rattle.pm_region.specs.Memory.{Memory}
 use Rattle.bp_layout.specs.Words.{Image}
 use Rattle.bp_limits.specs.Limits.{log_events}
@@ -40,15 +40,15 @@ one_more old middle new seed count at command replies reply here is session line
 
 -- ---- the calls of a log
 
-marks-le : (events : List Event) → marks events ≤ length events
-marks-le [] = omega arith
-marks-le (Store word value ∷ events) = omega (arith, marks-le events)
-marks-le (Barrier ∷ events) = omega (arith, marks-le events)
-marks-le (Mark ∷ events) = omega (arith, marks-le events)
+call_ends-le : (events : List Event) → call_ends events ≤ length events
+call_ends-le [] = omega arith
+call_ends-le (Store word value ∷ events) = omega (arith, call_ends-le events)
+call_ends-le (Barrier ∷ events) = omega (arith, call_ends-le events)
+call_ends-le (CallEnd ∷ events) = omega (arith, call_ends-le events)
 
 -- they are no more than the log has room for
-pub few_marks : (memory seen : Memory) (count : ℕ) → seen ≡ memory → count ≡ length seen.events → count ≤ seen.capacity → memory.capacity ≤ log_events → marks memory.events ≤ log_events
-few_marks memory seen count same all few roomy =
+pub few_call_ends : (memory seen : Memory) (count : ℕ) → seen ≡ memory → count ≡ length seen.events → count ≤ seen.capacity → memory.capacity ≤ log_events → call_ends memory.events ≤ log_events
+few_call_ends memory seen count same all few roomy =
     let events : length seen.events ≡ length memory.events = ap (λ (m : Memory). length m.events) same in
     let capacity : seen.capacity ≡ memory.capacity = ap (λ (m : Memory). m.capacity) same in
-    omega (arith, marks-le memory.events)
+    omega (arith, call_ends-le memory.events)

@@ -17,7 +17,7 @@ most_bytes = 9000
 
 -- The bytes that the call writes.
 abbrev pub bytes_by : PlayCall → List ℕ
-bytes_by (given.Write path off len byte) = replicate len byte
+bytes_by (given.Write path offset len byte) = replicate len byte
 bytes_by _ = []
 
 -- The call.
@@ -26,8 +26,8 @@ call_by (given.Create path) = create (play_path path)
 call_by (given.Mkdir path) = mkdir (play_path path)
 call_by (given.Unlink path) = unlink (play_path path)
 call_by (given.Rmdir path) = rmdir (play_path path)
-call_by (given.Read path off len) = read (play_path path) off len
-call_by (given.Write path off len byte) = write (play_path path) off (replicate len byte)
+call_by (given.Read path offset len) = read (play_path path) offset len
+call_by (given.Write path offset len byte) = write (play_path path) offset (replicate len byte)
 call_by (given.Truncate path size) = truncate (play_path path) size
 call_by (given.Rename from to) = rename (play_path from) (play_path to)
 
@@ -37,8 +37,8 @@ command_by (turn.Storm seed) = storm seed
 
 -- The call reads and writes no more bytes than there is memory for.
 abbrev pub IsSmall : PlayCall → Type 0
-IsSmall (given.Read path off len) = len ≤ most_bytes
-IsSmall (given.Write path off len byte) = len ≤ most_bytes
+IsSmall (given.Read path offset len) = len ≤ most_bytes
+IsSmall (given.Write path offset len byte) = len ≤ most_bytes
 IsSmall _ = Unit {0}
 
 abbrev pub IsSmallTurn : Turn → Type 0

@@ -63,14 +63,14 @@ by_four made a = by_three (made (drawn a)) (next_state a)
 abbrev pub draw_of : Sort → ℕ → Draw
 draw_of Create = by_one (λ r. file_call (create (path_name r)))
 draw_of Mkdir = by_one (λ r. file_call (mkdir (dir_name r)))
-draw_of Write = by_four (λ r off len byte.
-    file_call (write (path_name r) (off % 70000) (replicate (1 + len % 9000) (byte % 256))))
+draw_of Write = by_four (λ r offset len byte.
+    file_call (write (path_name r) (offset % 70000) (replicate (1 + len % 9000) (byte % 256))))
 draw_of Truncate = by_two (λ r size. file_call (truncate (path_name r) (size % 100000)))
 draw_of Unlink = by_one (λ r. file_call (unlink (path_name r)))
 draw_of RenameFile = by_two (λ from to. file_call (rename (path_name from) (path_name to)))
 draw_of RenameDir = by_two (λ from to. file_call (rename (dir_name from) (dir_name to)))
 draw_of Rmdir = by_one (λ r. file_call (rmdir (dir_name r)))
-draw_of Read = by_three (λ r off len. file_call (read (path_name r) (off % 70000) (len % 9000)))
+draw_of Read = by_three (λ r offset len. file_call (read (path_name r) (offset % 70000) (len % 9000)))
 draw_of Storm = by_one storm
 
 -- The operation that begins in a state.

@@ -72,14 +72,14 @@ fn with_bytes<'a>(call: &'a PlayCall, bytes: &'a [u8]) -> Call<'a>
         PlayCall::Mkdir(path) => Call::Mkdir(path.as_bytes()),
         PlayCall::Unlink(path) => Call::Unlink(path.as_bytes()),
         PlayCall::Rmdir(path) => Call::Rmdir(path.as_bytes()),
-        PlayCall::Read { path, off, len } => Call::Read {
+        PlayCall::Read { path, offset, len } => Call::Read {
             path: path.as_bytes(),
-            off: *off,
+            offset: *offset,
             len: *len,
         },
-        PlayCall::Write { path, off, .. } => Call::Write {
+        PlayCall::Write { path, offset, .. } => Call::Write {
             path: path.as_bytes(),
-            off: *off,
+            offset: *offset,
             bytes,
         },
         PlayCall::Truncate { path, size } => Call::Truncate {

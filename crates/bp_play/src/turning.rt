@@ -29,13 +29,13 @@ pub(crate) enum PlayCall {
     Rmdir(PlayPath),
     Read {
         path: PlayPath,
-        off: u64,
+        offset: u64,
         len: usize,
     },
     /// Writes the same byte `len` times.
     Write {
         path: PlayPath,
-        off: u64,
+        offset: u64,
         len: usize,
         byte: u8,
     },
@@ -86,21 +86,21 @@ fn draw_read(generator: &mut Generator) -> Turn
     ensures { IsDrawn (draw_of Read generator.old.state) result generator.new.state }
 {
     let path = file(generator);
-    let off = u64::from(below(generator, OFFSETS));
+    let offset = u64::from(below(generator, OFFSETS));
     let len = below(generator, LENGTHS) as usize;
-    Turn::Call(PlayCall::Read { path, off, len })
+    Turn::Call(PlayCall::Read { path, offset, len })
 }
 
 fn draw_write(generator: &mut Generator) -> Turn
     ensures { IsDrawn (draw_of Write generator.old.state) result generator.new.state }
 {
     let path = file(generator);
-    let off = u64::from(below(generator, OFFSETS));
+    let offset = u64::from(below(generator, OFFSETS));
     let len = 1 + below(generator, LENGTHS) as usize;
     let byte = below(generator, 256) as u8;
     Turn::Call(PlayCall::Write {
         path,
-        off,
+        offset,
         len,
         byte,
     })

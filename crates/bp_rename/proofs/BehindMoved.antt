@@ -86,10 +86,10 @@ pub moved_few : (image : Image) (move : Move) → CanRename image move → moved
 moved_few image move can = few_inode image can.well_formed (moved_inode image move) (can.well_formed.inumbers move.from_dir move.from_slot (moved_inode image move) can.source can.entry)
 
 -- the entry can be put there
-pub can_put : {kept : ℕ → Bool} (memory : Memory) (move : Move) (blocks inodes : Set) (can : CanRename (current_words memory) move) (other : move.from_dir ≢ move.to_dir) (new_name : move.to_slot ≡ None) (none : empty_slot (current_words memory) move.to_dir ≡ None)
+pub can_put : {in_snapshot : ℕ → Bool} (memory : Memory) (move : Move) (blocks inodes : Set) (can : CanRename (current_words memory) move) (other : move.from_dir ≢ move.to_dir) (new_name : move.to_slot ≡ None) (none : empty_slot (current_words memory) move.to_dir ≡ None)
     (touched : Touched) (is : TouchesTwo (current_words memory) (OtherTree move.to_dir) touched (size_path (current_words memory) move.to_dir) (inumber_path (current_words memory) move.from_dir move.from_slot) (size_of (current_words memory) move.to_dir + 256) 0) →
-    AreExact (current_words memory) kept blocks inodes → need (current_words memory) (moves move.from_dir move.from_slot move.to_dir) ≤ length (members blocks) →
-    room_for (need (current_words memory) (moves move.from_dir move.from_slot move.to_dir)) ≤ room_in memory + 2 → HasLooseEnd (current_words memory) kept move.to_dir → CanPutBehind kept memory blocks move.to_dir move.name.now
+    AreExact (current_words memory) in_snapshot blocks inodes → need (current_words memory) (moves move.from_dir move.from_slot move.to_dir) ≤ length (members blocks) →
+    room_for (need (current_words memory) (moves move.from_dir move.from_slot move.to_dir)) ≤ room_in memory + 2 → HasLooseEnd (current_words memory) in_snapshot move.to_dir → CanPutBehind in_snapshot memory blocks move.to_dir move.name.now
 can_put memory move blocks inodes can other new_name none touched is exact enough room loose = record {
   lacks = record { well_formed = can.well_formed; reached = can.target; directory = can.directory; form = can.name; missing = can.slot ∙ new_name };
   none = none;
@@ -100,10 +100,10 @@ can_put memory move blocks inodes can other new_name none touched is exact enoug
   loose = loose;
 }
 
-module _ {kept : ℕ → Bool} (old middle : Memory) (move : Move) (blocks inodes after : Set) (can : CanRename (current_words old) move) (new_name : move.to_slot ≡ None) (other : move.from_dir ≢ move.to_dir)
-    (none : empty_slot (current_words old) move.to_dir ≡ None) (exact : AreExact (current_words old) kept blocks inodes)
+module _ {in_snapshot : ℕ → Bool} (old middle : Memory) (move : Move) (blocks inodes after : Set) (can : CanRename (current_words old) move) (new_name : move.to_slot ≡ None) (other : move.from_dir ≢ move.to_dir)
+    (none : empty_slot (current_words old) move.to_dir ≡ None) (exact : AreExact (current_words old) in_snapshot blocks inodes)
     (room : room_for (need (current_words old) (moves move.from_dir move.from_slot move.to_dir)) ≤ room_in old + 2)
-    (puts : PutsBehind kept old middle (members blocks) (members after) move.to_dir (moved_inode (current_words old) move) move.name.now) (as_long : length after ≡ length blocks)
+    (puts : PutsBehind in_snapshot old middle (members blocks) (members after) move.to_dir (moved_inode (current_words old) move) move.name.now) (as_long : length after ≡ length blocks)
     (touched : Touched) (is : TouchesTwo (current_words old) (OtherTree move.to_dir) touched (size_path (current_words old) move.to_dir) (inumber_path (current_words old) move.from_dir move.from_slot) (size_of (current_words old) move.to_dir + 256) 0) where
   abbrev image : Image
   image = current_words old
@@ -203,10 +203,10 @@ module _ {kept : ℕ → Bool} (old middle : Memory) (move : Move) (blocks inode
   low : (t : ℕ) → size_of mid t ≤ sizes_with (current_words middle) touched t
   low = sizes_low old middle blocks inodes after j (size_of image j) (size_of image j + 256) puts.bytes can.well_formed exact can.target not_file past puts.prepared (sizes_with mid touched) bound_here bound_other
 
-  unheld : AreUnheld mid (IsReached mid) (sizes_with (current_words middle) touched) kept (has after)
+  unheld : AreUnheld mid (IsReached mid) (sizes_with (current_words middle) touched) in_snapshot (has after)
   unheld = prepared_exact old middle blocks inodes after j (size_of image j) (size_of image j + 256) puts.bytes can.well_formed exact can.target not_file past puts.prepared (sizes_with mid touched) bound_here bound_other
 
-  sets : AreExactFor mid (IsReached mid) (sizes_with (current_words middle) touched) kept after inodes
+  sets : AreExactFor mid (IsReached mid) (sizes_with (current_words middle) touched) in_snapshot after inodes
   sets = prepared_sets old middle blocks inodes after j (size_of image j) (size_of image j + 256) puts.bytes can.well_formed exact can.target not_file past puts.prepared (sizes_with mid touched) bound_here bound_other as_long
 
   pub behind_fits : block_count (current_words middle) ≤ length after
@@ -215,7 +215,7 @@ module _ {kept : ℕ → Bool} (old middle : Memory) (move : Move) (blocks inode
   are : AreContent mid (sizes_with (current_words middle) touched) touched (pick 0 i) (pick (8 * j + 2) (32 * s + 0))
   are = behind_are mid behind_formed i s j (size_of image j + 256) source entry.in_size entry.directory target touched is_mid (sizes_with mid touched) low (λ t apart. let same = bound_other t apart in omega (arith, same))
 
-  pub behind_can : CanCommit (current_words middle) (sizes_with (current_words middle) touched) kept touched (has after)
+  pub behind_can : CanCommit (current_words middle) (sizes_with (current_words middle) touched) in_snapshot touched (has after)
   behind_can = words_can mid (sizes_with mid touched) forest touched (pick 0 i) (pick (8 * j + 2) (32 * s + 0)) are (λ t reached. low t) (has after) unheld
 
   count : length touched.words.now ≡ 2
@@ -272,11 +272,11 @@ module _ {kept : ℕ → Bool} (old middle : Memory) (move : Move) (blocks inode
   pub behind_ways : (found : FoundWays) → AreWaysIn (current_words old) touched found → AreWaysIn (current_words middle) touched found
   behind_ways = ways_stay_on image mid touched behind_can.shape puts.prepared.ready.meaning.trees.whole (size_path image j) (touched_size image move can other none touched is) same_blocks
 
-  pub behind_loose : thawed (current_words old) kept (moves move.from_dir move.from_slot move.to_dir) ≡ [] → HasLooseCover (current_words middle) kept touched
+  pub behind_loose : thawed (current_words old) in_snapshot (moves move.from_dir move.from_slot move.to_dir) ≡ [] → HasLooseCover (current_words middle) in_snapshot touched
   behind_loose clear =
       still_loose image mid touched behind_can.shape (size_path image j) (touched_size image move can other none touched is) same_blocks
       (covers ∙ sym (behind_cover image can.well_formed i s j (size_of image j + 256) can.source can.entry.in_size can.entry.directory can.target touched is))
-      kept (touched_loose image move can other none touched is kept clear)
+      in_snapshot (touched_loose image move can other none touched is in_snapshot clear)
 
   few_stores : prep_stores (size_of image j) (size_of image j) (size_of image j + 256) (need_for image j (size_of image j) (size_of image j + 256)) + commit_stores mid touched ≤
       most_stores_thawed (need image (moves move.from_dir move.from_slot move.to_dir))
@@ -288,7 +288,7 @@ module _ {kept : ℕ → Bool} (old middle : Memory) (move : Move) (blocks inode
 
   -- ---- what the commit makes
 
-  module _ (new : Memory) (last : Set) (done : CommitsTouched (sizes_with (current_words middle) touched) kept touched middle new after last) where
+  module _ (new : Memory) (last : Set) (done : CommitsTouched (sizes_with (current_words middle) touched) in_snapshot touched middle new after last) where
     not_source : i ≡ 0 → ⊥
     not_source e = not_inodes image i can.entry.directory e
 
@@ -375,15 +375,15 @@ module _ {kept : ℕ → Bool} (old middle : Memory) (move : Move) (blocks inode
         (subst (λ r. CarriesEntry image (current_words new) i s j r x) slot_is carries)
         (subst (λ r. name_at (current_words new) j r ≡ move.name.now) slot_is name_is)
 
-    open_cover : IsOpen mid kept done.taken (cover_word mid touched)
+    open_cover : IsOpen mid in_snapshot done.taken (cover_word mid touched)
     open_cover =
-        cover_open kept mid behind_formed touched behind_can.shape (path_of (word_paths touched) 0) (has-word touched behind_can.shape 0 (omega (arith, count)))
+        cover_open in_snapshot mid behind_formed touched behind_can.shape (path_of (word_paths touched) 0) (has-word touched behind_can.shape 0 (omega (arith, count)))
         (λ d deep.
         words_fronts mid (size_of mid) (wf_forest mid behind_formed) touched (pick 0 i) (pick (8 * j + 2) (32 * s + 0))
         (behind_are mid behind_formed i s j (size_of image j + 256) source entry.in_size entry.directory target touched is_mid (size_of mid) (λ t. omega arith) (λ t apart. omega arith)) 0 d (omega (arith, count)) deep)
         done.loose done.taken
 
-    pub behind_performs : PerformsThawed kept old new (moves move.from_dir move.from_slot move.to_dir) (RenamesEntry move)
+    pub behind_performs : PerformsThawed in_snapshot old new (moves move.from_dir move.from_slot move.to_dir) (RenamesEntry move)
     behind_performs =
         commit_performs_after old middle new (moves move.from_dir move.from_slot move.to_dir) (RenamesEntry move) (sizes_with mid touched) touched after last puts.prepared.taken 2
         (prep_stores (size_of image j) (size_of image j) (size_of image j + 256) (need_for image j (size_of image j) (size_of image j + 256))) puts.prepared.adds done
@@ -392,11 +392,11 @@ module _ {kept : ℕ → Bool} (old middle : Memory) (move : Move) (blocks inode
         (covers ∙ sym (behind_whole_cover image move can other none)) (omega arith) few_stores (omega (arith, puts.prepared.counted, needs)) open_cover
         (carried_well_formed mid (current_words new) behind_formed i s j (entry_count mid j) x mid_carries) effect
 
-    pub behind_exact : length last ≡ length after → AreExact (current_words new) kept last inodes
+    pub behind_exact : length last ≡ length after → AreExact (current_words new) in_snapshot last inodes
     behind_exact same =
         carried_exact mid (current_words new) behind_formed i s j (entry_count mid j) x mid_carries
         (λ below. can.outside (below_before image mid can.well_formed puts.prepared.ready.meaning i s x can.source can.entry j below))
-        (sizes_with mid touched) kept sizes after last inodes sets same done.exact
+        (sizes_with mid touched) in_snapshot sizes after last inodes sets same done.exact
 
     pub behind_counts : (counts : List ℕ) → AreCounts (current_words old) counts → AreCounts (current_words new) counts
     behind_counts = carried_counts image (current_words new) can.well_formed i s j (entry_count mid j) x carries can.outside

@@ -181,5 +181,5 @@ module _ (image : Image) (move : Move) (can : CanRename image move) (other : mov
         these = plain image can.well_formed move.from_dir move.from_slot move.to_dir (size_of image move.to_dir + 256) can.source can.entry.in_size can.entry.directory can.target touched is
 
     -- so the word of the cover may be stored to where nothing is left to thaw
-    pub touched_loose : (kept : ℕ → Bool) → thawed image kept (moves move.from_dir move.from_slot move.to_dir) ≡ [] → HasLooseCover image kept touched
-    touched_loose kept clear = cover_loose image can.well_formed touched touched_shape (size_path image move.to_dir) touched_size size_fronts kept (moves move.from_dir move.from_slot move.to_dir) touched_now clear
+    pub touched_loose : (in_snapshot : ℕ → Bool) → thawed image in_snapshot (moves move.from_dir move.from_slot move.to_dir) ≡ [] → HasLooseCover image in_snapshot touched
+    touched_loose in_snapshot clear = cover_loose image can.well_formed touched touched_shape (size_path image move.to_dir) touched_size size_fronts in_snapshot (moves move.from_dir move.from_slot move.to_dir) touched_now clear

@@ -153,8 +153,8 @@ module _ (image : Image) (bound : ℕ → ℕ) (forest : IsForest image bound) (
       let deep : d < length (path_of (word_paths touched) 0) = subst (λ (p : WordPath). d < length p) first (omega (arith, long)) in
       (skeleton image bound forest wf.formatted.sized.whole).in_range _ (subst (λ p. IsTreePointer image bound (trail_of p d)) (sym first) (words_fronts 0 d (omega (arith, are.some)) deep))
 
-  module _ {kept : ℕ → Bool} (sizes : (t : ℕ) → IsReached image t → size_of image t ≤ bound t) (free : ℕ → Bool) (exact : AreUnheld image (IsReached image) bound kept free) where
-    pub words_can : CanCommit image bound kept touched free
+  module _ {in_snapshot : ℕ → Bool} (sizes : (t : ℕ) → IsReached image t → size_of image t ≤ bound t) (free : ℕ → Bool) (exact : AreUnheld image (IsReached image) bound in_snapshot free) where
+    pub words_can : CanCommit image bound in_snapshot touched free
     words_can = record {
       shape = words_shape;
       forest = forest;
@@ -173,7 +173,7 @@ module _ (image : Image) (bound : ℕ → ℕ) (forest : IsForest image bound) (
 
   -- ---- what the commit makes
 
-  module _ {kept : ℕ → Bool} (free : ℕ → Bool) (wf : IsWellFormed image) (can : CanCommit image bound kept touched free) where
+  module _ {in_snapshot : ℕ → Bool} (free : ℕ → Bool) (wf : IsWellFormed image) (can : CanCommit image bound in_snapshot touched free) where
     -- a touched word has its value
     pub words_value : (i : ℕ) → i < length touched.words.now →
         after_commit image (job_of touched) (tree_trail (height_of (word image 2)) (tree i) (suc (height_of (root_of image (tree i)))) (number i)) ≡ (job_of touched).value i

@@ -128,7 +128,7 @@ module _ (image : Image) (move : Move) (s : ℕ) (can : CanRename image move) (o
   into_fronts d low = words_fronts image (size_of image) (wf_forest image can.well_formed) touched (pick move.to_dir move.from_dir) (pick (32 * s + 0) (32 * move.from_slot + 0)) are 0 d into_some low
 
   -- so it may be stored to where nothing is left to thaw
-  pub into_loose : (kept : ℕ → Bool) → thawed image kept (moves move.from_dir move.from_slot move.to_dir) ≡ [] → HasLooseCover image kept touched
-  into_loose kept clear =
+  pub into_loose : (in_snapshot : ℕ → Bool) → thawed image in_snapshot (moves move.from_dir move.from_slot move.to_dir) ≡ [] → HasLooseCover image in_snapshot touched
+  into_loose in_snapshot clear =
       cover_loose image can.well_formed touched into_shape (path_of (word_paths touched) 0) (has-word touched into_shape 0 into_some) into_fronts
-      kept (moves move.from_dir move.from_slot move.to_dir) into_now clear
+      in_snapshot (moves move.from_dir move.from_slot move.to_dir) into_now clear

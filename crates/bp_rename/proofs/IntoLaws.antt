@@ -73,17 +73,17 @@ module _ (old third mid : Memory) (move : Move) (s entry : ℕ) (can : CanRename
   pub into_trees : SameTrees (current_words old) (current_words mid)
   into_trees = rw words (spare_trees (current_words old) (current_words third) can.well_formed (each_after (AnyAt (IsSpare (current_words old))) 0 31 old third all_spare))
 
-  -- where the block of the entry is not kept the name may be stored there
-  module _ (kept : ℕ → Bool) (loose : kept (entry / 512) ≡ false) where
+  -- where the block of the entry is not in the snapshot the name may be stored there
+  module _ (in_snapshot : ℕ → Bool) (loose : in_snapshot (entry / 512) ≡ false) where
     abbrev Inside : ℕ → Type 0
-    Inside p = IsSpare (current_words old) p × IsOpen (current_words old) kept [] p
+    Inside p = IsSpare (current_words old) p × IsOpen (current_words old) in_snapshot [] p
 
     name_inside : (p v : ℕ) → AnyAt (IsWithin (entry + 1) 31) p v → AnyAt Inside p v
     name_inside p v inside =
         let low : entry + 1 ≤ p = inside.low in
         let high : p < entry + 1 + 31 = inside.high in
         let block : p / 512 ≡ entry / 512 = omega (arith, low, high, entry_at.at) in
-        (name_spare p v inside, in_live (content_live (current_words old) move.to_dir (32 * s + (p - entry)) p can.target (omega (arith, in_size, high)) (stands p inside)) (ap kept block ∙ loose))
+        (name_spare p v inside, in_live (content_live (current_words old) move.to_dir (32 * s + (p - entry)) p can.target (omega (arith, in_size, high)) (stands p inside)) (ap in_snapshot block ∙ loose))
 
     all_inside : AddsMay (AnyAt Inside) 0 31 old third
     all_inside = may_weaker (AnyAt (IsWithin (entry + 1) 31)) (AnyAt Inside) 0 31 old third name_inside spells
@@ -91,7 +91,7 @@ module _ (old third mid : Memory) (move : Move) (s entry : ℕ) (can : CanRename
     trees_of : (after : Image) → EachMay (AnyAt Inside) (current_words old) after → SameTrees (current_words old) after
     trees_of after all = spare_trees (current_words old) after can.well_formed (each_weaker Inside (IsSpare (current_words old)) (current_words old) after (λ p both. both.0) all)
 
-    pub into_taking : AddsTaking kept [] 1 31 old mid
+    pub into_taking : AddsTaking in_snapshot [] 1 31 old mid
     into_taking = record {
       part = record {
         added = all_inside.added ++ Barrier ∷ [];
@@ -105,8 +105,8 @@ module _ (old third mid : Memory) (move : Move) (s entry : ℕ) (can : CanRename
         once = tt;
         free = tt;
         stored = tt;
-        only = StoresMay-append (AnyAt (IsOpen (current_words old) kept [])) all_inside.added (Barrier ∷ [])
-            (StoresMay-weaker (AnyAt Inside) (AnyAt (IsOpen (current_words old) kept [])) (λ p v both. both.1) all_inside.added all_inside.may) tt;
+        only = StoresMay-append (AnyAt (IsOpen (current_words old) in_snapshot [])) all_inside.added (Barrier ∷ [])
+            (StoresMay-weaker (AnyAt Inside) (AnyAt (IsOpen (current_words old) in_snapshot [])) (λ p v both. both.1) all_inside.added all_inside.may) tt;
       };
     }
 

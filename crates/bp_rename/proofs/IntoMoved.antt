@@ -62,13 +62,13 @@ use Rattle.bp_rename.proofs.TwoWords.{first_value, has_first, no_leaves, pick, s
 use Rattle.bp_calls.proofs.WaysStay.{ways_stay_on}
 use Rattle.bp_rename.proofs.WholePaths.{cover-whole, pointed-directory}
 
-module _ {kept : ℕ → Bool} (old third mid : Memory) (move : Move) (s entry : ℕ) (can : CanRename (current_words old) move) (new_name : move.to_slot ≡ None) (other : move.from_dir ≢ move.to_dir)
+module _ {in_snapshot : ℕ → Bool} (old third mid : Memory) (move : Move) (s entry : ℕ) (can : CanRename (current_words old) move) (new_name : move.to_slot ≡ None) (other : move.from_dir ≢ move.to_dir)
     (found : empty_slot (current_words old) move.to_dir ≡ Some s) (entry_at : ContentStandsAt (current_words old) move.to_dir (32 * s + 0) entry)
     (spells : AddsMay (AnyAt (IsWithin (entry + 1) 31)) 0 31 old third) (spelled : HasNameAt (current_words third) entry move.name.now)
     (ends : Adds third mid (Barrier ∷ [])) (touched : Touched)
     (is : TouchesTwo (current_words old) AnyTree touched (inumber_path (current_words old) move.to_dir s) (inumber_path (current_words old) move.from_dir move.from_slot) (moved_inode (current_words old) move) 0)
-    (blocks inodes : Set) (exact : AreExact (current_words old) kept blocks inodes)
-    (room : room_for (need (current_words old) (moves move.from_dir move.from_slot move.to_dir)) ≤ room_in old + 2) (loose : kept (entry / 512) ≡ false) where
+    (blocks inodes : Set) (exact : AreExact (current_words old) in_snapshot blocks inodes)
+    (room : room_for (need (current_words old) (moves move.from_dir move.from_slot move.to_dir)) ≤ room_in old + 2) (loose : in_snapshot (entry / 512) ≡ false) where
   can_move : CanMoveEntry (current_words mid) move.from_dir move.from_slot move.to_dir s (moved_inode (current_words old) move)
   can_move = into_can old third mid move s entry can new_name other found entry_at spells spelled ends
 
@@ -93,13 +93,13 @@ module _ {kept : ℕ → Bool} (old third mid : Memory) (move : Move) (s entry :
       no_file : (t l : ℕ) → kind_of (current_words mid) t ≡ 2 → t ≡ 0 → l % 8 ≢ 1
       no_file t l kind e = let two : kind_of (current_words mid) 0 ≡ 2 = subst (λ t. kind_of (current_words mid) t ≡ 2) e kind in absurd (omega (arith, two))
 
-  exact_mid : AreExact (current_words mid) kept blocks inodes
+  exact_mid : AreExact (current_words mid) in_snapshot blocks inodes
   exact_mid = exact_prepared (current_words old) (current_words mid) can.well_formed trees.prepared blocks inodes exact
 
   pub into_fits : block_count (current_words mid) ≤ length blocks
   into_fits = omega (arith, exact_mid.block_room)
 
-  pub into_ready : CanCommit (current_words mid) (size_of (current_words mid)) kept touched (has blocks)
+  pub into_ready : CanCommit (current_words mid) (size_of (current_words mid)) in_snapshot touched (has blocks)
   into_ready = words_can (current_words mid) (size_of (current_words mid)) (wf_forest (current_words mid) formed) touched (pick move.to_dir move.from_dir) (pick (32 * s + 0) (32 * move.from_slot + 0)) are (λ t q. omega arith) (has blocks) exact_mid.free_blocks
 
   count : length touched.words.now ≡ 2
@@ -121,7 +121,7 @@ module _ {kept : ℕ → Bool} (old third mid : Memory) (move : Move) (s entry :
   pub into_room : HasRoom mid touched
   into_room =
       let few = copied_few (current_words mid) (size_of (current_words mid)) touched (has blocks) formed into_ready in
-      let left = room_after_quiet Same 1 31 old mid (into_taking old third mid move s entry can new_name other found entry_at spells spelled ends kept loose).part in
+      let left = room_after_quiet Same 1 31 old mid (into_taking old third mid move s entry can new_name other found entry_at spells spelled ends in_snapshot loose).part in
       omega (arith, few, count, leaves, into_copies, room, left)
 
   -- the pointers on the way to the empty entry stay
@@ -140,12 +140,12 @@ module _ {kept : ℕ → Bool} (old third mid : Memory) (move : Move) (s entry :
       ways_stay_on (current_words old) (current_words mid) touched (into_shape (current_words old) move s can other found touched is) trees.prepared.meaning.trees.whole
       (path_of (word_paths touched) 0) (has-word touched (into_shape (current_words old) move s can other found touched is) 0 (into_some (current_words old) move s can other found touched is)) same_blocks
 
-  pub into_mid_loose : thawed (current_words old) kept (moves move.from_dir move.from_slot move.to_dir) ≡ [] → HasLooseCover (current_words mid) kept touched
+  pub into_mid_loose : thawed (current_words old) in_snapshot (moves move.from_dir move.from_slot move.to_dir) ≡ [] → HasLooseCover (current_words mid) in_snapshot touched
   into_mid_loose clear =
       still_loose (current_words old) (current_words mid) touched into_ready.shape (path_of (word_paths touched) 0) (has-word touched into_ready.shape 0 (omega (arith, count))) same_blocks
-      (covers ∙ sym (into_cover (current_words old) move s can other found touched is)) kept (into_loose (current_words old) move s can other found touched is kept clear)
+      (covers ∙ sym (into_cover (current_words old) move s can other found touched is)) in_snapshot (into_loose (current_words old) move s can other found touched is in_snapshot clear)
 
-  module _ (new : Memory) (left : Set) (done : CommitsTouched (size_of (current_words mid)) kept touched mid new blocks left) (as_long : length left ≡ length blocks) where
+  module _ (new : Memory) (left : Set) (done : CommitsTouched (size_of (current_words mid)) in_snapshot touched mid new blocks left) (as_long : length left ≡ length blocks) where
     apart_from_file : (i : ℕ) → pick move.to_dir move.from_dir i ≡ 0 → ⊥
     apart_from_file zero e = absurd (no_file can_move.directory e)
       where
@@ -212,23 +212,23 @@ module _ {kept : ℕ → Bool} (old third mid : Memory) (move : Move) (s entry :
         (subst (λ r. CarriesEntry (current_words old) (current_words new) move.from_dir move.from_slot move.to_dir r (moved_inode (current_words old) move)) slot_is into_carries)
         (subst (λ r. name_at (current_words new) move.to_dir r ≡ move.name.now) slot_is name_is)
 
-    pub into_performs : PerformsThawed kept old new (moves move.from_dir move.from_slot move.to_dir) (RenamesEntry move)
+    pub into_performs : PerformsThawed in_snapshot old new (moves move.from_dir move.from_slot move.to_dir) (RenamesEntry move)
     into_performs =
         commit_performs_after old mid new (moves move.from_dir move.from_slot move.to_dir) (RenamesEntry move) (size_of (current_words mid)) touched blocks left [] 1 31
-        (into_taking old third mid move s entry can new_name other found entry_at spells spelled ends kept loose) done
+        (into_taking old third mid move s entry can new_name other found entry_at spells spelled ends in_snapshot loose) done
         (λ b live. inl (live_before_too (current_words old) (current_words mid) can.well_formed trees.prepared b live))
         (λ b there. (exact.free_blocks.free b there, λ never. never)) covers (omega arith)
         (let few = stores_few (current_words mid) (size_of (current_words mid)) touched (has blocks) formed into_ready in omega (arith, few, leaves, count, into_copies))
         (omega (arith, into_copies))
-        (cover_open kept (current_words mid) formed touched into_ready.shape (path_of (word_paths touched) 0) (has-word touched into_ready.shape 0 (omega (arith, count)))
+        (cover_open in_snapshot (current_words mid) formed touched into_ready.shape (path_of (word_paths touched) 0) (has-word touched into_ready.shape 0 (omega (arith, count)))
         (λ d low. into_ready.pointers 0 d (omega (arith, count)) low) done.loose done.taken)
         (moved_well_formed (current_words mid) (current_words new) formed move.from_dir move.from_slot move.to_dir s (moved_inode (current_words old) move) can_move mid_moves)
         into_effect
 
-    pub into_exact : AreExact (current_words new) kept left inodes
+    pub into_exact : AreExact (current_words new) in_snapshot left inodes
     into_exact =
         carried_exact (current_words mid) (current_words new) formed move.from_dir move.from_slot move.to_dir s (moved_inode (current_words old) move) mid_carries
-        (mid_outside old third mid move s entry can new_name other found entry_at spells spelled ends) (size_of (current_words mid)) kept size_stays blocks left inodes exact_mid as_long done.exact
+        (mid_outside old third mid move s entry can new_name other found entry_at spells spelled ends) (size_of (current_words mid)) in_snapshot size_stays blocks left inodes exact_mid as_long done.exact
 
     pub into_counts : (counts : List ℕ) → AreCounts (current_words old) counts → AreCounts (current_words new) counts
     into_counts = carried_counts (current_words old) (current_words new) can.well_formed move.from_dir move.from_slot move.to_dir s (moved_inode (current_words old) move) into_carries can.outside

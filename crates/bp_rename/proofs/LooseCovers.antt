@@ -1,5 +1,5 @@
--- Where nothing is left to thaw, the block that holds the word of the cover is not kept. It is so behind a preparation
--- too, where the pointers on the way to that word stay.
+-- Where nothing is left to thaw, the block that holds the word of the cover is not in the snapshot. It is so behind a
+-- preparation too, where the pointers on the way to that word stay.
 use Rattle.std.proofs.Common.{◌≡◌, ℕ, zero, suc, ◌+◌, ◌-◌, ◌*◌, ◌/◌, ◌<◌, ◌≤◌, [], length, take, Bool, true, false, ◌||◌, refl, sym, ◌∙◌, ap, subst, arith, inl, slice_index}
 use Rattle.bp_layout.specs.Inode.{kind_of, root_of, size_of}
 use Rattle.bp_layout.specs.Members.{Has}
@@ -60,10 +60,10 @@ module _ (image : Image) (wf : IsWellFormed image) (change : Change) (t k : ℕ)
 
 module _ (image : Image) (wf : IsWellFormed image) (touched : Touched) (shape : IsTouched touched) (path : WordPath) (in_paths : Has (all_paths touched) path)
     (live : (d : ℕ) → d < length path → IsTreePointer image (size_of image) (trail_of path d)) where
-  pub cover_loose : (kept : ℕ → Bool) (change : Change) → commit_cover image touched ≡ cover_now image change → thawed image kept change ≡ [] → HasLooseCover image kept touched
-  cover_loose kept change covers clear =
-      loose_cover kept image wf touched shape path in_paths live
-      (loose-on image kept (targets image change) clear (commit_cover image touched) (inl (sym covers)) (length (commit_cover image touched) - 1))
+  pub cover_loose : (in_snapshot : ℕ → Bool) (change : Change) → commit_cover image touched ≡ cover_now image change → thawed image in_snapshot change ≡ [] → HasLooseCover image in_snapshot touched
+  cover_loose in_snapshot change covers clear =
+      loose_cover in_snapshot image wf touched shape path in_paths live
+      (loose-on image in_snapshot (targets image change) clear (commit_cover image touched) (inl (sym covers)) (length (commit_cover image touched) - 1))
 
 -- ---- in an image with other words
 
@@ -88,9 +88,9 @@ module _ (old mid : Image) (touched : Touched) (shape : IsTouched touched) (path
       ap (block_on old) (sym begins) ∙ sym (same d (omega (arith, alike.0))) ∙ ap (block_on mid) begins in
       ap (λ b. 512 * b + slice_index (end_path touched 0) d) stays
 
-  pub still_loose : (kept : ℕ → Bool) → HasLooseCover old kept touched → HasLooseCover mid kept touched
-  still_loose kept loose =
+  pub still_loose : (in_snapshot : ℕ → Bool) → HasLooseCover old in_snapshot touched → HasLooseCover mid in_snapshot touched
+  still_loose in_snapshot loose =
       let word : cover_word old touched ≡ cover_word mid touched =
       cover_address touched shape old ∙ places (length (commit_cover old touched)) refl
       ∙ ap (λ (p : WordPath). place_on mid (trail_of (end_path touched 0) (length p))) (sym covers) ∙ sym (cover_address touched shape mid) in
-      subst (λ w. 512 ≤ w → kept (w / 512) ≡ false) word loose
+      subst (λ w. 512 ≤ w → in_snapshot (w / 512) ≡ false) word loose

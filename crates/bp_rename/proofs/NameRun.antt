@@ -62,7 +62,7 @@ module _ (image : Image) (wf : IsWellFormed image) (n : ℕ) (reached : IsReache
     some = omega (arith, leaves);
   }
 
-  pub run_commit : {kept : ℕ → Bool} (free : ℕ → Bool) → AreFreeBlocks image kept free → CanCommit image (size_of image) kept touched free
+  pub run_commit : {in_snapshot : ℕ → Bool} (free : ℕ → Bool) → AreFreeBlocks image in_snapshot free → CanCommit image (size_of image) in_snapshot touched free
   run_commit free exact = run_can image wf touched run_shape free exact (no_trees (IsTreeIn image (size_of image)) bare) run one none (run_in image wf n reached run of)
 
   -- all paths are as long, so none begins another
@@ -77,20 +77,20 @@ module _ (image : Image) (wf : IsWellFormed image) (n : ℕ) (reached : IsReache
           (λ i here. absurd (omega (arith, here, none)))
 
   -- the pointers on the path of its first word
-  pub run_live : (d : ℕ) → d < length (run_path run (run.off / 8)) → IsTreePointer image (size_of image) (trail_of (run_path run (run.off / 8)) d)
+  pub run_live : (d : ℕ) → d < length (run_path run (run.offset / 8)) → IsTreePointer image (size_of image) (trail_of (run_path run (run.offset / 8)) d)
   run_live d low =
-      let short : d ≤ length (run_way run 0) = omega (arith, low, length-run_path run (run.off / 8), length-run_way run 0) in
-      subst (IsTreePointer image (size_of image)) (front-run_way run 0 (run.off / 8) d (omega arith) short)
+      let short : d ≤ length (run_way run 0) = omega (arith, low, length-run_path run (run.offset / 8), length-run_way run 0) in
+      subst (IsTreePointer image (size_of image)) (front-run_way run 0 (run.offset / 8) d (omega arith) short)
       (leaf-fronts image (size_of image) (wf_forest image wf) run (run_is image wf n reached run of) (run_in image wf n reached run of) 0 d (omega arith) short)
 
   pub run_inside : LeadsInside image touched
   run_inside d alike =
-      let first : end_path touched 0 ≡ run_path run (run.off / 8) = ap (λ r. end_path_of r (word_paths touched) 0) one in
+      let first : end_path touched 0 ≡ run_path run (run.offset / 8) = ap (λ r. end_path_of r (word_paths touched) 0) one in
       go first (alike.long 0 (some-ends touched run_shape))
     where
-      go : end_path touched 0 ≡ run_path run (run.off / 8) → d + 1 ≤ length (end_path touched 0) → block_on image (trail_of (end_path touched 0) d) < block_count image
+      go : end_path touched 0 ≡ run_path run (run.offset / 8) → d + 1 ≤ length (end_path touched 0) → block_on image (trail_of (end_path touched 0) d) < block_count image
       go first long =
-          let deep : d < length (run_path run (run.off / 8)) = subst (λ (p : List ℕ). d < length p) first (omega (arith, long)) in
+          let deep : d < length (run_path run (run.offset / 8)) = subst (λ (p : List ℕ). d < length p) first (omega (arith, long)) in
           (skeleton image (size_of image) (wf_forest image wf) wf.formatted.sized.whole).in_range _ (subst (λ p. IsTreePointer image (size_of image) (trail_of p d)) (sym first) (run_live d deep))
 
   -- ---- what the commit makes
@@ -102,12 +102,12 @@ module _ (image : Image) (wf : IsWellFormed image) (n : ℕ) (reached : IsReache
       ∙ ap (λ (base : Trail). along base (suc run.height) k) (root_path_trail (height_of (root_of image 0)) n run.root.items of.root)
       ∙ ap (λ h. along (root_trail (height_of (word image 2)) (suc n)) (suc h) k) of.height
 
-  module _ {kept : ℕ → Bool} (free : ℕ → Bool) (exact : AreFreeBlocks image kept free) (directory : kind_of image (suc n) ≡ 2) (new : Image) (turned : Trail → Type 0)
+  module _ {in_snapshot : ℕ → Bool} (free : ℕ → Bool) (exact : AreFreeBlocks image in_snapshot free) (directory : kind_of image (suc n) ≡ 2) (new : Image) (turned : Trail → Type 0)
       (stage : IsCommitted image new (IsTreePointer image (size_of image)) (IsTreeWord image (size_of image)) turned (after_commit image (job_of touched))) where
-    can : CanCommit image (size_of image) kept touched free
+    can : CanCommit image (size_of image) in_snapshot touched free
     can = run_commit free exact
 
-    stays : (t k : ℕ) → IsReached image t → 8 * k < size_of image t → ((t ≡ suc n) × (run.off / 8 ≤ k) × (k ≤ (run_end run - 1) / 8) → ⊥) →
+    stays : (t k : ℕ) → IsReached image t → 8 * k < size_of image t → ((t ≡ suc n) × (run.offset / 8 ≤ k) × (k ≤ (run_end run - 1) / 8) → ⊥) →
         after_commit image (job_of touched) (tree_trail (height_of (word image 2)) t (suc (height_of (root_of image t))) k) ≡ content_word image (root_of image t) k
     stays t k also low other =
         after-others image (size_of image) touched free wf can (k % 512) (along (root_trail (height_of (word image 2)) t) (height_of (root_of image t)) (k / 512)) (omega arith)
@@ -115,11 +115,11 @@ module _ (image : Image) (wf : IsWellFormed image) (n : ℕ) (reached : IsReache
         (λ r l e first last same. apart r l e first last same)
         ∙ word-tree image t (suc (height_of (root_of image t))) k
       where
-        apart : (r : Run) (l : ℕ) → Has touched.runs.now r → r.off / 8 ≤ l → l ≤ (run_end r - 1) / 8 →
+        apart : (r : Run) (l : ℕ) → Has touched.runs.now r → r.offset / 8 ≤ l → l ≤ (run_end r - 1) / 8 →
             (k % 512) ∷ along (root_trail (height_of (word image 2)) t) (height_of (root_of image t)) (k / 512) ≡ trail_of (run_path r l) (length (run_path r l)) → ⊥
         apart r l has first last same =
             let is : run ≡ r = one_run r has in
-            let low_word : run.off / 8 ≤ l = subst (λ (x : Run). x.off / 8 ≤ l) (sym is) first in
+            let low_word : run.offset / 8 ≤ l = subst (λ (x : Run). x.offset / 8 ≤ l) (sym is) first in
             let high_word : l ≤ (run_end run - 1) / 8 = subst (λ (x : Run). l ≤ (run_end x - 1) / 8) (sym is) last in
             let both = same_word image (size_of image) (wf_forest image wf) t k (suc n) l also reached low (omega (arith, high_word, of.below, of.some))
             (same ∙ ap (λ (x : Run). trail_of (run_path x l) (length (run_path x l))) (sym is) ∙ run_trail l) in
@@ -136,14 +136,14 @@ module _ (image : Image) (wf : IsWellFormed image) (n : ℕ) (reached : IsReache
     commits =
         committed_commits image new (size_of image) can.forest turned (job_of touched) stage (λ t r. omega arith) (λ t r. let same = run_sizes t r in omega (arith, same)) wf.full_inode_file wf.full_directories
 
-    pub run_only : (Changed : ℕ → ℕ → Type 0) → ((k : ℕ) → run.off / 8 ≤ k → k ≤ (run_end run - 1) / 8 → Changed (suc n) k) → CommitsOnly image new (changes_of image (job_of touched)) Changed
+    pub run_only : (Changed : ℕ → ℕ → Type 0) → ((k : ℕ) → run.offset / 8 ≤ k → k ≤ (run_end run - 1) / 8 → Changed (suc n) k) → CommitsOnly image new (changes_of image (job_of touched)) Changed
     run_only Changed told = record {
       commits = commits;
       kept = λ t k also low other. stays t k also low (λ here. other (subst (λ u. Changed u k) (sym here.0) (told k here.1 here.2)));
     }
 
     -- a word of the run
-    pub run_words : (k : ℕ) → run.off / 8 ≤ k → k ≤ (run_end run - 1) / 8 → 8 * k + 8 ≤ size_of image (suc n) →
+    pub run_words : (k : ℕ) → run.offset / 8 ≤ k → k ≤ (run_end run - 1) / 8 → 8 * k + 8 ≤ size_of image (suc n) →
         content_word new (root_of new (suc n)) k ≡ run_word run k (content_word image (root_of image (suc n)) k)
     run_words k first last low =
         commits.words (suc n) k reached (inr directory) (omega (arith, low)) (λ e. absurd (omega (arith, e)))
@@ -152,8 +152,8 @@ module _ (image : Image) (wf : IsWellFormed image) (n : ℕ) (reached : IsReache
         ∙ ap (λ q. run_word run k (word_on image q)) (run_trail k) ∙ ap (run_word run k) (word-tree image (suc n) (suc (height_of (root_of image (suc n)))) k)
 
     -- a byte of the run
-    pub run_given : (o : ℕ) → ((i : ℕ) → slice_index run.bytes.now i < 256) → run.off ≤ o → o < run_end run → 8 * (o / 8) + 8 ≤ size_of image (suc n) →
-        byte new (root_of new (suc n)) o ≡ slice_index run.bytes.now (o - run.off)
+    pub run_given : (o : ℕ) → ((i : ℕ) → slice_index run.bytes.now i < 256) → run.offset ≤ o → o < run_end run → 8 * (o / 8) + 8 ≤ size_of image (suc n) →
+        byte new (root_of new (suc n)) o ≡ slice_index run.bytes.now (o - run.offset)
     run_given o small low high inside =
         let number : 8 * (o / 8) + o % 8 ≡ o = omega arith in
         ap (λ w. byte_of w (o % 8)) (run_words (o / 8) (omega (arith, low)) (omega (arith, high)) inside)

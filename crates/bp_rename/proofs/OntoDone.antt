@@ -48,10 +48,10 @@ use Rattle.bp_rename.proofs.ContentWords.{size_kept, words_only, words_value}
 use Rattle.bp_rename.proofs.OntoLaws.{are, onto_can, onto_commit, onto_cover, onto_need, replaced_reached, replaced_some}
 use Rattle.bp_rename.proofs.TwoWords.{first_value, no_leaves, pick, second_value, two_count}
 
-module _ {kept : ℕ → Bool} (memory : Memory) (move : Move) (r : ℕ) (can : CanRename (current_words memory) move) (onto : move.to_slot ≡ Some r) (touched : Touched)
+module _ {in_snapshot : ℕ → Bool} (memory : Memory) (move : Move) (r : ℕ) (can : CanRename (current_words memory) move) (onto : move.to_slot ≡ Some r) (touched : Touched)
     (is : TouchesTwo (current_words memory) AnyTree touched (inumber_path (current_words memory) move.from_dir move.from_slot) (inumber_path (current_words memory) move.to_dir r) 0 (moved_inode (current_words memory) move))
-    (blocks inodes : Set) (exact : AreExact (current_words memory) kept blocks inodes) (room : room_for (need (current_words memory) (replaces move.from_dir move.from_slot move.to_dir r)) ≤ room_in memory + 2) where
-  pub ready : CanCommit (current_words memory) (size_of (current_words memory)) kept touched (has blocks)
+    (blocks inodes : Set) (exact : AreExact (current_words memory) in_snapshot blocks inodes) (room : room_for (need (current_words memory) (replaces move.from_dir move.from_slot move.to_dir r)) ≤ room_in memory + 2) where
+  pub ready : CanCommit (current_words memory) (size_of (current_words memory)) in_snapshot touched (has blocks)
   ready = onto_commit (current_words memory) move r can onto touched is (has blocks) exact.free_blocks
 
   count : length touched.words.now ≡ 2
@@ -66,10 +66,10 @@ module _ {kept : ℕ → Bool} (memory : Memory) (move : Move) (r : ℕ) (can : 
       omega (arith, few, count, leaves, onto_need (current_words memory) move r can onto touched is, room)
 
 -- What stands once a name has moved onto another one, where the inode of that one is `t`.
-pub record IsReplaced (kept : ℕ → Bool) (old new : Memory) (move : Move) (r t : ℕ) (inodes left : Set) : Type 0 where
+pub record IsReplaced (in_snapshot : ℕ → Bool) (old new : Memory) (move : Move) (r t : ℕ) (inodes left : Set) : Type 0 where
   pub well_formed : IsWellFormed (current_words new)
   pub whole : length (current_words new) ≡ length (current_words old)
-  pub performs : PerformsThawed kept old new (replaces move.from_dir move.from_slot move.to_dir r)
+  pub performs : PerformsThawed in_snapshot old new (replaces move.from_dir move.from_slot move.to_dir r)
       (λ image image_after. MovesEntry image image_after move.from_dir move.from_slot move.to_dir r (moved_inode image move))
   pub there : t < inode_count (current_words new)
   pub kind : (1 ≤ kind_of (current_words new) t) × (kind_of (current_words new) t ≤ 2)
@@ -77,18 +77,18 @@ pub record IsReplaced (kept : ℕ → Bool) (old new : Memory) (move : Move) (r 
   pub in_room : t < length inodes
   pub taken : has inodes t ≡ false
   -- the sets are exact where it has another name, and else once it has come back with its blocks
-  pub other : HasOtherName (current_words old) move.to_dir r t → AreExact (current_words new) kept left inodes
-  pub last : (final : Set) → GivesBack kept (IsGivenUp (current_words new) (root_of (current_words new) t) (size_of (current_words new) t) 0) left final →
-      IsLastName (current_words old) move.to_dir r t → AreExact (current_words new) kept final (with inodes t)
+  pub other : HasOtherName (current_words old) move.to_dir r t → AreExact (current_words new) in_snapshot left inodes
+  pub last : (final : Set) → GivesBack in_snapshot (IsGivenUp (current_words new) (root_of (current_words new) t) (size_of (current_words new) t) 0) left final →
+      IsLastName (current_words old) move.to_dir r t → AreExact (current_words new) in_snapshot final (with inodes t)
   -- it has a name less
   pub counts : (before : List ℕ) → AreCounts (current_words old) before → t < length before → (rest : ℕ) →
       slice_index before t ≡ rest + 1 → AreCounts (current_words new) (set before t rest)
 
-module _ {kept : ℕ → Bool} (old new : Memory) (move : Move) (r : ℕ) (can : CanRename (current_words old) move) (onto : move.to_slot ≡ Some r) (touched : Touched)
+module _ {in_snapshot : ℕ → Bool} (old new : Memory) (move : Move) (r : ℕ) (can : CanRename (current_words old) move) (onto : move.to_slot ≡ Some r) (touched : Touched)
     (is : TouchesTwo (current_words old) AnyTree touched (inumber_path (current_words old) move.from_dir move.from_slot) (inumber_path (current_words old) move.to_dir r) 0 (moved_inode (current_words old) move))
-    (blocks inodes left : Set) (exact : AreExact (current_words old) kept blocks inodes) (room : room_for (need (current_words old) (replaces move.from_dir move.from_slot move.to_dir r)) ≤ room_in old + 2)
-    (done : CommitsTouched (size_of (current_words old)) kept touched old new blocks left) (as_long : length left ≡ length blocks) where
-  commits : CanCommit (current_words old) (size_of (current_words old)) kept touched (has blocks)
+    (blocks inodes left : Set) (exact : AreExact (current_words old) in_snapshot blocks inodes) (room : room_for (need (current_words old) (replaces move.from_dir move.from_slot move.to_dir r)) ≤ room_in old + 2)
+    (done : CommitsTouched (size_of (current_words old)) in_snapshot touched old new blocks left) (as_long : length left ≡ length blocks) where
+  commits : CanCommit (current_words old) (size_of (current_words old)) in_snapshot touched (has blocks)
   commits = ready old move r can onto touched is blocks inodes exact room
 
   some_words : length touched.words.now ≡ 2
@@ -142,7 +142,7 @@ module _ {kept : ℕ → Bool} (old new : Memory) (move : Move) (r : ℕ) (can :
   onto_well_formed : IsWellFormed (current_words new)
   onto_well_formed = moved_well_formed (current_words old) (current_words new) can.well_formed move.from_dir move.from_slot move.to_dir r (moved_inode (current_words old) move) moved_can onto_moves
 
-  onto_performs : PerformsThawed kept old new (replaces move.from_dir move.from_slot move.to_dir r)
+  onto_performs : PerformsThawed in_snapshot old new (replaces move.from_dir move.from_slot move.to_dir r)
       (λ image image_after. MovesEntry image image_after move.from_dir move.from_slot move.to_dir r (moved_inode image move))
   onto_performs =
       commit_performs old new (replaces move.from_dir move.from_slot move.to_dir r) (λ image image_after. MovesEntry image image_after move.from_dir move.from_slot move.to_dir r (moved_inode image move))
@@ -150,7 +150,7 @@ module _ {kept : ℕ → Bool} (old new : Memory) (move : Move) (r : ℕ) (can :
       (onto_cover (current_words old) move r can onto touched is) (onto_need (current_words old) move r can onto touched is)
       (let few = stores_few (current_words old) (size_of (current_words old)) touched (has blocks) can.well_formed commits in
       omega (arith, few, leaves old move r can onto touched is blocks inodes exact room, some_words, onto_need (current_words old) move r can onto touched is))
-      (cover_open kept (current_words old) can.well_formed touched commits.shape (path_of (word_paths touched) 0) (has-word touched commits.shape 0 (omega (arith, some_words)))
+      (cover_open in_snapshot (current_words old) can.well_formed touched commits.shape (path_of (word_paths touched) 0) (has-word touched commits.shape 0 (omega (arith, some_words)))
       (λ d low. commits.pointers 0 d (omega (arith, some_words)) low) done.loose done.taken)
       onto_well_formed onto_moves
 
@@ -225,26 +225,26 @@ module _ {kept : ℕ → Bool} (old new : Memory) (move : Move) (r : ℕ) (can :
         go (inl e) = subst (IsReached (current_words new)) (sym e) (named more.slot (stays more.directory more.reached not_itself) still_named)
         go (inr other) = stays t was other
 
-    named_exact : AreExact (current_words new) kept left inodes
+    named_exact : AreExact (current_words new) in_snapshot left inodes
     named_exact =
-        same_reach_exact (current_words old) (current_words new) (size_of (current_words old)) kept onto_moves.trees.whole (size_stays 0 inode_file) size_stays
+        same_reach_exact (current_words old) (current_words new) (size_of (current_words old)) in_snapshot onto_moves.trees.whole (size_stays 0 inode_file) size_stays
         (reached_back (current_words old) (current_words new) can.well_formed move.from_dir move.from_slot move.to_dir r (moved_inode (current_words old) move) moved_can onto_moves) still_reached
         blocks left inodes exact as_long done.exact
 
-  module _ (final : Set) (gives : GivesBack kept (IsGivenUp (current_words new) (root_of (current_words new) (inumber_at (current_words old) move.to_dir r)) (size_of (current_words new) (inumber_at (current_words old) move.to_dir r)) 0) left final) where
-    told : GivesBack kept (HasBlock (current_words new) (root_of (current_words new) (inumber_at (current_words old) move.to_dir r)) (size_of (current_words new) (inumber_at (current_words old) move.to_dir r))) left final
+  module _ (final : Set) (gives : GivesBack in_snapshot (IsGivenUp (current_words new) (root_of (current_words new) (inumber_at (current_words old) move.to_dir r)) (size_of (current_words new) (inumber_at (current_words old) move.to_dir r)) 0) left final) where
+    told : GivesBack in_snapshot (HasBlock (current_words new) (root_of (current_words new) (inumber_at (current_words old) move.to_dir r)) (size_of (current_words new) (inumber_at (current_words old) move.to_dir r))) left final
     told = gives_as (IsGivenUp (current_words new) (root_of (current_words new) (inumber_at (current_words old) move.to_dir r)) (size_of (current_words new) (inumber_at (current_words old) move.to_dir r)) 0)
         (HasBlock (current_words new) (root_of (current_words new) (inumber_at (current_words old) move.to_dir r)) (size_of (current_words new) (inumber_at (current_words old) move.to_dir r))) left final
         (λ b gone. gone.has) (λ b held. record { has = held; past = omega arith }) gives
 
     -- where it was the last name
-    onto_exact : IsLastName (current_words old) move.to_dir r (inumber_at (current_words old) move.to_dir r) → AreExact (current_words new) kept final (with inodes (inumber_at (current_words old) move.to_dir r))
+    onto_exact : IsLastName (current_words old) move.to_dir r (inumber_at (current_words old) move.to_dir r) → AreExact (current_words new) in_snapshot final (with inodes (inumber_at (current_words old) move.to_dir r))
     onto_exact last = record {
       block_room = rw onto_moves.trees.whole (gives.room ∙ as_long ∙ exact.block_room);
       inode_room = rw onto_moves.trees.whole (length-set inodes (inumber_at (current_words old) move.to_dir r) true ∙ exact.inode_room);
       free_blocks =
           replaced_blocks (current_words old) (current_words new) can.well_formed move.from_dir move.from_slot move.to_dir r (moved_inode (current_words old) move) moved_can onto_moves can.outside some
-          last kept (has left) (has final) done.exact told.only told.still told.given;
+          last in_snapshot (has left) (has final) done.exact told.only told.still told.given;
       free_inodes =
           replaced_inode (current_words old) (current_words new) can.well_formed move.from_dir move.from_slot move.to_dir r (moved_inode (current_words old) move) moved_can onto_moves can.outside some
           last (has inodes) (has (with inodes (inumber_at (current_words old) move.to_dir r))) exact.free_inodes
@@ -259,7 +259,7 @@ module _ {kept : ℕ → Bool} (old new : Memory) (move : Move) (r : ℕ) (can :
       replaced_counts (current_words old) (current_words new) can.well_formed move.from_dir move.from_slot move.to_dir r (moved_inode (current_words old) move) moved_can onto_moves can.outside
       (can.apart r onto) counts are some low rest is
 
-  pub onto_done : IsReplaced kept old new move r (inumber_at (current_words old) move.to_dir r) inodes left
+  pub onto_done : IsReplaced in_snapshot old new move r (inumber_at (current_words old) move.to_dir r) inodes left
   onto_done = record {
     well_formed = onto_well_formed;
     whole = onto_moves.trees.whole;

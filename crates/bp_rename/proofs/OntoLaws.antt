@@ -103,7 +103,7 @@ module _ (image : Image) (move : Move) (r : ℕ) (can : CanRename image move) (o
     pub onto_apart : NoneBegins (all_paths touched)
     onto_apart = words_apart image (size_of image) (wf_forest image can.well_formed) touched (pick move.from_dir move.to_dir) (pick (32 * move.from_slot + 0) (32 * r + 0)) are
 
-    pub onto_commit : {kept : ℕ → Bool} (free : ℕ → Bool) → AreUnheld image (IsReached image) (size_of image) kept free → CanCommit image (size_of image) kept touched free
+    pub onto_commit : {in_snapshot : ℕ → Bool} (free : ℕ → Bool) → AreUnheld image (IsReached image) (size_of image) in_snapshot free → CanCommit image (size_of image) in_snapshot touched free
     onto_commit free exact = words_can image (size_of image) (wf_forest image can.well_formed) touched (pick move.from_dir move.to_dir) (pick (32 * move.from_slot + 0) (32 * r + 0)) are (λ t q. omega arith) free exact
 
     all_touched : all_paths touched ≡ inumber_path image move.from_dir move.from_slot ∷ inumber_path image move.to_dir r ∷ []
@@ -137,9 +137,9 @@ module _ (image : Image) (move : Move) (r : ℕ) (can : CanRename image move) (o
         ∙ sym (now_whole image can.well_formed (replaces move.from_dir move.from_slot move.to_dir r) move.from_dir (32 * move.from_slot + 0) can.source can.entry.directory low_source (inl refl))
 
     -- so it may be stored to where nothing is left to thaw
-    pub onto_loose : (kept : ℕ → Bool) → thawed image kept (replaces move.from_dir move.from_slot move.to_dir r) ≡ [] → HasLooseCover image kept touched
-    onto_loose kept clear =
+    pub onto_loose : (in_snapshot : ℕ → Bool) → thawed image in_snapshot (replaces move.from_dir move.from_slot move.to_dir r) ≡ [] → HasLooseCover image in_snapshot touched
+    onto_loose in_snapshot clear =
         let some : 0 < length touched.words.now = omega (arith, are.some) in
         cover_loose image can.well_formed touched onto_shape (path_of (word_paths touched) 0) (has-word touched onto_shape 0 some)
         (λ d low. words_fronts image (size_of image) (wf_forest image can.well_formed) touched (pick move.from_dir move.to_dir) (pick (32 * move.from_slot + 0) (32 * r + 0)) are 0 d some low)
-        kept (replaces move.from_dir move.from_slot move.to_dir r) onto_now clear
+        in_snapshot (replaces move.from_dir move.from_slot move.to_dir r) onto_now clear

@@ -72,16 +72,16 @@ module _ (image : Image) (move : Move) (can : CanRename image move) where
         go (inr (inl e)) = subst (IsWayIn image) e (content_way image can.well_formed move.to_dir (32 * s + 0) can.target low_target)
         go (inr (inr never)) = absurd never
 
-    -- where nothing is left to thaw the block of the empty entry is not kept
-    pub slot_loose : (kept : ℕ → Bool) → thawed image kept (moves move.from_dir move.from_slot move.to_dir) ≡ [] → (entry : ℕ) → ContentStandsAt image move.to_dir (32 * s + 0) entry → kept (entry / 512) ≡ false
-    slot_loose kept clear entry stands =
+    -- where nothing is left to thaw the block of the empty entry is not in the snapshot
+    pub slot_loose : (in_snapshot : ℕ → Bool) → thawed image in_snapshot (moves move.from_dir move.from_slot move.to_dir) ≡ [] → (entry : ℕ) → ContentStandsAt image move.to_dir (32 * s + 0) entry → in_snapshot (entry / 512) ≡ false
+    slot_loose in_snapshot clear entry stands =
         let among : Has (targets image (moves move.from_dir move.from_slot move.to_dir)) (inumber_path image move.to_dir s) =
         subst (λ (ps : List WordPath). Has ps (inumber_path image move.to_dir s)) (sym into_targets) (inr (inl refl)) in
         let here : node image (root_of image move.to_dir) (height_of (root_of image move.to_dir)) ((32 * s + 0) / 512) ≡ entry / 512 = omega (arith, stands.at) in
-        ap kept (sym here)
-        ∙ loose_word image can.well_formed kept move.to_dir (height_of (root_of image move.to_dir)) (32 * s + 0) can.target
+        ap in_snapshot (sym here)
+        ∙ loose_word image can.well_formed in_snapshot move.to_dir (height_of (root_of image move.to_dir)) (32 * s + 0) can.target
         (live_leaf (root_of image move.to_dir) (size_of image move.to_dir) ((32 * s + 0) / 512) (omega (arith, low_target))) stands.present
-        (loose-on image kept (targets image (moves move.from_dir move.from_slot move.to_dir)) clear (inumber_path image move.to_dir s) among (length (inumber_path image move.to_dir s) - 1))
+        (loose-on image in_snapshot (targets image (moves move.from_dir move.from_slot move.to_dir)) clear (inumber_path image move.to_dir s) among (length (inumber_path image move.to_dir s) - 1))
 
   -- ---- behind the last entry
 
@@ -106,12 +106,12 @@ module _ (image : Image) (move : Move) (can : CanRename image move) where
         go (inr (inr (inr never))) = absurd never
 
     -- where nothing is left to thaw an entry may be put there
-    pub end_loose : (kept : ℕ → Bool) → thawed image kept (moves move.from_dir move.from_slot move.to_dir) ≡ [] → HasLooseEnd image kept move.to_dir
-    end_loose kept clear =
+    pub end_loose : (in_snapshot : ℕ → Bool) → thawed image in_snapshot (moves move.from_dir move.from_slot move.to_dir) ≡ [] → HasLooseEnd image in_snapshot move.to_dir
+    end_loose in_snapshot clear =
         let among : Has (targets image (moves move.from_dir move.from_slot move.to_dir)) (end_path_now image move.to_dir) =
         subst (λ (ps : List WordPath). Has ps (end_path_now image move.to_dir)) (sym behind_targets) (inr (inr (inl refl))) in
-        loose_end image can.well_formed kept move.to_dir can.target
-        (loose-on image kept (targets image (moves move.from_dir move.from_slot move.to_dir)) clear (end_path_now image move.to_dir) among (length (root_path_now image move.to_dir) - 1))
+        loose_end image can.well_formed in_snapshot move.to_dir can.target
+        (loose-on image in_snapshot (targets image (moves move.from_dir move.from_slot move.to_dir)) clear (end_path_now image move.to_dir) among (length (root_path_now image move.to_dir) - 1))
 
   -- ---- all of them
 

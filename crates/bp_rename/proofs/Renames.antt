@@ -38,9 +38,9 @@ pub rename_of : (image : Image) (move : Move) → CanRename image move → IsOfR
 rename_of image move can = of_change image move.from_dir move.from_slot move.to_dir (length move.name.now) move.to_slot can.source can.target can.directory
 
 -- another word for what it does
-thawed_as : (kept : ℕ → Bool) (old new : Memory) (change : Change) (Effect Other : Image → Image → Type 0) → PerformsThawed kept old new change Effect →
-    (Effect (current_words old) (current_words new) → Other (current_words old) (current_words new)) → PerformsThawed kept old new change Other
-thawed_as kept old new change Effect Other done other = record {
+thawed_as : (in_snapshot : ℕ → Bool) (old new : Memory) (change : Change) (Effect Other : Image → Image → Type 0) → PerformsThawed in_snapshot old new change Effect →
+    (Effect (current_words old) (current_words new) → Other (current_words old) (current_words new)) → PerformsThawed in_snapshot old new change Other
+thawed_as in_snapshot old new change Effect Other done other = record {
   value = done.value;
   commit = done.commit;
   taken = done.taken;
@@ -51,19 +51,19 @@ thawed_as kept old new change Effect Other done other = record {
   effect = other done.effect;
 }
 
-module _ (kept : ℕ → Bool) (old new : Memory) (move : Move) where
+module _ (in_snapshot : ℕ → Bool) (old new : Memory) (move : Move) where
   pub onto_renames : (r : ℕ) → move.to_slot ≡ Some r →
-      PerformsThawed kept old new (replaces move.from_dir move.from_slot move.to_dir r) (λ image after. MovesEntry image after move.from_dir move.from_slot move.to_dir r (moved_inode image move)) →
-      PerformsThawed kept old new (change_of move) (RenamesEntry move)
+      PerformsThawed in_snapshot old new (replaces move.from_dir move.from_slot move.to_dir r) (λ image after. MovesEntry image after move.from_dir move.from_slot move.to_dir r (moved_inode image move)) →
+      PerformsThawed in_snapshot old new (change_of move) (RenamesEntry move)
   onto_renames r is performs =
-      subst (λ change. PerformsThawed kept old new change (RenamesEntry move)) (sym (onto_change move r is))
-      (thawed_as kept old new (replaces move.from_dir move.from_slot move.to_dir r) (λ image after. MovesEntry image after move.from_dir move.from_slot move.to_dir r (moved_inode image move))
+      subst (λ change. PerformsThawed in_snapshot old new change (RenamesEntry move)) (sym (onto_change move r is))
+      (thawed_as in_snapshot old new (replaces move.from_dir move.from_slot move.to_dir r) (λ image after. MovesEntry image after move.from_dir move.from_slot move.to_dir r (moved_inode image move))
       (RenamesEntry move) performs (λ moved. onto r is moved))
 
-  pub within_renames : move.to_slot ≡ None → move.from_dir ≡ move.to_dir → PerformsThawed kept old new (respells move.from_dir move.from_slot (length move.name.now)) (RenamesEntry move) →
-      PerformsThawed kept old new (change_of move) (RenamesEntry move)
-  within_renames none here performs = subst (λ change. PerformsThawed kept old new change (RenamesEntry move)) (sym (within_change move none here)) performs
+  pub within_renames : move.to_slot ≡ None → move.from_dir ≡ move.to_dir → PerformsThawed in_snapshot old new (respells move.from_dir move.from_slot (length move.name.now)) (RenamesEntry move) →
+      PerformsThawed in_snapshot old new (change_of move) (RenamesEntry move)
+  within_renames none here performs = subst (λ change. PerformsThawed in_snapshot old new change (RenamesEntry move)) (sym (within_change move none here)) performs
 
-  pub across_renames : move.to_slot ≡ None → move.from_dir ≢ move.to_dir → PerformsThawed kept old new (moves move.from_dir move.from_slot move.to_dir) (RenamesEntry move) →
-      PerformsThawed kept old new (change_of move) (RenamesEntry move)
-  across_renames none other performs = subst (λ change. PerformsThawed kept old new change (RenamesEntry move)) (sym (across_change move none other)) performs
+  pub across_renames : move.to_slot ≡ None → move.from_dir ≢ move.to_dir → PerformsThawed in_snapshot old new (moves move.from_dir move.from_slot move.to_dir) (RenamesEntry move) →
+      PerformsThawed in_snapshot old new (change_of move) (RenamesEntry move)
+  across_renames none other performs = subst (λ change. PerformsThawed in_snapshot old new change (RenamesEntry move)) (sym (across_change move none other)) performs

@@ -18,7 +18,7 @@ small_front n xs small at = go (cases_lt at n)
     go (inr past) = let none : slice_index (take n xs) at ≡ 0 = get_or_past (take n xs) at 0 (omega (arith, past, length-take n xs)) in omega (arith, none)
 
 pub is_name_run : {run : Run} → (image : Image) (i slot : ℕ) (name : Name) (bytes : List ℕ) →
-    run.root.items ≡ inode_path (height_of (root_of image 0)) i 1 → run.height ≡ height_of (root_of image i) → run.size ≡ size_of image i → run.off ≡ 256 * slot + 8 →
+    run.root.items ≡ inode_path (height_of (root_of image 0)) i 1 → run.height ≡ height_of (root_of image i) → run.size ≡ size_of image i → run.offset ≡ 256 * slot + 8 →
     run.bytes.now ≡ take (respelled_length name) bytes → length bytes ≡ max_name + 8 → length name ≤ max_name → IsRespelled name bytes → ((at : ℕ) → slice_index bytes at < 256) →
     IsNameRun image i slot name run
 is_name_run image i slot name bytes root height size from part whole short are small = record {

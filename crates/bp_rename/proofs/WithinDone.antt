@@ -59,9 +59,9 @@ name_byte name o =
     let back : 8 + o - 8 ≡ o = omega arith in
     rw (le-ltb (8 + o) 8 past, back) refl
 
-module _ {kept : ℕ → Bool} (memory : Memory) (n s j : ℕ) (name : Name) (can : CanRespell (current_words memory) (suc n) s j name) (touched : Touched) (is : TouchesName (current_words memory) (suc n) s name touched)
-    (blocks inodes : Set) (exact : AreExact (current_words memory) kept blocks inodes) (room : room_for (need (current_words memory) (respells (suc n) s (length name))) ≤ room_in memory + 2) where
-  pub within_ready : CanCommit (current_words memory) (size_of (current_words memory)) kept touched (has blocks)
+module _ {in_snapshot : ℕ → Bool} (memory : Memory) (n s j : ℕ) (name : Name) (can : CanRespell (current_words memory) (suc n) s j name) (touched : Touched) (is : TouchesName (current_words memory) (suc n) s name touched)
+    (blocks inodes : Set) (exact : AreExact (current_words memory) in_snapshot blocks inodes) (room : room_for (need (current_words memory) (respells (suc n) s (length name))) ≤ room_in memory + 2) where
+  pub within_ready : CanCommit (current_words memory) (size_of (current_words memory)) in_snapshot touched (has blocks)
   within_ready =
       run_commit (current_words memory) can.well_formed n can.reached touched is.run is.one (no_words (current_words memory) n s j name can touched is) is.no_trees (name_run (current_words memory) n s j name can touched is)
       (has blocks) exact.free_blocks
@@ -74,9 +74,9 @@ module _ {kept : ℕ → Bool} (memory : Memory) (n s j : ℕ) (name : Name) (ca
       let copies = few_copies (current_words memory) (size_of (current_words memory)) touched (has blocks) can.well_formed within_ready is.run is.one in
       omega (arith, copies, few, no_words (current_words memory) n s j name can touched is, within_need (current_words memory) n s j name can touched is, room)
 
-module _ {kept : ℕ → Bool} (old new : Memory) (n s j : ℕ) (name : Name) (can : CanRespell (current_words old) (suc n) s j name) (touched : Touched) (is : TouchesName (current_words old) (suc n) s name touched)
-    (blocks inodes left : Set) (exact : AreExact (current_words old) kept blocks inodes) (room : room_for (need (current_words old) (respells (suc n) s (length name))) ≤ room_in old + 2)
-    (done : CommitsTouched (size_of (current_words old)) kept touched old new blocks left) (as_long : length left ≡ length blocks) where
+module _ {in_snapshot : ℕ → Bool} (old new : Memory) (n s j : ℕ) (name : Name) (can : CanRespell (current_words old) (suc n) s j name) (touched : Touched) (is : TouchesName (current_words old) (suc n) s name touched)
+    (blocks inodes left : Set) (exact : AreExact (current_words old) in_snapshot blocks inodes) (room : room_for (need (current_words old) (respells (suc n) s (length name))) ≤ room_in old + 2)
+    (done : CommitsTouched (size_of (current_words old)) in_snapshot touched old new blocks left) (as_long : length left ≡ length blocks) where
   bare : length touched.words.now ≡ 0
   bare = no_words (current_words old) n s j name can touched is
 
@@ -89,7 +89,7 @@ module _ {kept : ℕ → Bool} (old new : Memory) (n s j : ℕ) (name : Name) (c
   ends : run_end is.run ≡ 256 * s + 16 + 8 * ((length name + 7) / 8)
   ends = name_end (current_words old) n s j name can touched is
 
-  ready : CanCommit (current_words old) (size_of (current_words old)) kept touched (has blocks)
+  ready : CanCommit (current_words old) (size_of (current_words old)) in_snapshot touched (has blocks)
   ready = within_ready old n s j name can touched is blocks inodes exact room
 
   -- the word of the length
@@ -101,9 +101,9 @@ module _ {kept : ℕ → Bool} (old new : Memory) (n s j : ℕ) (name : Name) (c
       ∙ sym (run_word-inside is.run (32 * s + 1) (content_word (current_words old) (root_of (current_words old) (suc n)) (32 * s + 1)) (word_bytes (length name)) (omega (arith, is.is.from)) (omega (arith, ends)) refl same)
       ∙ word_of_bytes (length name) (omega (arith, can.form.short))
     where
-      same : (i : ℕ) → i < 8 → slice_index (word_bytes (length name)) i ≡ slice_index is.run.bytes.now (8 * (32 * s + 1) - is.run.off + i)
+      same : (i : ℕ) → i < 8 → slice_index (word_bytes (length name)) i ≡ slice_index is.run.bytes.now (8 * (32 * s + 1) - is.run.offset + i)
       same i low =
-          let at : 8 * (32 * s + 1) - is.run.off + i ≡ i = omega (arith, is.is.from) in
+          let at : 8 * (32 * s + 1) - is.run.offset + i ≡ i = omega (arith, is.is.from) in
           byte_at (length name) i low ∙ sym (ap (slice_index is.run.bytes.now) at ∙ is.is.bytes_are i (omega (arith, low)) ∙ length_byte name i low)
 
   pub within_name : name_at (current_words new) (suc n) s ≡ name
@@ -111,7 +111,7 @@ module _ {kept : ℕ → Bool} (old new : Memory) (n s j : ℕ) (name : Name) (c
     where
       each : (o : ℕ) → o < length name → byte (current_words new) (root_of (current_words new) (suc n)) (256 * s + 16 + o) ≡ get_or name o 0
       each o low =
-          let at : 256 * s + 16 + o - is.run.off ≡ 8 + o = omega (arith, is.is.from) in
+          let at : 256 * s + 16 + o - is.run.offset ≡ 8 + o = omega (arith, is.is.from) in
           run_given (current_words old) can.well_formed n can.reached touched is.run is.one bare is.no_trees run_there
           (has blocks) exact.free_blocks can.names.directory (current_words new) (IsTurned (job_of touched) (length (commit_cover (current_words old) touched))) done.words
           (256 * s + 16 + o) is.is.small (omega (arith, is.is.from)) (omega (arith, ends, low)) (omega (arith, low, can.form.short, can.names.in_size))
@@ -130,18 +130,18 @@ module _ {kept : ℕ → Bool} (old new : Memory) (n s j : ℕ) (name : Name) (c
       (rw within_name can.form) (λ same. no_name s j can.names (same ∙ within_name)) (λ x l names other same. no_name x l names (same ∙ within_name))
 
   pub within_performs : (Effect : Image → Image → Type 0) → (RespellsEntry (current_words old) (current_words new) (suc n) s j → name_at (current_words new) (suc n) s ≡ name → Effect (current_words old) (current_words new)) →
-      PerformsThawed kept old new (respells (suc n) s (length name)) Effect
+      PerformsThawed in_snapshot old new (respells (suc n) s (length name)) Effect
   within_performs Effect so =
       commit_performs old new (respells (suc n) s (length name)) Effect (size_of (current_words old)) touched blocks left done
       (within_cover (current_words old) n s j name can touched is) (within_need (current_words old) n s j name can touched is)
       (let stores = stores_few (current_words old) (size_of (current_words old)) touched (has blocks) can.well_formed ready in
       omega (arith, stores, ap leaves_of is.one, few old n s j name can touched is blocks inodes exact room, bare, within_need (current_words old) n s j name can touched is))
-      (run_open (current_words old) can.well_formed n can.reached is.run run_there kept touched (within_shape (current_words old) n s j name can touched is) (subst (λ runs. Has runs is.run) (sym is.one) (inl refl)) done.loose done.taken)
+      (run_open (current_words old) can.well_formed n can.reached is.run run_there in_snapshot touched (within_shape (current_words old) n s j name can touched is) (subst (λ runs. Has runs is.run) (sym is.one) (inl refl)) done.loose done.taken)
       (respelled_well_formed (current_words old) (current_words new) can.well_formed (suc n) s j within_respells)
       (so within_respells within_name)
 
-  pub within_exact : AreExact (current_words new) kept left inodes
-  within_exact = respelled_exact (current_words old) (current_words new) can.well_formed (suc n) s j within_respells kept blocks left inodes exact as_long done.exact
+  pub within_exact : AreExact (current_words new) in_snapshot left inodes
+  within_exact = respelled_exact (current_words old) (current_words new) can.well_formed (suc n) s j within_respells in_snapshot blocks left inodes exact as_long done.exact
 
   pub within_counts : (counts : List ℕ) → AreCounts (current_words old) counts → AreCounts (current_words new) counts
   within_counts = respelled_counts (current_words old) (current_words new) can.well_formed (suc n) s j within_respells
@@ -151,8 +151,8 @@ module _ {kept : ℕ → Bool} (old new : Memory) (n s j : ℕ) (name : Name) (c
 
 -- ---- told of any directory
 
-module _ {kept : ℕ → Bool} (old : Memory) (s j : ℕ) (name : Name) (touched : Touched) (blocks inodes : Set) (exact : AreExact (current_words old) kept blocks inodes) where
-  pub within_ready_at : (i : ℕ) → room_for (need (current_words old) (respells i s (length name))) ≤ room_in old + 2 → CanRespell (current_words old) i s j name → TouchesName (current_words old) i s name touched → CanCommit (current_words old) (size_of (current_words old)) kept touched (has blocks)
+module _ {in_snapshot : ℕ → Bool} (old : Memory) (s j : ℕ) (name : Name) (touched : Touched) (blocks inodes : Set) (exact : AreExact (current_words old) in_snapshot blocks inodes) where
+  pub within_ready_at : (i : ℕ) → room_for (need (current_words old) (respells i s (length name))) ≤ room_in old + 2 → CanRespell (current_words old) i s j name → TouchesName (current_words old) i s name touched → CanCommit (current_words old) (size_of (current_words old)) in_snapshot touched (has blocks)
   within_ready_at zero room can is = absurd (omega (arith, can.names.directory))
   within_ready_at (suc n) room can is = within_ready old n s j name can touched is blocks inodes exact room
 
@@ -160,13 +160,13 @@ module _ {kept : ℕ → Bool} (old : Memory) (s j : ℕ) (name : Name) (touched
   within_room_at zero room can is = absurd (omega (arith, can.names.directory))
   within_room_at (suc n) room can is = within_room old n s j name can touched is blocks inodes exact room
 
-  module _ (new : Memory) (left : Set) (done : CommitsTouched (size_of (current_words old)) kept touched old new blocks left) (as_long : length left ≡ length blocks) where
+  module _ (new : Memory) (left : Set) (done : CommitsTouched (size_of (current_words old)) in_snapshot touched old new blocks left) (as_long : length left ≡ length blocks) where
     pub within_performs_at : (i : ℕ) → room_for (need (current_words old) (respells i s (length name))) ≤ room_in old + 2 → CanRespell (current_words old) i s j name → TouchesName (current_words old) i s name touched → (Effect : Image → Image → Type 0) →
-        (RespellsEntry (current_words old) (current_words new) i s j → name_at (current_words new) i s ≡ name → Effect (current_words old) (current_words new)) → PerformsThawed kept old new (respells i s (length name)) Effect
+        (RespellsEntry (current_words old) (current_words new) i s j → name_at (current_words new) i s ≡ name → Effect (current_words old) (current_words new)) → PerformsThawed in_snapshot old new (respells i s (length name)) Effect
     within_performs_at zero room can is Effect so = absurd (omega (arith, can.names.directory))
     within_performs_at (suc n) room can is Effect so = within_performs old new n s j name can touched is blocks inodes left exact room done as_long Effect so
 
-    pub within_exact_at : (i : ℕ) → room_for (need (current_words old) (respells i s (length name))) ≤ room_in old + 2 → CanRespell (current_words old) i s j name → TouchesName (current_words old) i s name touched → AreExact (current_words new) kept left inodes
+    pub within_exact_at : (i : ℕ) → room_for (need (current_words old) (respells i s (length name))) ≤ room_in old + 2 → CanRespell (current_words old) i s j name → TouchesName (current_words old) i s name touched → AreExact (current_words new) in_snapshot left inodes
     within_exact_at zero room can is = absurd (omega (arith, can.names.directory))
     within_exact_at (suc n) room can is = within_exact old new n s j name can touched is blocks inodes left exact room done as_long
 

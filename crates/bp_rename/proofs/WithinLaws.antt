@@ -84,8 +84,8 @@ module _ (image : Image) (n s j : ℕ) (name : Name) (can : CanRespell image (su
 
   same_paths : all_paths touched ≡ layout.touched image (respells (suc n) s (length name))
   same_paths =
-      let first : is.run.off / 8 ≡ 32 * s + 1 = omega (arith, is.is.from) in
-      let count : suc ((run_end is.run - 1) / 8 - is.run.off / 8) ≡ suc ((length name + 7) / 8) = omega (arith, name_end, first) in
+      let first : is.run.offset / 8 ≡ 32 * s + 1 = omega (arith, is.is.from) in
+      let count : suc ((run_end is.run - 1) / 8 - is.run.offset / 8) ≡ suc ((length name + 7) / 8) = omega (arith, name_end, first) in
       ap (λ r. run_paths r ++ word_paths touched) is.one
       ∙ ap (λ (words : List WordPath). run_paths (is.run ∷ []) ++ words) nothing
       ∙ append-nil (run_paths (is.run ∷ []))
@@ -139,10 +139,10 @@ module _ (image : Image) (n s j : ℕ) (name : Name) (can : CanRespell image (su
       ∙ sym (now_whole image can.well_formed (respells (suc n) s (length name)) (suc n) (32 * s + 1) can.reached can.names.directory low (inl refl))
 
   -- so it may be stored to where nothing is left to thaw
-  pub within_loose : (kept : ℕ → Bool) → thawed image kept (respells (suc n) s (length name)) ≡ [] → HasLooseCover image kept touched
-  within_loose kept clear =
-      run_loose image can.well_formed n can.reached is.run name_run kept touched within_shape (subst (λ runs. Has runs is.run) (sym is.one) (inl refl))
-      (loose-on image kept (targets image (respells (suc n) s (length name))) clear (commit_cover image touched) (inl (sym within_now)) (length (commit_cover image touched) - 1))
+  pub within_loose : (in_snapshot : ℕ → Bool) → thawed image in_snapshot (respells (suc n) s (length name)) ≡ [] → HasLooseCover image in_snapshot touched
+  within_loose in_snapshot clear =
+      run_loose image can.well_formed n can.reached is.run name_run in_snapshot touched within_shape (subst (λ runs. Has runs is.run) (sym is.one) (inl refl))
+      (loose-on image in_snapshot (targets image (respells (suc n) s (length name))) clear (commit_cover image touched) (inl (sym within_now)) (length (commit_cover image touched) - 1))
 
 -- ---- told of any directory
 
@@ -171,9 +171,9 @@ module _ (image : Image) (s j : ℕ) (name : Name) (touched : Touched) where
   within_now_at zero can is = absurd (omega (arith, can.names.directory))
   within_now_at (suc n) can is = within_now image n s j name can touched is
 
-  pub within_loose_at : (i : ℕ) → CanRespell image i s j name → TouchesName image i s name touched → (kept : ℕ → Bool) → thawed image kept (respells i s (length name)) ≡ [] → HasLooseCover image kept touched
-  within_loose_at zero can is kept clear = absurd (omega (arith, can.names.directory))
-  within_loose_at (suc n) can is kept clear = within_loose image n s j name can touched is kept clear
+  pub within_loose_at : (i : ℕ) → CanRespell image i s j name → TouchesName image i s name touched → (in_snapshot : ℕ → Bool) → thawed image in_snapshot (respells i s (length name)) ≡ [] → HasLooseCover image in_snapshot touched
+  within_loose_at zero can is in_snapshot clear = absurd (omega (arith, can.names.directory))
+  within_loose_at (suc n) can is in_snapshot clear = within_loose image n s j name can touched is in_snapshot clear
 
 -- ---- of a move
 

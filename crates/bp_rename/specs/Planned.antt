@@ -15,7 +15,7 @@ use Rattle.bp_layout.specs.Need.{need}
 use Rattle.bp_layout.specs.Thaw.{cover_now}
 use Rattle.bp_layout.specs.Words.{Image}
 use Rattle.bp_limits.specs.Limits.{entry_size}
-use Rattle.bp_shapes.specs.Sets.{IsExact, kept_of}
+use Rattle.bp_shapes.specs.Sets.{IsExact, in_snapshot_of}
 use Rattle.pm_region.specs.Memory.{Memory, current_words}
 use Rattle.bp_rename.specs.CanRename.{CanRename, change_of, moved_inode}
 use Rattle.bp_rename.specs.RenamesEntry.{RenamesEntry}
@@ -75,9 +75,9 @@ pub record IsReadyToRename {R : Type 0} (memory : R → Memory) (move : Move) (t
   pub shape : SameShape (current_words (memory old.region)) (current_words (memory new.region))
   pub can : CanRename (current_words (memory new.region)) move
   pub exact : IsExact (current_words (memory new.region)) new
-  pub frozen : new.frozen ≡ old.frozen
-  pub thawed : IsThawedFor (kept_of new) (memory new.region) new.blocks (change_of move)
+  pub snapshot_blocks : new.snapshot_blocks ≡ old.snapshot_blocks
+  pub thawed : IsThawedFor (in_snapshot_of new) (memory new.region) new.free_blocks (change_of move)
   pub ways : AreWaysIn (current_words (memory new.region)) touched found
   pub performs : (last : Parts R) →
-      PerformsThawed (kept_of new) (memory new.region) (memory last.region) (change_of move) (RenamesEntry move) →
-      Performs (kept_of old) (memory old.region) (memory last.region) (change_of move) (AfterThaw (RenamesEntry move))
+      PerformsThawed (in_snapshot_of new) (memory new.region) (memory last.region) (change_of move) (RenamesEntry move) →
+      Performs (in_snapshot_of old) (memory old.region) (memory last.region) (change_of move) (AfterThaw (RenamesEntry move))

@@ -27,7 +27,7 @@ pub record IsNameRun (image : Image) (i slot : ℕ) (name : Name) (run : Run) : 
   pub root : run.root.items ≡ inode_path (height_of (root_of image 0)) i root_field
   pub height : run.height ≡ height_of (root_of image i)
   pub size : run.size ≡ size_of image i
-  pub from : run.off ≡ entry_size * slot + 8
+  pub from : run.offset ≡ entry_size * slot + 8
   pub count : length run.bytes.now ≡ respelled_length name
   pub bytes_are : (at : ℕ) → at < respelled_length name → slice_index run.bytes.now at ≡ respelled_byte name at
   pub small : (at : ℕ) → slice_index run.bytes.now at < 256

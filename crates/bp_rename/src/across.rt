@@ -10,7 +10,7 @@ ghost use Rattle.bp_layout.specs.Directory.{empty_slot};
 ghost use Rattle.bp_rename.specs.CanRename.{CanRename, change_across, change_of};
 ghost use Rattle.bp_rename.specs.Planned.{AreWordsInto, TouchesInto};
 ghost use Rattle.bp_rename.specs.RenamesEntry.{RenamesEntry};
-ghost use Rattle.bp_shapes.specs.Sets.{kept_of};
+ghost use Rattle.bp_shapes.specs.Sets.{in_snapshot_of};
 ghost use Rattle.pm_region.specs.Memory.{words_in};
 
 use crate::moving::Move;
@@ -81,7 +81,7 @@ pub(crate) fn rename_into<R: Region>(
     requires other { to_move.now.from_dir ≢ to_move.now.to_dir }
     requires empty { empty_slot (image_in R.memory parts.old) to_move.now.to_dir ≡ Some slot }
     requires exact { IsExactIn R.memory parts.old }
-    requires room { HasRoomWhereFree (R.memory parts.old.region) (kept_of parts.old) parts.old.blocks (change_of to_move.now) }
+    requires room { HasRoomWhereFree (R.memory parts.old.region) (in_snapshot_of parts.old) parts.old.free_blocks (change_of to_move.now) }
     ensures { CommitsOrLacksSpace R.memory parts.old parts.new result (change_of to_move.now) (RenamesEntry to_move.now) }
 {
     let words = words_into(&parts.region, to_move, slot);

@@ -10,14 +10,14 @@ ghost use Rattle.bp_layout.specs.Directory.{empty_slot};
 ghost use Rattle.bp_rename.specs.CanRename.{CanRename, change_across, change_of};
 ghost use Rattle.bp_rename.specs.Planned.{AreWordsBehind, TouchesBehind};
 ghost use Rattle.bp_rename.specs.RenamesEntry.{RenamesEntry};
-ghost use Rattle.bp_shapes.specs.Sets.{kept_of};
+ghost use Rattle.bp_shapes.specs.Sets.{in_snapshot_of};
 ghost use Rattle.pm_region.specs.Memory.{words_in};
 
 use crate::moving::Move;
 use crate::needing::ready_ways;
 use crate::touching::{touched_two, trees_of_one};
 use bp_append::need_prep;
-use bp_calls::{entry_path, put_behind};
+use bp_calls::{append_entry, entry_path};
 use bp_cow::{FoundWays, Touched, commit_at};
 use bp_dirs::inumber;
 use bp_free::{NoSpace, Parts};
@@ -58,9 +58,9 @@ fn move_behind<R: Region>(
     ensures { CommitsChange R.memory parts.old parts.new (change_across to_move.now) (RenamesEntry to_move.now) }
 {
     let source = tree_of(&parts.region, to_move.from_dir);
-    let inode = inumber(&parts.region, source, to_move.from_slot) as u32;
+    let ino = inumber(&parts.region, source, to_move.from_slot) as u32;
     let target = tree_of(&parts.region, to_move.to_dir);
-    put_behind(parts, to_move.to_dir, target, inode, to_move.name);
+    append_entry(parts, to_move.to_dir, target, ino, to_move.name);
     commit_at(parts, touched, found);
 }
 
@@ -78,7 +78,7 @@ pub(crate) fn rename_behind<R: Region>(
     requires other { to_move.now.from_dir ≢ to_move.now.to_dir }
     requires none { empty_slot (image_in R.memory parts.old) to_move.now.to_dir ≡ None }
     requires exact { IsExactIn R.memory parts.old }
-    requires room { HasRoomWhereFree (R.memory parts.old.region) (kept_of parts.old) parts.old.blocks (change_of to_move.now) }
+    requires room { HasRoomWhereFree (R.memory parts.old.region) (in_snapshot_of parts.old) parts.old.free_blocks (change_of to_move.now) }
     ensures { CommitsOrLacksSpace R.memory parts.old parts.new result (change_of to_move.now) (RenamesEntry to_move.now) }
 {
     let target = tree_of(&parts.region, to_move.to_dir);

@@ -8,7 +8,7 @@ ghost use Rattle.bp_layout.specs.Need.{need};
 ghost use Rattle.bp_rename.specs.CanRename.{CanRename, IsSlotAcross, change_across, change_of};
 ghost use Rattle.bp_rename.specs.Planned.{IsPlanned, IsReadyToRename, Needs};
 ghost use Rattle.bp_layout.specs.Thaw.{cover_now, targets, thawed};
-ghost use Rattle.bp_shapes.specs.Sets.{kept_of};
+ghost use Rattle.bp_shapes.specs.Sets.{in_snapshot_of};
 ghost use Rattle.bp_thaw.specs.Thaws.{paths_in};
 ghost use Rattle.pm_region.specs.Memory.{words_in};
 
@@ -72,9 +72,9 @@ fn is_clear<R: Region>(
     requires empty { IsSlotAcross (image_in R.memory parts.now) to_move.now empty }
     requires exact { IsExactIn R.memory parts.now }
     requires planned { IsPlanned (image_in R.memory parts.now) to_move.now touched.now }
-    ensures { result ≡ true → thawed (image_in R.memory parts.now) (kept_of parts.now) (change_of to_move.now) ≡ [] }
+    ensures { result ≡ true → thawed (image_in R.memory parts.now) (in_snapshot_of parts.now) (change_of to_move.now) ≡ [] }
 {
-    if parts.frozen.count() == 0 {
+    if parts.snapshot_blocks.count() == 0 {
         return true;
     }
     let targets = targets_of(&parts.region, to_move, empty, touched);
@@ -102,9 +102,9 @@ fn thaw_ways<R: Region>(
     requires planned { IsPlanned (image_in R.memory parts.old) to_move.now touched.now }
     requires need { more ≡ need (image_in R.memory parts.old) (change_of to_move.now) }
     requires few { more < 2 ^ 31 }
-    requires room { HasRoomWhereFree (R.memory parts.old.region) (kept_of parts.old) parts.old.blocks (change_of to_move.now) }
+    requires room { HasRoomWhereFree (R.memory parts.old.region) (in_snapshot_of parts.old) parts.old.free_blocks (change_of to_move.now) }
     ensures ready { IfOk result (λ found. IsReadyToRename R.memory to_move.now touched.now parts.old parts.new found) }
-    ensures refused { IfErr result (LacksSpace (image_in R.memory parts.old) (kept_of parts.old)
+    ensures refused { IfErr result (LacksSpace (image_in R.memory parts.old) (in_snapshot_of parts.old)
         (change_of to_move.now)) }
     ensures same { OnErr result (parts.new ≡ parts.old) }
 {
@@ -137,9 +137,9 @@ pub(crate) fn ready_ways<R: Region>(
     requires exact { IsExactIn R.memory parts.old }
     requires planned { IsPlanned (image_in R.memory parts.old) to_move.now touched.now }
     requires needs { Needs (image_in R.memory parts.old) to_move.now touched.now besides }
-    requires room { HasRoomWhereFree (R.memory parts.old.region) (kept_of parts.old) parts.old.blocks (change_of to_move.now) }
+    requires room { HasRoomWhereFree (R.memory parts.old.region) (in_snapshot_of parts.old) parts.old.free_blocks (change_of to_move.now) }
     ensures ready { IfOk result (λ found. IsReadyToRename R.memory to_move.now touched.now parts.old parts.new found) }
-    ensures refused { IfErr result (LacksSpace (image_in R.memory parts.old) (kept_of parts.old)
+    ensures refused { IfErr result (LacksSpace (image_in R.memory parts.old) (in_snapshot_of parts.old)
         (change_of to_move.now)) }
     ensures same { OnErr result (parts.new ≡ parts.old) }
 {
@@ -148,7 +148,7 @@ pub(crate) fn ready_ways<R: Region>(
     if !is_clear(parts, to_move, empty, touched) {
         return thaw_ways(parts, to_move, empty, touched, need);
     }
-    let free = parts.blocks.count();
+    let free = parts.free_blocks.count();
     if free < need {
         return Err(NoSpace { need, free });
     }

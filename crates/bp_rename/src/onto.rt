@@ -9,13 +9,13 @@ ghost use Rattle.bp_cow.specs.Found.{AreWaysIn};
 ghost use Rattle.bp_rename.specs.CanRename.{CanRename, change_of, change_onto};
 ghost use Rattle.bp_rename.specs.Planned.{AreWordsOnto, TouchesOnto};
 ghost use Rattle.bp_rename.specs.RenamesEntry.{MovesOnto, RenamesEntry};
-ghost use Rattle.bp_shapes.specs.Sets.{kept_of};
+ghost use Rattle.bp_shapes.specs.Sets.{in_snapshot_of};
 ghost use Rattle.pm_region.specs.Memory.{words_in};
 
 use crate::moving::Move;
 use crate::needing::ready_ways;
 use crate::touching::{touched_two, trees_of_both};
-use bp_calls::{entry_path, give_back};
+use bp_calls::{entry_path, free_tree};
 use bp_cow::{FoundWays, Touched, commit_at};
 use bp_dirs::inumber;
 use bp_free::{NoSpace, Parts};
@@ -57,8 +57,8 @@ fn move_onto<R: Region>(
 {
     let target = tree_of(&parts.region, to_move.to_dir);
     let replaced = inumber(&parts.region, target, slot) as u32;
-    let names = parts.counts.names(replaced) - 1;
-    parts.counts.set(replaced, names);
+    let names = parts.link_counts.names(replaced) - 1;
+    parts.link_counts.set(replaced, names);
     commit_at(parts, touched, found);
     if names > 0 {
         return;
@@ -69,8 +69,14 @@ fn move_onto<R: Region>(
         root: inode.root,
         size: inode.size,
     };
-    give_back(&parts.region, tree, 0, &mut parts.blocks, &parts.frozen);
-    parts.inodes.give(replaced);
+    free_tree(
+        &parts.region,
+        tree,
+        0,
+        &mut parts.free_blocks,
+        &parts.snapshot_blocks,
+    );
+    parts.free_inodes.give(replaced);
 }
 
 /// Moves a name onto another one, which it replaces.
@@ -86,7 +92,7 @@ pub(crate) fn rename_onto<R: Region>(
     requires can { CanRename (image_in R.memory parts.old) to_move.now }
     requires onto { to_move.now.to_slot ≡ Some slot }
     requires exact { IsExactIn R.memory parts.old }
-    requires room { HasRoomWhereFree (R.memory parts.old.region) (kept_of parts.old) parts.old.blocks (change_of to_move.now) }
+    requires room { HasRoomWhereFree (R.memory parts.old.region) (in_snapshot_of parts.old) parts.old.free_blocks (change_of to_move.now) }
     ensures { CommitsOrLacksSpace R.memory parts.old parts.new result (change_of to_move.now) (RenamesEntry to_move.now) }
 {
     let words = words_onto(&parts.region, to_move, slot);

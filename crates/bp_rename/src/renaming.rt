@@ -5,7 +5,7 @@ ghost use Rattle.bp_calls.specs.Space.{HasRoomWhereFree};
 ghost use Rattle.bp_calls.specs.Mounted.{image_in, IsExactIn};
 ghost use Rattle.bp_rename.specs.CanRename.{CanRename, IsSlotAcross, change_of};
 ghost use Rattle.bp_rename.specs.RenamesEntry.{RenamesEntry};
-ghost use Rattle.bp_shapes.specs.Sets.{kept_of};
+ghost use Rattle.bp_shapes.specs.Sets.{in_snapshot_of};
 
 use crate::across::rename_into;
 use crate::behind::rename_behind;
@@ -35,7 +35,7 @@ pub fn rename<R: Region>(
     requires can { CanRename (image_in R.memory parts.old) to_move.now }
     requires empty { IsSlotAcross (image_in R.memory parts.old) to_move.now empty }
     requires exact { IsExactIn R.memory parts.old }
-    requires room { HasRoomWhereFree (R.memory parts.old.region) (kept_of parts.old) parts.old.blocks (change_of to_move.now) }
+    requires room { HasRoomWhereFree (R.memory parts.old.region) (in_snapshot_of parts.old) parts.old.free_blocks (change_of to_move.now) }
     ensures { CommitsOrLacksSpace R.memory parts.old parts.new result (change_of to_move.now) (RenamesEntry to_move.now) }
 {
     match to_move.to_slot {

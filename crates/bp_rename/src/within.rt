@@ -8,7 +8,7 @@ ghost use Rattle.bp_limits.specs.CallLimits.{max_name};
 ghost use Rattle.bp_rename.specs.CanRename.{CanRename, change_of};
 ghost use Rattle.bp_rename.specs.RenamesEntry.{RenamesEntry};
 ghost use Rattle.bp_rename.specs.Respelled.{IsNameRun, IsRespelled, respelled_byte};
-ghost use Rattle.bp_shapes.specs.Sets.{kept_of};
+ghost use Rattle.bp_shapes.specs.Sets.{in_snapshot_of};
 ghost use Rattle.pm_region.specs.Memory.{words_in};
 
 use crate::moving::Move;
@@ -60,7 +60,7 @@ fn name_run<'a, R: Region>(region: &R, to_move: &Move<'_>, bytes: &'a [u8; MAX_N
         root: root_path(region, to_move.from_dir),
         height: tree.height(),
         size: tree.size,
-        off: to_move.from_slot * ENTRY_SIZE + 8,
+        offset: to_move.from_slot * ENTRY_SIZE + 8,
         bytes: &bytes[..8 + 8 * to_move.name.len().div_ceil(8)],
     }
 }
@@ -78,7 +78,7 @@ pub(crate) fn rename_within<R: Region>(
     requires new { to_move.now.to_slot ≡ None }
     requires here { to_move.now.from_dir ≡ to_move.now.to_dir }
     requires exact { IsExactIn R.memory parts.old }
-    requires room { HasRoomWhereFree (R.memory parts.old.region) (kept_of parts.old) parts.old.blocks (change_of to_move.now) }
+    requires room { HasRoomWhereFree (R.memory parts.old.region) (in_snapshot_of parts.old) parts.old.free_blocks (change_of to_move.now) }
     ensures { CommitsOrLacksSpace R.memory parts.old parts.new result (change_of to_move.now) (RenamesEntry to_move.now) }
 {
     let bytes = respelled(to_move.name);

@@ -5,7 +5,7 @@ use Rattle.std.specs.Option.{option_map}
 use Rattle.std.proofs.lemmas.List.{length-map, map-append}
 use Rattle.std.proofs.lemmas.Option.{slice_get-map}
 use Rattle.pm_epochs.specs.declared.event.Event.{Event}
-use Rattle.pm_epochs.specs.declared.event.Event.TheVariants.{Store as Set, Barrier as Fence, Mark}
+use Rattle.pm_epochs.specs.declared.event.Event.TheVariants.{Store as Set, Barrier as Fence, CallEnd}
 use Rattle.pm_epochs.specs.declared.event.EventKind.{EventKind}
 use Rattle.pm_epochs.specs.declared.event.EventKind.TheVariants as kinds
 use Rattle.pm_epochs.specs.Kind.{event_of}
@@ -150,12 +150,12 @@ after_draw-bare caches (Some word) draw = by_draw-bare caches word _
 after_event-bare : (caches : Caches) (event : Event) → after_event (bared caches) (without_value event) ≡ bared (after_event caches event)
 after_event-bare caches (Set word value) = after_store-bare caches 0 word value
 after_event-bare caches Fence = logged-bare caches (Barrier 0)
-after_event-bare caches Mark = refl
+after_event-bare caches CallEnd = refl
 
 last_word-bare : (last : Option ℕ) (event : Event) → last_word last (without_value event) ≡ last_word last event
 last_word-bare last (Set word value) = refl
 last_word-bare last Fence = refl
-last_word-bare last Mark = refl
+last_word-bare last CallEnd = refl
 
 pub cache_run-bare : (caches : Caches) (last : Option ℕ) (state : ℕ) (events : List Event) → cache_run (bared caches) last state (map without_value events) ≡ bared (cache_run caches last state events)
 cache_run-bare caches last state [] = refl
@@ -218,13 +218,13 @@ get-bare events i kind value is = slice_get-map without_value events i ∙ ap (o
     of : (kind : EventKind) → without_value (event_of kind value) ≡ event_of kind 0
     of (kinds.Store word) = refl
     of kinds.Barrier = refl
-    of kinds.Mark = refl
+    of kinds.CallEnd = refl
 
 may-bare : (bound : ℕ) (events : List Event) → StoresMay (λ at its. at < bound) events → StoresMay (λ at its. at < bound) (map without_value events)
 may-bare bound [] may = tt
 may-bare bound (Set word value ∷ events) may = (may.0, may-bare bound events may.1)
 may-bare bound (Fence ∷ events) may = may-bare bound events may
-may-bare bound (Mark ∷ events) may = may-bare bound events may
+may-bare bound (CallEnd ∷ events) may = may-bare bound events may
 
 pub below-bare : (bound : ℕ) (events : List Event) (i : ℕ) (kind : EventKind) (value : ℕ) → StoresMay (λ at its. at < bound) events → slice_get events i ≡ Some (event_of kind value) → (word other : ℕ) → event_of kind 0 ≡ Set word other → word < bound
 below-bare bound events i kind value may is word other same = stored_below bound (map without_value events) i word other (may-bare bound events may) (get-bare events i kind value is ∙ ap Some same)
@@ -233,7 +233,7 @@ barriers-bare : (events : List Event) → barriers (map without_value events) �
 barriers-bare [] = refl
 barriers-bare (Set word value ∷ events) = barriers-bare events
 barriers-bare (Fence ∷ events) = ap suc (barriers-bare events)
-barriers-bare (Mark ∷ events) = barriers-bare events
+barriers-bare (CallEnd ∷ events) = barriers-bare events
 
 epoch_stores-bare : (epoch : ℕ) (events : List Event) → epoch_stores epoch (map without_value events) ≡ epoch_stores epoch events
 epoch_stores-bare epoch [] = refl
@@ -241,8 +241,8 @@ epoch_stores-bare zero (Set word value ∷ events) = ap suc (epoch_stores-bare z
 epoch_stores-bare (suc epoch) (Set word value ∷ events) = epoch_stores-bare (suc epoch) events
 epoch_stores-bare zero (Fence ∷ events) = refl
 epoch_stores-bare (suc epoch) (Fence ∷ events) = epoch_stores-bare epoch events
-epoch_stores-bare zero (Mark ∷ events) = epoch_stores-bare zero events
-epoch_stores-bare (suc epoch) (Mark ∷ events) = epoch_stores-bare (suc epoch) events
+epoch_stores-bare zero (CallEnd ∷ events) = epoch_stores-bare zero events
+epoch_stores-bare (suc epoch) (CallEnd ∷ events) = epoch_stores-bare (suc epoch) events
 
 -- a choice that is right without the values is right
 pub right-bare : (events : List Event) (cut : PowerCut) → IsRight (map without_value events) cut → IsRight events cut

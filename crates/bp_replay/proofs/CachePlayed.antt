@@ -3,13 +3,13 @@ use Rattle.std.proofs.Common.{◌≡◌, ℕ, zero, suc, ◌+◌, inl, inr, eqb,
 use Rattle.std.specs.List.{slice_get}
 use Rattle.std.proofs.lemmas.Bool.{cases_Bool}
 use Rattle.pm_epochs.specs.declared.event.Event.{Event}
-use Rattle.pm_epochs.specs.declared.event.Event.TheVariants.{Store as Set, Barrier as Fence, Mark}
+use Rattle.pm_epochs.specs.declared.event.Event.TheVariants.{Store as Set, Barrier as Fence, CallEnd}
 use Rattle.pm_cores.specs.declared.entry.Entry.{Entry}
 use Rattle.pm_cores.specs.declared.entry.Entry.TheVariants.{Load, Store, Barrier}
 use Rattle.pm_cores.specs.declared.entry.Owner.{Owner}
 use Rattle.pm_cores.specs.Log.{core_barriers, IsStore}
 use Rattle.pm_cores.specs.Caches.{Caches, owner_at, line_owner, written_by, written_under, after_load, after_store}
-use Rattle.pm_cores.specs.Played.{unmarked, done_by_first, IsPlayed}
+use Rattle.pm_cores.specs.Played.{without_call_ends, done_by_first, IsPlayed}
 use Rattle.pm_cores.proofs.Lists.{get_pushed}
 use Rattle.pm_cores.proofs.Calls.{load_frame, store_frame}
 use Rattle.bp_replay.specs.Cache.{may_go, after_back, after_event, by_draw, after_draw}
@@ -26,11 +26,11 @@ done_more (Barrier core ∷ log) entry = elim (cases_Bool (eqb core 0)) [
   | inr other ↦ rw other (done_more log entry)
 ]
 
-unmarked_more : (events : List Event) (event : Event) → unmarked (events ++ event ∷ []) ≡ unmarked events ++ unmarked (event ∷ [])
-unmarked_more [] event = refl
-unmarked_more (Set word value ∷ events) event = ap (λ es. Set word value ∷ es) (unmarked_more events event)
-unmarked_more (Fence ∷ events) event = ap (λ es. Fence ∷ es) (unmarked_more events event)
-unmarked_more (Mark ∷ events) event = unmarked_more events event
+more_without_call_ends : (events : List Event) (event : Event) → without_call_ends (events ++ event ∷ []) ≡ without_call_ends events ++ without_call_ends (event ∷ [])
+more_without_call_ends [] event = refl
+more_without_call_ends (Set word value ∷ events) event = ap (λ es. Set word value ∷ es) (more_without_call_ends events event)
+more_without_call_ends (Fence ∷ events) event = ap (λ es. Fence ∷ es) (more_without_call_ends events event)
+more_without_call_ends (CallEnd ∷ events) event = more_without_call_ends events event
 
 pub played_start : (words : List Event) → IsPlayed [] []
 played_start words = record { same = refl; alone = λ place core word store. let is = store.is in cc }
@@ -50,18 +50,18 @@ played_load events log core word played = record {
 
 played_store : (events : List Event) (log : List Entry) (word value : ℕ) → IsPlayed events log → IsPlayed (events ++ Set word value ∷ []) (log ++ Store 0 word value ∷ [])
 played_store events log word value played = record {
-  same = unmarked_more events (Set word value) ∙ ap (λ (es : List Event). es ++ Set word value ∷ []) played.same ∙ sym (done_more log (Store 0 word value));
+  same = more_without_call_ends events (Set word value) ∙ ap (λ (es : List Event). es ++ Set word value ∷ []) played.same ∙ sym (done_more log (Store 0 word value));
   alone = alone_more log (Store 0 word value) played.alone (λ its at other same. cc);
 }
 
 played_barrier : (events : List Event) (log : List Entry) → IsPlayed events log → IsPlayed (events ++ Fence ∷ []) (log ++ Barrier 0 ∷ [])
 played_barrier events log played = record {
-  same = unmarked_more events Fence ∙ ap (λ (es : List Event). es ++ Fence ∷ []) played.same ∙ sym (done_more log (Barrier 0));
+  same = more_without_call_ends events Fence ∙ ap (λ (es : List Event). es ++ Fence ∷ []) played.same ∙ sym (done_more log (Barrier 0));
   alone = alone_more log (Barrier 0) played.alone (λ its at other same. cc);
 }
 
-played_mark : (events : List Event) (log : List Entry) → IsPlayed events log → IsPlayed (events ++ Mark ∷ []) log
-played_mark events log played = record { same = unmarked_more events Mark ∙ append-nil (unmarked events) ∙ played.same; alone = played.alone }
+played_call_end : (events : List Event) (log : List Entry) → IsPlayed events log → IsPlayed (events ++ CallEnd ∷ []) log
+played_call_end events log played = record { same = more_without_call_ends events CallEnd ∙ append-nil (without_call_ends events) ∙ played.same; alone = played.alone }
 
 pub event_played : (events : List Event) (caches : Caches) (event : Event) → IsPlayed events caches.log → IsPlayed (events ++ event ∷ []) (after_event caches event).log
 unfolding after_store
@@ -69,7 +69,7 @@ event_played events caches (Set word value) played =
     let frame = store_frame caches 0 (core_barriers 0 caches.log) (line_owner caches word) in
     rw frame.log (played_store events caches.log word value played)
 event_played events caches Fence played = played_barrier events caches.log played
-event_played events caches Mark played = played_mark events caches.log played
+event_played events caches CallEnd played = played_call_end events caches.log played
 
 load_played : (events : List Event) (caches : Caches) (core word : ℕ) → IsPlayed events caches.log → IsPlayed events (after_load caches core word).log
 unfolding after_load

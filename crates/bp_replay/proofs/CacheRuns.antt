@@ -6,7 +6,7 @@ use Rattle.std.proofs.lemmas.Bool.{cases_Bool, and_parts, and_from, and_cases, e
 use Rattle.std.proofs.lemmas.Bool.Decides.{eqb_tells}
 use Rattle.std.proofs.lemmas.Option.{get_or_from_slice_get}
 use Rattle.pm_epochs.specs.declared.event.Event.{Event}
-use Rattle.pm_epochs.specs.declared.event.Event.TheVariants.{Store, Barrier, Mark}
+use Rattle.pm_epochs.specs.declared.event.Event.TheVariants.{Store, Barrier, CallEnd}
 use Rattle.pm_epochs.specs.May.{StoresMay}
 use Rattle.pm_cores.specs.declared.entry.Owner.{Owner}
 use Rattle.pm_cores.specs.Log.{core_barriers}
@@ -125,7 +125,7 @@ back_like begun n caches word like = elim (cases_Bool (may_go caches word)) [
 pub event_like : (begun : Caches) (n : ℕ) (caches : Caches) (event : Event) → IsLike begun n caches → IsLike begun (n + 1) (after_event caches event)
 event_like begun n caches (Store word value) like = store_like begun n caches 0 word value like
 event_like begun n caches Barrier like = record { cores = like.cores; words = like.words; capacity = like.capacity; few = let few = like.few in simp length-append (omega arith) }
-event_like begun n caches Mark like = more_like begun n (n + 1) caches (omega arith) like
+event_like begun n caches CallEnd like = more_like begun n (n + 1) caches (omega arith) like
 
 eighth_like : (begun : Caches) (n : ℕ) (caches : Caches) (word eighth : ℕ) → IsLike begun n caches → IsLike begun (n + 1) (by_draw caches word eighth)
 unfolding by_draw
@@ -150,15 +150,15 @@ stored_below bound (Store at its ∷ events) zero word value may is =
     let word_is : at ≡ word = cc in
     subst (λ n. n < bound) word_is may.0
 stored_below bound (Barrier ∷ events) zero word value may is = cc
-stored_below bound (Mark ∷ events) zero word value may is = cc
+stored_below bound (CallEnd ∷ events) zero word value may is = cc
 stored_below bound (Store at its ∷ events) (suc i) word value may is = stored_below bound events i word value may.1 is
 stored_below bound (Barrier ∷ events) (suc i) word value may is = stored_below bound events i word value may is
-stored_below bound (Mark ∷ events) (suc i) word value may is = stored_below bound events i word value may is
+stored_below bound (CallEnd ∷ events) (suc i) word value may is = stored_below bound events i word value may is
 
 pub last_below : (bound : ℕ) (last : Option ℕ) (event : Event) → IsWordBelow bound last → ((word value : ℕ) → event ≡ Store word value → word < bound) → IsWordBelow bound (last_word last event)
 last_below bound last (Store word value) below stored = stored word value refl
 last_below bound last Barrier below stored = below
-last_below bound last Mark below stored = below
+last_below bound last CallEnd below stored = below
 
 pub dropped_at : (events : List Event) (moment i : ℕ) (event : Event) → i < moment → slice_get events i ≡ Some event → drop i (take moment events) ≡ event ∷ drop (i + 1) (take moment events)
 dropped_at events moment i event low is = (let next : suc i ≡ i + 1 = omega arith in at events moment i low is ∙ ap (λ n. event ∷ drop n (take moment events)) next)

@@ -5,7 +5,7 @@ use Rattle.std.specs.Prelude.{◌==◌, ◌↔◌}
 use Rattle.std.proofs.lemmas.Bool.{eqb-true, ne_eqb}
 use Rattle.std.proofs.lemmas.List.Folds.{list_any-append}
 use Rattle.pm_epochs.specs.declared.event.Event.{Event}
-use Rattle.pm_epochs.specs.declared.event.Event.TheVariants.{Store, Barrier, Mark}
+use Rattle.pm_epochs.specs.declared.event.Event.TheVariants.{Store, Barrier, CallEnd}
 use Rattle.pm_epochs.specs.Log.{epoch_stores}
 use Rattle.pm_epochs.specs.Replay.{IsRight, epoch_of, place_in_epoch}
 use Rattle.pm_steps.specs.WordSet.{is_noted}
@@ -43,8 +43,8 @@ all_earlier state (suc epoch) (Store word value ∷ events) zero store less = re
 all_earlier state (suc epoch) (Store word value ∷ events) (suc which) store less = all_earlier state (suc epoch) events which store less
 all_earlier state (suc epoch) (Barrier ∷ events) zero store less = no_store store
 all_earlier state (suc epoch) (Barrier ∷ events) (suc which) store less = all_earlier state epoch events which store (omega arith)
-all_earlier state (suc epoch) (Mark ∷ events) zero store less = no_store store
-all_earlier state (suc epoch) (Mark ∷ events) (suc which) store less = all_earlier state (suc epoch) events which store less
+all_earlier state (suc epoch) (CallEnd ∷ events) zero store less = no_store store
+all_earlier state (suc epoch) (CallEnd ∷ events) (suc which) store less = all_earlier state (suc epoch) events which store less
 
 all_false : (events : List Event) (which : ℕ) → IsStoreAt events which → slice_get (replicate (length events) false) which ≡ Some false
 all_false [] which store = no_event which store
@@ -57,8 +57,8 @@ none_behind_own state waiting (Store word value ∷ events) zero store more = ab
 none_behind_own state waiting (Store word value ∷ events) (suc which) store more = none_behind_own (next_state state) (waiting_behind (goes_back state waiting word) waiting word) events which store more
 none_behind_own state waiting (Barrier ∷ events) zero store more = refl
 none_behind_own state waiting (Barrier ∷ events) (suc which) store more = all_false events which store
-none_behind_own state waiting (Mark ∷ events) zero store more = refl
-none_behind_own state waiting (Mark ∷ events) (suc which) store more = none_behind_own state waiting events which store more
+none_behind_own state waiting (CallEnd ∷ events) zero store more = refl
+none_behind_own state waiting (CallEnd ∷ events) (suc which) store more = none_behind_own state waiting events which store more
 
 pub none_later_than : (state epoch : ℕ) (events : List Event) (which : ℕ) → IsStoreAt events which → epoch < epoch_of events which → slice_get (storm_flags state epoch [] events) which ≡ Some false
 none_later_than state zero events which store more = none_behind_own state [] events which store more
@@ -67,8 +67,8 @@ none_later_than state (suc epoch) (Store word value ∷ events) zero store more 
 none_later_than state (suc epoch) (Store word value ∷ events) (suc which) store more = none_later_than state (suc epoch) events which store more
 none_later_than state (suc epoch) (Barrier ∷ events) zero store more = refl
 none_later_than state (suc epoch) (Barrier ∷ events) (suc which) store more = none_later_than state epoch events which store (omega arith)
-none_later_than state (suc epoch) (Mark ∷ events) zero store more = refl
-none_later_than state (suc epoch) (Mark ∷ events) (suc which) store more = none_later_than state (suc epoch) events which store more
+none_later_than state (suc epoch) (CallEnd ∷ events) zero store more = refl
+none_later_than state (suc epoch) (CallEnd ∷ events) (suc which) store more = none_later_than state (suc epoch) events which store more
 
 -- ## Its own epoch
 
@@ -85,8 +85,8 @@ odd_back state waiting (Store word value ∷ events) zero is =
 odd_back state waiting (Store word value ∷ events) (suc which) is = odd_back (next_state state) (waiting_behind (goes_back state waiting word) waiting word) events which is
 odd_back state waiting (Barrier ∷ events) zero is = none is
 odd_back state waiting (Barrier ∷ events) (suc which) is = none_later (length events) which is
-odd_back state waiting (Mark ∷ events) zero is = none is
-odd_back state waiting (Mark ∷ events) (suc which) is = odd_back state waiting events which is
+odd_back state waiting (CallEnd ∷ events) zero is = none is
+odd_back state waiting (CallEnd ∷ events) (suc which) is = odd_back state waiting events which is
 
 odd_own : (state epoch : ℕ) (events : List Event) (which : ℕ) → epoch_of events which ≡ epoch → slice_get (storm_flags state epoch [] events) which ≡ Some true → IsOdd (draw_at state (epoch_stores epoch (take which events)))
 odd_own state zero events which own is = odd_back state [] events which is
@@ -95,8 +95,8 @@ odd_own state (suc epoch) (Store word value ∷ events) zero own is = absurd (om
 odd_own state (suc epoch) (Store word value ∷ events) (suc which) own is = odd_own state (suc epoch) events which own is
 odd_own state (suc epoch) (Barrier ∷ events) zero own is = none is
 odd_own state (suc epoch) (Barrier ∷ events) (suc which) own is = odd_own state epoch events which (omega arith) is
-odd_own state (suc epoch) (Mark ∷ events) zero own is = none is
-odd_own state (suc epoch) (Mark ∷ events) (suc which) own is = odd_own state (suc epoch) events which own is
+odd_own state (suc epoch) (CallEnd ∷ events) zero own is = none is
+odd_own state (suc epoch) (CallEnd ∷ events) (suc which) own is = odd_own state (suc epoch) events which own is
 
 both : (a b : Bool) → a ≡ true → b ≡ false → (a && not b) ≡ true
 both true true odd free = cc
@@ -134,9 +134,9 @@ may_back state waiting (Store place other ∷ events) (suc which) word value sto
     (λ earlier comes. may (suc earlier) (ComesFirst-behind (Store place other) events earlier which comes))
 may_back state waiting (Barrier ∷ events) zero word value store own odd free may = cc
 may_back state waiting (Barrier ∷ events) (suc which) word value store own odd free may = absurd (omega arith)
-may_back state waiting (Mark ∷ events) zero word value store own odd free may = cc
-may_back state waiting (Mark ∷ events) (suc which) word value store own odd free may =
-    may_back state waiting events which word value store own odd free (λ earlier comes. may (suc earlier) (ComesFirst-behind Mark events earlier which comes))
+may_back state waiting (CallEnd ∷ events) zero word value store own odd free may = cc
+may_back state waiting (CallEnd ∷ events) (suc which) word value store own odd free may =
+    may_back state waiting events which word value store own odd free (λ earlier comes. may (suc earlier) (ComesFirst-behind CallEnd events earlier which comes))
 
 may_own : (state epoch : ℕ) (events : List Event) (which word value : ℕ) → slice_get events which ≡ Some (Store word value) → epoch_of events which ≡ epoch → IsOdd (draw_at state (epoch_stores epoch (take which events)))
     → AreBackBefore events (storm_flags state epoch [] events) which → slice_get (storm_flags state epoch [] events) which ≡ Some true
@@ -148,9 +148,9 @@ may_own state (suc epoch) (Store place other ∷ events) (suc which) word value 
 may_own state (suc epoch) (Barrier ∷ events) zero word value store own odd may = absurd (omega arith)
 may_own state (suc epoch) (Barrier ∷ events) (suc which) word value store own odd may =
     may_own state epoch events which word value store (omega arith) odd (λ earlier comes. may (suc earlier) (ComesFirst-behind Barrier events earlier which comes))
-may_own state (suc epoch) (Mark ∷ events) zero word value store own odd may = absurd (omega arith)
-may_own state (suc epoch) (Mark ∷ events) (suc which) word value store own odd may =
-    may_own state (suc epoch) events which word value store own odd (λ earlier comes. may (suc earlier) (ComesFirst-behind Mark events earlier which comes))
+may_own state (suc epoch) (CallEnd ∷ events) zero word value store own odd may = absurd (omega arith)
+may_own state (suc epoch) (CallEnd ∷ events) (suc which) word value store own odd may =
+    may_own state (suc epoch) events which word value store own odd (λ earlier comes. may (suc earlier) (ComesFirst-behind CallEnd events earlier which comes))
 
 pub own_epoch : (state epoch : ℕ) (events : List Event) (which : ℕ) → IsStoreAt events which → epoch_of events which ≡ epoch → (slice_get (storm_flags state epoch [] events) which ≡ Some true) ↔ (IsOdd (draw_at state (place_in_epoch events which)) × AreBackBefore events (storm_flags state epoch [] events) which)
 own_epoch state epoch events which store own =

@@ -3,7 +3,7 @@ use Rattle.std.proofs.Common.{◌≡◌, ℕ, zero, suc, ◌+◌, ◌<◌, ◌�
 use Rattle.std.specs.List.{slice_get}
 use Rattle.std.proofs.lemmas.List.{append-nil, length-take}
 use Rattle.pm_epochs.specs.declared.event.Event.{Event}
-use Rattle.pm_epochs.specs.declared.event.Event.TheVariants.{Store, Barrier, Mark}
+use Rattle.pm_epochs.specs.declared.event.Event.TheVariants.{Store, Barrier, CallEnd}
 use Rattle.pm_epochs.specs.Log.{barriers}
 use Rattle.pm_epochs.specs.Replay.{PowerCut, IsRight}
 use Rattle.pm_region.specs.Epochs.{epoch_start}
@@ -33,7 +33,7 @@ stands (Store word value ∷ events) waits true state waiting cut =
 stands (Store word value ∷ events) waits false state waiting cut = stands events true false state waiting (with_place cut false)
 stands (Barrier ∷ events) true draws state waiting cut = cut
 stands (Barrier ∷ events) false draws state waiting cut = stands events false false state waiting (at_next cut)
-stands (Mark ∷ events) waits draws state waiting cut = stands events waits draws state waiting cut
+stands (CallEnd ∷ events) waits draws state waiting cut = stands events waits draws state waiting cut
 
 drop_suc : (events : List Event) (moment i : ℕ) (event : Event) → i < moment → slice_get events i ≡ Some event → drop i (take moment events) ≡ event ∷ drop (suc i) (take moment events)
 drop_suc [] moment i event low is = cc
@@ -87,16 +87,16 @@ stands_waiting (Store word value ∷ events) false state waiting cut =
     ∙ here-place cut false word value events (replicate (length events) false)
 stands_waiting (Barrier ∷ events) true state waiting cut = here-nil cut
 stands_waiting (Barrier ∷ events) false state waiting cut = here-nil cut
-stands_waiting (Mark ∷ events) true state waiting cut = stands_waiting events true state waiting cut
-stands_waiting (Mark ∷ events) false state waiting cut = stands_waiting events false state waiting cut
+stands_waiting (CallEnd ∷ events) true state waiting cut = stands_waiting events true state waiting cut
+stands_waiting (CallEnd ∷ events) false state waiting cut = stands_waiting events false state waiting cut
 
 mask_on-place : (more : ℕ) (mask : List Bool) (word value : ℕ) (events : List Event) (back : List Bool) → mask_on more (mask ++ true ∷ []) events back ≡ mask_on more mask (Store word value ∷ events) (true ∷ back)
 mask_on-place zero mask word value events back = append_assoc mask (true ∷ []) (epoch_flags 0 events back)
 mask_on-place (suc more) mask word value events back = refl
 
-mask_on-mark : (more : ℕ) (mask : List Bool) (events : List Event) (back : List Bool) → mask_on more mask events back ≡ mask_on more mask (Mark ∷ events) (false ∷ back)
-mask_on-mark zero mask events back = refl
-mask_on-mark (suc more) mask events back = refl
+mask_on-call_end : (more : ℕ) (mask : List Bool) (events : List Event) (back : List Bool) → mask_on more mask events back ≡ mask_on more mask (CallEnd ∷ events) (false ∷ back)
+mask_on-call_end zero mask events back = refl
+mask_on-call_end (suc more) mask events back = refl
 
 mask_on-nil : (more : ℕ) (events : List Event) (back : List Bool) → mask_on more [] events back ≡ epoch_flags more events back
 mask_on-nil zero events back = refl
@@ -118,8 +118,8 @@ on-back cut word value events back = ap (λ m. record { moment = cut.moment; epo
 on-next : (cut : PowerCut) (events : List Event) (back : List Bool) → cut_on (at_next cut) events back ≡ cut_on cut (Barrier ∷ events) (false ∷ back)
 on-next cut events back = cut_is cut.moment (cut.epoch + 1 + open_epoch events back) (cut.epoch + suc (open_epoch events back)) (mask_on (open_epoch events back) [] events back) (epoch_flags (open_epoch events back) events back) (omega arith) (mask_on-nil (open_epoch events back) events back)
 
-on-mark : (cut : PowerCut) (events : List Event) (back : List Bool) → cut_on cut events back ≡ cut_on cut (Mark ∷ events) (false ∷ back)
-on-mark cut events back = ap (λ m. record { moment = cut.moment; epoch = cut.epoch + open_epoch events back; mask = m }) (mask_on-mark (open_epoch events back) cut.mask events back)
+on-call_end : (cut : PowerCut) (events : List Event) (back : List Bool) → cut_on cut events back ≡ cut_on cut (CallEnd ∷ events) (false ∷ back)
+on-call_end cut events back = ap (λ m. record { moment = cut.moment; epoch = cut.epoch + open_epoch events back; mask = m }) (mask_on-call_end (open_epoch events back) cut.mask events back)
 
 -- behind a store that was drawn for
 drawn_on : (flag : Bool) (word value : ℕ) (events : List Event) (state : ℕ) (waiting : List ℕ) (cut : PowerCut)
@@ -138,8 +138,8 @@ stands_on (Store word value ∷ events) false state waiting cut =
     stands_waiting events false state waiting (with_place cut false) ∙ on-waits cut word value events (replicate (length events) false)
 stands_on (Barrier ∷ events) true state waiting cut = stands_on events false state waiting (at_next cut) ∙ on-next cut events (replicate (length events) false)
 stands_on (Barrier ∷ events) false state waiting cut = stands_on events false state waiting (at_next cut) ∙ on-next cut events (replicate (length events) false)
-stands_on (Mark ∷ events) true state waiting cut = stands_on events true state waiting cut ∙ on-mark cut events (storm_flags state 0 waiting events)
-stands_on (Mark ∷ events) false state waiting cut = stands_on events false state waiting cut ∙ on-mark cut events (replicate (length events) false)
+stands_on (CallEnd ∷ events) true state waiting cut = stands_on events true state waiting cut ∙ on-call_end cut events (storm_flags state 0 waiting events)
+stands_on (CallEnd ∷ events) false state waiting cut = stands_on events false state waiting cut ∙ on-call_end cut events (replicate (length events) false)
 
 -- ## Behind the epochs before the storm's
 
@@ -151,7 +151,7 @@ open_behind state zero events begun = omega arith
 open_behind state (suc epoch) [] begun = absurd (omega arith)
 open_behind state (suc epoch) (Store word value ∷ events) begun = open_behind state (suc epoch) events begun
 open_behind state (suc epoch) (Barrier ∷ events) begun = let more = open_behind state epoch events (omega arith) in omega arith
-open_behind state (suc epoch) (Mark ∷ events) begun = open_behind state (suc epoch) events begun
+open_behind state (suc epoch) (CallEnd ∷ events) begun = open_behind state (suc epoch) events begun
 
 flags_behind : (state epoch total more : ℕ) (events : List Event) → total ≡ epoch + more → epoch ≤ barriers events → epoch_flags total events (storm_flags state epoch [] events) ≡ epoch_flags more (from_epoch epoch events) (storm_flags state 0 [] (from_epoch epoch events))
 flags_behind state zero total more events is begun = ap (λ e. epoch_flags e events (storm_flags state 0 [] events)) (let same : total ≡ more = omega arith in same)
@@ -159,7 +159,7 @@ flags_behind state (suc epoch) zero more events is begun = absurd (omega arith)
 flags_behind state (suc epoch) (suc total) more [] is begun = absurd (omega arith)
 flags_behind state (suc epoch) (suc total) more (Store word value ∷ events) is begun = flags_behind state (suc epoch) (suc total) more events is begun
 flags_behind state (suc epoch) (suc total) more (Barrier ∷ events) is begun = flags_behind state epoch total more events (omega arith) (omega arith)
-flags_behind state (suc epoch) (suc total) more (Mark ∷ events) is begun = flags_behind state (suc epoch) (suc total) more events is begun
+flags_behind state (suc epoch) (suc total) more (CallEnd ∷ events) is begun = flags_behind state (suc epoch) (suc total) more events is begun
 
 -- ## Over the whole log
 
@@ -170,7 +170,7 @@ open_take [] (suc moment) (flag ∷ back) few = refl
 open_take (Store word value ∷ events) (suc moment) (true ∷ back) few = open_take events moment back (omega arith)
 open_take (Store word value ∷ events) (suc moment) (false ∷ back) few = refl
 open_take (Barrier ∷ events) (suc moment) (flag ∷ back) few = ap suc (open_take events moment back (omega arith))
-open_take (Mark ∷ events) (suc moment) (flag ∷ back) few = open_take events moment back (omega arith)
+open_take (CallEnd ∷ events) (suc moment) (flag ∷ back) few = open_take events moment back (omega arith)
 
 flags_take : (epoch : ℕ) (events : List Event) (moment : ℕ) (back : List Bool) → length back ≤ moment → epoch_flags epoch (take moment events) back ≡ epoch_flags epoch events back
 flags_take epoch events moment [] few = epoch_flags-none epoch (take moment events) ∙ sym (epoch_flags-none epoch events)
@@ -180,7 +180,7 @@ flags_take zero (Store word value ∷ events) (suc moment) (flag ∷ back) few =
 flags_take (suc epoch) (Store word value ∷ events) (suc moment) (flag ∷ back) few = flags_take (suc epoch) events moment back (omega arith)
 flags_take zero (Barrier ∷ events) (suc moment) (flag ∷ back) few = refl
 flags_take (suc epoch) (Barrier ∷ events) (suc moment) (flag ∷ back) few = flags_take epoch events moment back (omega arith)
-flags_take epoch (Mark ∷ events) (suc moment) (flag ∷ back) few = flags_take epoch events moment back (omega arith)
+flags_take epoch (CallEnd ∷ events) (suc moment) (flag ∷ back) few = flags_take epoch events moment back (omega arith)
 
 -- the machine's cut, from where the storm's epoch begins
 stands_open : (state moment epoch : ℕ) (events own : List Event) → moment ≤ length events → epoch ≤ barriers (take moment events) → own ≡ from_epoch epoch (take moment events)

@@ -6,7 +6,7 @@ use Rattle.std.proofs.lemmas.List.Folds.{list_any-append}
 use Rattle.std.proofs.lemmas.Option.{slice_get_within}
 use Rattle.std.specs.Prelude.{◌==◌, ◌%◌}
 use Rattle.pm_epochs.specs.declared.event.Event.{Event}
-use Rattle.pm_epochs.specs.declared.event.Event.TheVariants.{Store, Barrier, Mark}
+use Rattle.pm_epochs.specs.declared.event.Event.TheVariants.{Store, Barrier, CallEnd}
 use Rattle.pm_epochs.specs.Log.{barriers}
 use Rattle.pm_epochs.specs.Replay.{epoch_of}
 use Rattle.pm_steps.specs.WordSet.{is_noted}
@@ -24,7 +24,7 @@ length-storm_flags state zero waiting (Store word value ∷ events) = ap suc (le
 length-storm_flags state zero waiting (Barrier ∷ events) = ap suc (length-replicate (length events) false)
 length-storm_flags state (suc epoch) waiting (Store word value ∷ events) = ap suc (length-storm_flags state (suc epoch) waiting events)
 length-storm_flags state (suc epoch) waiting (Barrier ∷ events) = ap suc (length-storm_flags state epoch waiting events)
-length-storm_flags state epoch waiting (Mark ∷ events) = ap suc (length-storm_flags state epoch waiting events)
+length-storm_flags state epoch waiting (CallEnd ∷ events) = ap suc (length-storm_flags state epoch waiting events)
 
 pub none_later : {A : Type 0} (count i : ℕ) → slice_get (replicate count false) i ≡ Some true → A
 none_later zero i is = nothing_there i is
@@ -41,8 +41,8 @@ storm_stores state (suc epoch) waiting (Store word value ∷ events) zero is = r
 storm_stores state (suc epoch) waiting (Store word value ∷ events) (suc i) is = storm_stores state (suc epoch) waiting events i is
 storm_stores state (suc epoch) waiting (Barrier ∷ events) zero is = none is
 storm_stores state (suc epoch) waiting (Barrier ∷ events) (suc i) is = storm_stores state epoch waiting events i is
-storm_stores state epoch waiting (Mark ∷ events) zero is = none is
-storm_stores state epoch waiting (Mark ∷ events) (suc i) is = storm_stores state epoch waiting events i is
+storm_stores state epoch waiting (CallEnd ∷ events) zero is = none is
+storm_stores state epoch waiting (CallEnd ∷ events) (suc i) is = storm_stores state epoch waiting events i is
 
 -- in the first epoch what is back lies before the first barrier
 early : (state : ℕ) (waiting : List ℕ) (events : List Event) (i : ℕ) → slice_get (storm_flags state 0 waiting events) i ≡ Some true → epoch_of events i ≡ 0
@@ -51,8 +51,8 @@ early state waiting (Store word value ∷ events) zero is = refl
 early state waiting (Store word value ∷ events) (suc i) is = early (next_state state) (waiting_behind (goes_back state waiting word) waiting word) events i is
 early state waiting (Barrier ∷ events) zero is = refl
 early state waiting (Barrier ∷ events) (suc i) is = none_later (length events) i is
-early state waiting (Mark ∷ events) zero is = refl
-early state waiting (Mark ∷ events) (suc i) is = early state waiting events i is
+early state waiting (CallEnd ∷ events) zero is = refl
+early state waiting (CallEnd ∷ events) (suc i) is = early state waiting events i is
 
 and_not : (a b : Bool) → (a && not b) ≡ true → b ≡ false
 and_not true true is = cc
@@ -80,8 +80,8 @@ not_waiting state waiting (Store place other ∷ events) (suc i) word value is s
     noted_before (goes_back state waiting place) waiting place word (not_waiting (next_state state) (waiting_behind (goes_back state waiting place) waiting place) events i word value is store)
 not_waiting state waiting (Barrier ∷ events) zero word value is store = none is
 not_waiting state waiting (Barrier ∷ events) (suc i) word value is store = none_later (length events) i is
-not_waiting state waiting (Mark ∷ events) zero word value is store = none is
-not_waiting state waiting (Mark ∷ events) (suc i) word value is store = not_waiting state waiting events i word value is store
+not_waiting state waiting (CallEnd ∷ events) zero word value is store = none is
+not_waiting state waiting (CallEnd ∷ events) (suc i) word value is store = not_waiting state waiting events i word value is store
 
 noted_last : (waiting : List ℕ) (word : ℕ) → is_noted (waiting ++ word ∷ []) word ≡ true
 noted_last [] word = rw (eq-eqb word word refl)
@@ -117,8 +117,8 @@ storm_first state (suc epoch) waiting (Store word value ∷ events) zero (suc la
 storm_first state (suc epoch) waiting (Store word value ∷ events) (suc earlier) (suc later) is comes = storm_first state (suc epoch) waiting events earlier later is (ComesFirst-tail (Store word value) events earlier later comes)
 storm_first state (suc epoch) waiting (Barrier ∷ events) zero (suc later) is comes = not_a_store Barrier comes.first_word comes.first_value (λ w v e. cc) comes.first_is
 storm_first state (suc epoch) waiting (Barrier ∷ events) (suc earlier) (suc later) is comes = storm_first state epoch waiting events earlier later is (ComesFirst-tail Barrier events earlier later comes)
-storm_first state epoch waiting (Mark ∷ events) zero (suc later) is comes = not_a_store Mark comes.first_word comes.first_value (λ w v e. cc) comes.first_is
-storm_first state epoch waiting (Mark ∷ events) (suc earlier) (suc later) is comes = storm_first state epoch waiting events earlier later is (ComesFirst-tail Mark events earlier later comes)
+storm_first state epoch waiting (CallEnd ∷ events) zero (suc later) is comes = not_a_store CallEnd comes.first_word comes.first_value (λ w v e. cc) comes.first_is
+storm_first state epoch waiting (CallEnd ∷ events) (suc earlier) (suc later) is comes = storm_first state epoch waiting events earlier later is (ComesFirst-tail CallEnd events earlier later comes)
 
 pub in_order_taken : (state epoch : ℕ) (events : List Event) → IsInOrder events (storm_flags state epoch [] events)
 in_order_taken state epoch events = record {

@@ -2,7 +2,7 @@
 use Rattle.std.specs.Prelude.{◌≡◌, ℕ, ◌+◌, ◌%◌, ◌<◌, ◌≤◌, ◌==◌, nat_le, nat_lt, not, ◌&&◌, Bool, true, false, if◌then◌else◌, Option, Some, None, List, [], ◌∷◌, length, map, take}
 use Rattle.std.specs.List.{list_all}
 use Rattle.pm_epochs.specs.declared.event.Event.{Event}
-use Rattle.pm_epochs.specs.declared.event.Event.TheVariants.{Store, Barrier, Mark}
+use Rattle.pm_epochs.specs.declared.event.Event.TheVariants.{Store, Barrier, CallEnd}
 use Rattle.pm_epochs.specs.Kind.{event_kind, event_of}
 use Rattle.pm_epochs.specs.Replay.{PowerCut}
 use Rattle.pm_cores.specs.declared.entry.Owner.{Owner}
@@ -31,13 +31,13 @@ after_back caches word = if may_go caches word then with_back caches word else c
 abbrev pub after_event : Caches → Event → Caches
 after_event caches (Store word value) = after_store caches 0 word value
 after_event caches Barrier = after_barrier caches 0
-after_event caches Mark = caches
+after_event caches CallEnd = caches
 
 -- The word of the last store so far.
 abbrev pub last_word : Option ℕ → Event → Option ℕ
 last_word last (Store word value) = Some word
 last_word last Barrier = last
-last_word last Mark = last
+last_word last CallEnd = last
 
 -- What is drawn after an event, modulo 8: 0 is a load of the last store's word by core 1, 1 to 4 write that word back,
 -- and the others do nothing.

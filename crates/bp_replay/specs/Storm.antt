@@ -2,7 +2,7 @@
 use Rattle.std.specs.Prelude.{◌≡◌, ◌↔◌, ℕ, ◌+◌, ◌%◌, ◌==◌, Bool, true, false, not, ◌&&◌, List, [], ◌∷◌, ◌++◌, length, take, replicate, Some, slice_get}
 use Rattle.std.proofs.Common.{zero, suc}
 use Rattle.pm_epochs.specs.declared.event.Event.{Event}
-use Rattle.pm_epochs.specs.declared.event.Event.TheVariants.{Store, Barrier, Mark}
+use Rattle.pm_epochs.specs.declared.event.Event.TheVariants.{Store, Barrier, CallEnd}
 use Rattle.pm_epochs.specs.Log.{barriers}
 use Rattle.pm_epochs.specs.Replay.{PowerCut, place_in_epoch}
 use Rattle.pm_steps.specs.WordSet.{is_noted}
@@ -30,7 +30,7 @@ storm_flags state zero waiting (Store word value ∷ events) =
 storm_flags state zero waiting (Barrier ∷ events) = false ∷ replicate (length events) false
 storm_flags state (suc epoch) waiting (Store word value ∷ events) = true ∷ storm_flags state (suc epoch) waiting events
 storm_flags state (suc epoch) waiting (Barrier ∷ events) = false ∷ storm_flags state epoch waiting events
-storm_flags state epoch waiting (Mark ∷ events) = false ∷ storm_flags state epoch waiting events
+storm_flags state epoch waiting (CallEnd ∷ events) = false ∷ storm_flags state epoch waiting events
 
 -- The number of events that a storm executes, and its epoch among them.
 abbrev pub storm_moment : List Event → ℕ → ℕ

@@ -56,7 +56,7 @@ fn play_kind(kind: EventKind, cores: &mut Cores)
     match kind {
         EventKind::Store(word) => cores.store(0, word, 0),
         EventKind::Barrier => cores.barrier(0),
-        EventKind::Mark => {}
+        EventKind::CallEnd => {}
     }
 }
 
@@ -67,7 +67,7 @@ fn word_behind(last: Option<u64>, kind: EventKind) -> Option<u64>
     match kind {
         EventKind::Store(word) => Some(word),
         EventKind::Barrier => last,
-        EventKind::Mark => last,
+        EventKind::CallEnd => last,
     }
 }
 

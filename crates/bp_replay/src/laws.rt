@@ -2,7 +2,7 @@
 
 ghost use Rattle.std.specs.Prelude.{◌≡◌, ◌<◌, ℕ, List};
 ghost use Rattle.pm_epochs.specs.declared.event.Event.{Event};
-ghost use Rattle.pm_epochs.specs.Log.{words_after, marks};
+ghost use Rattle.pm_epochs.specs.Log.{words_after, call_ends};
 ghost use Rattle.pm_epochs.specs.Replay.{IsRight, replay, kept_calls, epoch_of};
 ghost use Rattle.pm_cores.specs.Caches.{caches_over};
 ghost use Rattle.bp_replay.specs.Cache.{IsBlindToValues};
@@ -13,7 +13,7 @@ ghost use Rattle.bp_replay.specs.Wanted.{all, nothing, cut_for};
 /// States that a crash that keeps all stores keeps each call, and leaves the words as the processor sees them.
 pub fn all_keeps_each_call()
     ensures right { (events : List Event) → IsRight events (cut_for events all) }
-    ensures kept { (events : List Event) → kept_calls events (cut_for events all) ≡ marks events }
+    ensures kept { (events : List Event) → kept_calls events (cut_for events all) ≡ call_ends events }
     ensures words { (base : List ℕ) (events : List Event) →
         replay base events (cut_for events all) ≡ words_after base events }
 {}

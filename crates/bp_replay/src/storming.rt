@@ -79,7 +79,7 @@ fn choose_drawn<R: Region>(
                 let next = choice.epoch() + 1;
                 choice.start(moment, next);
             }
-            EventKind::Mark => {}
+            EventKind::CallEnd => {}
         }
     }
 }

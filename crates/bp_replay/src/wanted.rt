@@ -55,7 +55,7 @@ fn stores_before<R: Region>(region: &R, moment: usize, epoch: usize) -> usize
         match region.kind(i) {
             EventKind::Store(_) => count += 1,
             EventKind::Barrier => return count,
-            EventKind::Mark => {}
+            EventKind::CallEnd => {}
         }
     }
     count

@@ -87,7 +87,7 @@ fn is_border(event: Option<&EventKind>) -> bool {
     match event {
         Some(EventKind::Store(_)) => false,
         Some(EventKind::Barrier) => true,
-        Some(EventKind::Mark) => true,
+        Some(EventKind::CallEnd) => true,
         None => true,
     }
 }
@@ -104,7 +104,7 @@ fn stores_of(events: &[EventKind], epoch: usize) -> usize {
                 }
             }
             EventKind::Barrier => barriers = barriers.saturating_add(1),
-            EventKind::Mark => {}
+            EventKind::CallEnd => {}
         }
     }
     stores
@@ -121,7 +121,7 @@ fn barriers_of(events: &[EventKind]) -> usize {
 fn calls_of(events: &[EventKind]) -> usize {
     events
         .iter()
-        .filter(|event| matches!(event, EventKind::Mark))
+        .filter(|event| matches!(event, EventKind::CallEnd))
         .count()
 }
 

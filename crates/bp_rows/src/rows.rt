@@ -86,12 +86,12 @@ impl Rows {
         self.first.take(text, line, &mut first)?;
         let mut second = String::new(self.alloc);
         self.second.take(text, line, &mut second)?;
-        tell_both(first.as_str(), second.as_str(), report)
+        report_both(first.as_str(), second.as_str(), report)
     }
 }
 
 /// Writes the results of a line in version 1 and in version 2.
-fn tell_both(first: &str, second: &str, report: &mut String) -> Result<(), AllocError> {
+fn report_both(first: &str, second: &str, report: &mut String) -> Result<(), AllocError> {
     report.push_str(first)?;
     if first != second {
         report.push_str("version 2\n")?;

@@ -50,13 +50,13 @@ pub fn serve_bytes<R: Region>(
     ensures capacity { volume.new.capacity ≡ volume.old.capacity }
 {
     work.set_line(line);
-    tell_line(work, report)?;
+    report_line(work, report)?;
     let mut sink = MemSink::new(alloc, ROOM, &[])?;
     let served = serve_line(alloc, volume, work, &mut sink, files);
     tell(report, sink.bytes(), served)
 }
 
-fn tell_line(work: &Work, report: &mut String) -> Result<(), AllocError> {
+fn report_line(work: &Work, report: &mut String) -> Result<(), AllocError> {
     match work.line() {
         Some(line) => {
             let length = line.len();

@@ -17,7 +17,7 @@ empty_blocks = ap (λ n. n / 512) (length-laid EMPTY)
 
 empty_has_format : HasFormat (laid_image EMPTY) One
 empty_has_format = record {
-  marked = empty_word 0 (omega arith);
+  has_magic = empty_word 0 (omega arith);
   counted = empty_word 1 (omega arith) ∙ sym empty_blocks;
   root = empty_word 2 (omega arith);
   size = empty_word 3 (omega arith);

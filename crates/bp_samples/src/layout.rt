@@ -8,11 +8,11 @@ use bp_limits::Version;
 
 #[test]
 fn marks_spell_their_bytes(rt: HostRuntime) {
-    for (number, version, mark) in [
+    for (number, version, magic_number) in [
         (1, Version::One, *b"BPFSRS01"),
         (2, Version::Two, *b"BPFSRS02"),
     ] {
-        assert_eq!(rt; pm_words::write_word(version.magic()), mark);
+        assert_eq!(rt; pm_words::write_word(version.magic()), magic_number);
         assert_eq!(rt; Version::at(version.magic()), version);
         assert_eq!(rt; Version::numbered(number), version);
     }

@@ -125,7 +125,7 @@ impl Asked {
     fn has(&mut self, path: &[u8], bytes: &[u8]) -> Result<bool, AllocError> {
         let call = Call::Read {
             path,
-            off: 0,
+            offset: 0,
             len: 9,
         };
         self.ask(&call)?;
@@ -164,7 +164,7 @@ fn a_plain_tree_keeps_bytes(rt: HostRuntime) {
         Call::Unlink(b"/d"),
         Call::Write {
             path: b"/a",
-            off: 2,
+            offset: 2,
             bytes: b"hi",
         },
         Call::Truncate {
@@ -194,7 +194,7 @@ fn a_plain_tree_counts_names(rt: HostRuntime) {
         Call::Upgrade,
         Call::Write {
             path: b"/a",
-            off: 0,
+            offset: 0,
             bytes: b"hi",
         },
     ];

@@ -61,11 +61,11 @@ fn replays_of_two_epochs(rt: HostRuntime) {
 #[test]
 fn calls_without_a_store_are_kept(rt: HostRuntime) {
     let events = [
-        Event::Mark,
+        Event::CallEnd,
         Event::Store { word: 0, value: 1 },
         Event::Barrier,
-        Event::Mark,
-        Event::Mark,
+        Event::CallEnd,
+        Event::CallEnd,
     ];
     let none = chosen(&rt, rt.alloc(), 0, 0, &[]);
     assert_eq!(rt; kept_calls(&events, &none).ok(), Some(Kept { c: 1, n: 3 }));
@@ -94,7 +94,7 @@ fn follow_one<R: Region>(region: &mut R, event: Event) {
             }
         }
         Event::Barrier => region.barrier(),
-        Event::Mark => region.mark(),
+        Event::CallEnd => region.end_call(),
     }
 }
 
@@ -115,7 +115,7 @@ fn has_event<R: Region>(region: &R, i: usize, event: Event) -> bool {
             word >= region.words() || region.word_at(i + 1, word) == value
         }
         Event::Barrier => true,
-        Event::Mark => true,
+        Event::CallEnd => true,
     }
 }
 
@@ -219,7 +219,7 @@ fn crash_keeps_what_was_written_back<R: Region, A: Abort>(rt: &A, region: &mut R
     let events = [
         Event::Store { word: 0, value: 1 },
         Event::Store { word: 1, value: 2 },
-        Event::Mark,
+        Event::CallEnd,
     ];
     follow(region, &events);
     assert_eq!(rt; region.crash_to(choice).ok(), Some(Kept { c: 0, n: 1 }));
@@ -322,7 +322,7 @@ fn write_back<R: Region>(machine: &mut Machine<'_, R>, which: usize) -> Option<R
     match machine.region.kind(which) {
         EventKind::Store(_) => Some(machine.back(which)),
         EventKind::Barrier => None,
-        EventKind::Mark => None,
+        EventKind::CallEnd => None,
     }
 }
 

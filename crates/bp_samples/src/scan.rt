@@ -125,7 +125,7 @@ fn scanned(rt: &impl Abort, alloc: Global, words: Vec<u64>) -> Found
 {
     let region = ListRegion::new(alloc, words, 0).expect(rt, "there is memory");
     let mut blocks = all_blocks(rt, alloc);
-    let mut frozen = all_blocks(rt, alloc);
+    let mut snapshot_blocks = all_blocks(rt, alloc);
     let mut inodes = all_inodes(rt, alloc);
     let mut counts = Counts::new(alloc, INODES).expect(rt, "there is memory");
     counts.set(1, 7);
@@ -134,14 +134,14 @@ fn scanned(rt: &impl Abort, alloc: Global, words: Vec<u64>) -> Found
         &region,
         &mut blocks,
         &mut inodes,
-        &mut frozen,
+        &mut snapshot_blocks,
         &mut pending,
         &mut counts,
     );
     let names = [counts.names(1), counts.names(2), counts.names(3)];
     (
         answer,
-        (blocks.count(), inodes.count(), frozen.count()),
+        (blocks.count(), inodes.count(), snapshot_blocks.count()),
         names,
     )
 }

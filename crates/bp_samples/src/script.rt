@@ -35,7 +35,7 @@ const CALLS: [(&[u8], Call<'static>); 22] = [
         b"write /a 7 00fF",
         Call::Write {
             path: b"/a",
-            off: 7,
+            offset: 7,
             bytes: b"\x00\xff",
         },
     ),
@@ -43,7 +43,7 @@ const CALLS: [(&[u8], Call<'static>); 22] = [
         b"write a%2Fb 18446744073709551615 -",
         Call::Write {
             path: b"a\0b",
-            off: u64::MAX,
+            offset: u64::MAX,
             bytes: b"",
         },
     ),
@@ -117,10 +117,10 @@ const NO_READS: [&[u8]; 17] = [
 #[test]
 fn lines_of_reads(rt: HostRuntime) -> Result<(), Fail> {
     let mut decoded = Decoded::new(rt.alloc(), 64)?;
-    for (bytes, path, off, len) in &READS {
+    for (bytes, path, offset, len) in &READS {
         let want = Call::Read {
             path: *path,
-            off: *off,
+            offset: *offset,
             len: *len,
         };
         asks(&rt, &mut decoded, *bytes, Ok(Line::Call(want)));

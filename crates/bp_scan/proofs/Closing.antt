@@ -12,13 +12,13 @@ use Rattle.bp_scan.specs.Reading.{IsReading}
 use Rattle.bp_scan.specs.Scanned.{AreOthersLive}
 use Rattle.bp_scan.specs.declared.work.Scan.{Scan}
 use Rattle.bp_scan.proofs.Ending.{end_well_formed, end_blocks, end_others, end_inodes, end_counts}
-use Rattle.bp_layout.specs.Thaw.{none_kept}
+use Rattle.bp_layout.specs.Thaw.{none_in_snapshot}
 
 module _ (image : Image) (work : Scan) (reading : IsReading image work 0 0) (none : (i : ℕ) → has work.todo i ≡ false) where
   pub all_well_formed : IsWellFormed image
   all_well_formed = end_well_formed image work.blocks work.inodes work.todo reading.ready.formatted reading.ready.inode_blocks reading.ready.some_inodes reading.root_kind reading.range reading.midway none
 
-  pub all_free_blocks : AreFreeBlocks image none_kept (has work.blocks)
+  pub all_free_blocks : AreFreeBlocks image none_in_snapshot (has work.blocks)
   all_free_blocks = end_blocks image work.blocks work.inodes work.todo reading.ready.formatted reading.ready.inode_blocks reading.ready.some_inodes reading.root_kind reading.range reading.midway none
 
   pub all_others_live : AreOthersLive image (has work.blocks)

@@ -15,14 +15,14 @@ use Rattle.bp_layout.specs.Words.{Image, block_count}
 use Rattle.bp_layout.specs.Free.{AreFreeBlocks, AreFreeInodes, HasFree}
 use Rattle.bp_layout.specs.Inode.{kind_of, size_of, inode_count}
 use Rattle.bp_layout.specs.Reached.{IsReached}
-use Rattle.bp_layout.specs.Trees.{AreFrozen}
+use Rattle.bp_layout.specs.Trees.{AreInSnapshot}
 use Rattle.bp_layout.specs.WellFormed.{IsWellFormed}
 use Rattle.bp_layout.proofs.Reached.{reached-in_file}
 use Rattle.bp_walk.proofs.TakenLaws.{clash, known, has_other, has_without}
 use Rattle.bp_scan.specs.Counted.{CountsOne, HasCounted, IsCountable, no_totals, used_below}
 use Rattle.bp_scan.specs.Totals.{AreReached, HasLive, HasTotals, HasTreeTotals, of_kind, file_bytes}
 use Rattle.bp_scan.specs.declared.totals.Totals.{Totals}
-use Rattle.bp_layout.specs.Thaw.{none_kept}
+use Rattle.bp_layout.specs.Thaw.{none_in_snapshot}
 
 -- ---- one inode more
 
@@ -187,8 +187,8 @@ are_reached image free wf are reached = record {
 -- ---- the blocks
 
 -- two tests of the free blocks are one
-same_blocks : (image : Image) (kept p q : ℕ → Bool) → AreFreeBlocks image kept p → AreFreeBlocks image kept q → (b : ℕ) → p b ≡ q b
-same_blocks image kept p q one other b = go (known (p b)) (known (q b))
+same_blocks : (image : Image) (in_snapshot p q : ℕ → Bool) → AreFreeBlocks image in_snapshot p → AreFreeBlocks image in_snapshot q → (b : ℕ) → p b ≡ q b
+same_blocks image in_snapshot p q one other b = go (known (p b)) (known (q b))
   where
     go : (p b ≡ true) ⊎ (p b ≡ false) → (q b ≡ true) ⊎ (q b ≡ false) → p b ≡ q b
     go (inl x) (inl y) = x ∙ sym y
@@ -197,22 +197,22 @@ same_blocks image kept p q one other b = go (known (p b)) (known (q b))
     go (inr x) (inr y) = x ∙ sym y
 
 -- block 0 is not free, so fewer blocks are free than there are
-pub few_free : (image : Image) (kept : ℕ → Bool) (free : Set) → AreFreeBlocks image kept (has free) → 0 < length free → length (members free) < length free
-few_free image kept free are some = count_less free 0 some (go (known (has free 0)))
+pub few_free : (image : Image) (in_snapshot : ℕ → Bool) (free : Set) → AreFreeBlocks image in_snapshot (has free) → 0 < length free → length (members free) < length free
+few_free image in_snapshot free are some = count_less free 0 some (go (known (has free 0)))
   where
     go : (has free 0 ≡ true) ⊎ (has free 0 ≡ false) → has free 0 ≡ false
     go (inl there) = absurd (omega (arith, (are.free 0 there).low))
     go (inr gone) = gone
 
-live_with : (image : Image) (kept : ℕ → Bool) (free : Set) (live : ℕ) → AreFreeBlocks image kept (has free) → length free ≡ block_count image → live + length (members free) + 1 ≡ block_count image →
-    (count : ℕ) → HasFree image kept count → live + count + 1 ≡ block_count image
-live_with image kept free live are room sum count other =
+live_with : (image : Image) (in_snapshot : ℕ → Bool) (free : Set) (live : ℕ) → AreFreeBlocks image in_snapshot (has free) → length free ≡ block_count image → live + length (members free) + 1 ≡ block_count image →
+    (count : ℕ) → HasFree image in_snapshot count → live + count + 1 ≡ block_count image
+live_with image in_snapshot free live are room sum count other =
     let here : length (members free) ≡ length (filter (has free) (range_with_len 0 (block_count image))) = ap (λ n. length (filter (has free) (range_with_len 0 n))) room in
     let same : length (filter (has free) (range_with_len 0 (block_count image))) ≡ length (filter other.set (range_with_len 0 (block_count image))) =
-    ap length (filter_same (has free) other.set 0 (block_count image) (λ b _ _. same_blocks image kept (has free) other.set are other.are b)) in
+    ap length (filter_same (has free) other.set 0 (block_count image) (λ b _ _. same_blocks image in_snapshot (has free) other.set are other.are b)) in
     omega (arith, sum, here, same, other.number)
 
-pub has_totals : (image : Image) (blocks inodes : Set) (seen totals : Totals) → IsWellFormed image → AreFreeBlocks image none_kept (has blocks) → AreFreeInodes image (has inodes) →
+pub has_totals : (image : Image) (blocks inodes : Set) (seen totals : Totals) → IsWellFormed image → AreFreeBlocks image none_in_snapshot (has blocks) → AreFreeInodes image (has inodes) →
     ((i : ℕ) → i < inode_count image → has inodes i ≡ false → IsReached image i) → length blocks ≡ block_count image → totals.live + length (members blocks) + 1 ≡ block_count image →
     HasCounted image inodes (inode_count image) seen → totals.files ≡ seen.files → totals.dirs ≡ seen.dirs → totals.bytes ≡ seen.bytes → HasTreeTotals image totals
 has_totals image blocks inodes seen totals wf free_blocks free_inodes reached room live counted files dirs bytes = record {
@@ -221,14 +221,14 @@ has_totals image blocks inodes seen totals wf free_blocks free_inodes reached ro
   files = files ∙ counted.files;
   dirs = dirs ∙ counted.dirs;
   bytes = bytes ∙ counted.bytes;
-  live = live_with image none_kept blocks totals.live free_blocks room live;
+  live = live_with image none_in_snapshot blocks totals.live free_blocks room live;
 }
 
 -- ---- both trees
 
 -- two tests of the blocks of the second tree are one
-same_frozen : (image : Image) (p q : ℕ → Bool) → AreFrozen image p → AreFrozen image q → p ≡ q
-same_frozen image p q one other = λ i b. at b (known (p b)) (known (q b)) i
+same_snapshot_blocks : (image : Image) (p q : ℕ → Bool) → AreInSnapshot image p → AreInSnapshot image q → p ≡ q
+same_snapshot_blocks image p q one other = λ i b. at b (known (p b)) (known (q b)) i
   where
     at : (b : ℕ) → (p b ≡ true) ⊎ (p b ≡ false) → (q b ≡ true) ⊎ (q b ≡ false) → p b ≡ q b
     at b (inl x) (inl y) = x ∙ sym y
@@ -237,11 +237,11 @@ same_frozen image p q one other = λ i b. at b (known (p b)) (known (q b)) i
     at b (inr x) (inr y) = x ∙ sym y
 
 -- With the blocks of the second tree told, so many are in one of both.
-pub has_live : (image : Image) (frozen blocks : Set) (live : ℕ) → AreFrozen image (has frozen) → AreFreeBlocks image (has frozen) (has blocks) → length blocks ≡ block_count image →
+pub has_live : (image : Image) (snapshot_blocks blocks : Set) (live : ℕ) → AreInSnapshot image (has snapshot_blocks) → AreFreeBlocks image (has snapshot_blocks) (has blocks) → length blocks ≡ block_count image →
     live + length (members blocks) + 1 ≡ block_count image → HasLive image live
-has_live image frozen blocks live are free room sum space has_space =
-    live_with image (has frozen) blocks live free room sum space
-    (subst (λ (kept : ℕ → Bool). HasFree image kept space) (same_frozen image has_space.kept (has frozen) has_space.are are) has_space.free)
+has_live image snapshot_blocks blocks live are free room sum space has_space =
+    live_with image (has snapshot_blocks) blocks live free room sum space
+    (subst (λ (in_snapshot : ℕ → Bool). HasFree image in_snapshot space) (same_snapshot_blocks image has_space.in_snapshot (has snapshot_blocks) has_space.are are) has_space.free)
 
 -- the totals of the first tree, with another number of live blocks
 pub with_live : (image : Image) (old new : Totals) → HasTreeTotals image old → new.files ≡ old.files → new.dirs ≡ old.dirs → new.bytes ≡ old.bytes → HasLive image new.live → HasTotals image new

@@ -16,7 +16,7 @@ use Rattle.bp_scan.proofs.Named.{counts_all}
 use Rattle.bp_scan.specs.Progress.{IsEntered, IsDone, IsMidway}
 use Rattle.bp_scan.proofs.ProgressLaws.{all_done}
 use Rattle.bp_scan.proofs.Frontier.{well_formed, free_blocks, others_live, free_inodes, reached_entered}
-use Rattle.bp_layout.specs.Thaw.{none_kept}
+use Rattle.bp_layout.specs.Thaw.{none_in_snapshot}
 
 module _ (image : Image) (blocks inodes todo : Set) (formatted : IsFormatted image) (whole : size_of image 0 % 4096 ≡ 0) (some : 4096 ≤ size_of image 0) (kind : kind_of image 1 ≡ 2)
     (range : (i : ℕ) → has inodes i ≡ true → (2 ≤ i) × (i < inode_count image)) (midway : IsMidway image blocks inodes todo 0 0) (none : (i : ℕ) → has todo i ≡ false) where
@@ -41,7 +41,7 @@ module _ (image : Image) (blocks inodes todo : Set) (formatted : IsFormatted ima
   pub end_well_formed : IsWellFormed image
   end_well_formed = well_formed image (IsEntered image inodes) (IsDone image inodes todo 0 0) midway.all blocks midway.under_way.scanned all formatted
 
-  pub end_blocks : AreFreeBlocks image none_kept (has blocks)
+  pub end_blocks : AreFreeBlocks image none_in_snapshot (has blocks)
   end_blocks = free_blocks image (IsEntered image inodes) (IsDone image inodes todo 0 0) midway.all blocks midway.under_way.scanned all formatted.sized.at_least midway.whole
 
   pub end_others : AreOthersLive image (has blocks)

@@ -19,7 +19,7 @@ use Rattle.bp_scan.specs.declared.fault.MountFault.{MountFault}
 use Rattle.bp_scan.specs.declared.fault.MountFault.TheVariants.{NotFormatted, BadSize, Damaged, Memory}
 
 fault_refutes : (DoesFail : Check → ℕ → Type 0) (image : Image) (fault : MountFault) → IsFaultBy DoesFail image fault → IsFormatted image → ((check : Check) (place : ℕ) → DoesFail check place → ⊥) → ⊥
-fault_refutes DoesFail image NotFormatted unmarked formatted none = unmarked (version_of image) formatted.marked
+fault_refutes DoesFail image NotFormatted no_magic formatted none = no_magic (version_of image) formatted.has_magic
 fault_refutes DoesFail image (BadSize found wanted) is formatted none = is.1 formatted.counted
 fault_refutes DoesFail image (Damaged check place) is formatted none = none check place is.2
 fault_refutes DoesFail image Memory is formatted none = is
@@ -46,8 +46,8 @@ first_faults image Memory is = is
 pub second_faults : (image : Image) → has_snapshot image ≡ true → (fault : MountFault) → IsTreeFault (snapshot_of image) fault → IsFault image (of_second fault)
 second_faults image there fault is = go fault is
   where
-    mark : word (snapshot_of image) 0 ≡ word image 0
-    mark = snapshot-word image 0 (λ e. omega (arith, e)) (λ e. omega (arith, e))
+    magic_number : word (snapshot_of image) 0 ≡ word image 0
+    magic_number = snapshot-word image 0 (λ e. omega (arith, e)) (λ e. omega (arith, e))
 
     number : word (snapshot_of image) 1 ≡ word image 1
     number = snapshot-word image 1 (λ e. omega (arith, e)) (λ e. omega (arith, e))
@@ -55,12 +55,12 @@ second_faults image there fault is = go fault is
     count : block_count (snapshot_of image) ≡ block_count image
     count = ap (λ n. n / 512) (length-snapshot image)
 
-    marked : word (snapshot_of image) 0 ≡ magic (version_of (snapshot_of image)) → word image 0 ≡ magic (version_of image)
-    marked e = sym mark ∙ e ∙ ap magic (snapshot-version image)
+    has_magic : word (snapshot_of image) 0 ≡ magic (version_of (snapshot_of image)) → word image 0 ≡ magic (version_of image)
+    has_magic e = sym magic_number ∙ e ∙ ap magic (snapshot-version image)
 
     go : (fault : MountFault) → IsTreeFault (snapshot_of image) fault → IsFault image (of_second fault)
-    go NotFormatted unmarked = λ version e. unmarked version (mark ∙ e)
+    go NotFormatted no_magic = λ version e. no_magic version (magic_number ∙ e)
     go (BadSize found wanted) is =
-        (marked is.0, λ e. is.1 (number ∙ e ∙ sym count), is.2 ∙ ap (λ n. 4096 * n) count, is.3 ∙ ap (λ n. min (4096 * n) (2 ^ 64 - 1)) number)
-    go (Damaged check place) is = (marked is.0, sym number ∙ is.1 ∙ count, second there is.2)
+        (has_magic is.0, λ e. is.1 (number ∙ e ∙ sym count), is.2 ∙ ap (λ n. 4096 * n) count, is.3 ∙ ap (λ n. min (4096 * n) (2 ^ 64 - 1)) number)
+    go (Damaged check place) is = (has_magic is.0, sym number ∙ is.1 ∙ count, second there is.2)
     go Memory is = is

@@ -23,7 +23,7 @@ use Rattle.bp_walk.specs.Taken.{block_at, NamesBlock}
 use Rattle.bp_scan.specs.Scanned.{AreOthersLive, IsSeen, IsScanned, IsAll, HasAllBlocks, HasRest}
 use Rattle.std.proofs.lemmas.List.{get_or_past}
 use Rattle.bp_walk.proofs.Places.{pointer_word}
-use Rattle.bp_layout.specs.Thaw.{none_kept}
+use Rattle.bp_layout.specs.Thaw.{none_in_snapshot}
 
 module _ (image : Image) (E : ℕ → Type 0) (D : ℕ → ℕ → Type 0) (start left : Set) (scanned : IsScanned image E D start left) (done : IsAll image E D) where
   found_entered : (t : ℕ) → IsFound image t → E t
@@ -100,7 +100,7 @@ module _ (image : Image) (E : ℕ → Type 0) (D : ℕ → ℕ → Type 0) (star
         };
       }
 
-  pub free_blocks : 8 ≤ block_count image → HasAllBlocks image start → AreFreeBlocks image none_kept (has left)
+  pub free_blocks : 8 ≤ block_count image → HasAllBlocks image start → AreFreeBlocks image none_in_snapshot (has left)
   free_blocks least all = record {
     free = λ b left_in. record {
       low = not_zero b left_in;
@@ -140,7 +140,7 @@ module _ (image : Image) (E : ℕ → Type 0) (D : ℕ → ℕ → Type 0) (star
           let here : block_at image (pointer_place image live.tree h.depth h.index) ≡ b = ap block_of (pointer_word image live.tree h.depth h.index _ at) ∙ h.named in
           clash left_in (ap (has left) (sym here) ∙ scanned.takes.gone _ (seen live.tree h.depth h.index _ at) (λ null. h.not_null (sym here ∙ null)))
 
-      still : (b : ℕ) → IsFreeBlock image none_kept b → (has left b ≡ true) ⊎ (has left b ≡ false) → has left b ≡ true
+      still : (b : ℕ) → IsFreeBlock image none_in_snapshot b → (has left b ≡ true) ⊎ (has left b ≡ false) → has left b ≡ true
       still b free (inl there) = there
       still b free (inr gone) = absurd (free.free (others_live all b free.low free.high gone))
 

@@ -9,7 +9,7 @@ use Rattle.bp_layout.specs.Inode.{kind_of, size_of}
 use Rattle.bp_layout.specs.Reached.{IsReached}
 use Rattle.bp_layout.specs.Whole.{HasSpace}
 use Rattle.bp_scan.specs.declared.totals.Totals.{Totals}
-use Rattle.bp_layout.specs.Thaw.{none_kept}
+use Rattle.bp_layout.specs.Thaw.{none_in_snapshot}
 
 -- The inodes that are reachable from the root directory, including itself, in ascending order.
 pub record AreReached (image : Image) (inodes : List ℕ) : Type 0 where
@@ -39,7 +39,7 @@ HasLive image live = (space : ℕ) → HasSpace image space → live + space + 1
 
 -- The number of blocks that are in the first tree.
 abbrev pub HasTreeLive : Image → ℕ → Type 0
-HasTreeLive image live = (free : ℕ) → HasFree image none_kept free → live + free + 1 ≡ block_count image
+HasTreeLive image live = (free : ℕ) → HasFree image none_in_snapshot free → live + free + 1 ≡ block_count image
 
 -- The totals are the numbers of files and of directories of the first tree, including the root directory, and the
 -- bytes of all its files; and the number of live blocks satisfies `Live`.

@@ -192,17 +192,17 @@ fn read_names<R: Region>(
 /// Reads the current directory.
 pub(crate) fn read_directory<R: Region>(
     region: &R,
-    inode: u32,
+    ino: u32,
     work: &mut Scan,
 ) -> Result<(), CheckFault>
-    requires { IsAtHand (words_in R.memory region.now) work.old inode 0 }
+    requires { IsAtHand (words_in R.memory region.now) work.old ino 0 }
     ensures done { OnOk result (IsReading (words_in R.memory region.now) work.new 0 0) }
     ensures steps { OnOk result (steps work.new ≤ steps work.old) }
     ensures fault { IfErr result (λ f. Fails (words_in R.memory region.now) f.check f.place) }
     ensures room { HasScanMemory (words_in R.memory region.now) work.new }
 {
-    let words = get(region, inode);
+    let words = get(region, ino);
     let tree = Tree::of(&words);
     read_names(region, tree, &mut work.entries, &mut work.numbers)?;
-    read_entries(region, Directory { inode, tree }, work)
+    read_entries(region, Directory { inode: ino, tree }, work)
 }

@@ -11,7 +11,7 @@ ghost use Rattle.bp_layout.specs.Inode.{IsDirectory, inode_count, size_of};
 ghost use Rattle.bp_layout.specs.WellFormed.{IsWellFormed};
 ghost use Rattle.bp_scan.specs.Inodes.{FailsTreeOf};
 ghost use Rattle.bp_scan.specs.Progress.{IsMidway};
-ghost use Rattle.bp_layout.specs.Thaw.{none_kept};
+ghost use Rattle.bp_layout.specs.Thaw.{none_in_snapshot};
 
 use bp_free::{Blocks, Inodes};
 
@@ -26,7 +26,7 @@ pub fn nothing_is_left(image: &[u64], blocks: &Blocks, inodes: &Inodes, todo: &I
     requires midway { IsMidway image.now blocks.now inodes.now todo.now 0 0 }
     requires none_left { (i : ℕ) → has todo.now i ≡ false }
     ensures well_formed { IsWellFormed image.now }
-    ensures blocks { AreFreeBlocks image.now none_kept (has blocks.now) }
+    ensures blocks { AreFreeBlocks image.now none_in_snapshot (has blocks.now) }
     ensures inodes { AreFreeInodes image.now (has inodes.now) }
 {}
 
@@ -39,15 +39,15 @@ pub fn fault_of_a_tree(
     todo: &Inodes,
     current: u32,
     slot: u32,
-    inode: u32,
+    ino: u32,
     holes: bool,
 )
     requires some_inodes { block_size ≤ size_of image.now 0 }
     requires midway { IsMidway image.now blocks.now inodes.now todo.now current slot }
     requires inode_file { has inodes.now 0 ≡ false }
-    requires new { has inodes.now inode ≡ true }
-    requires found { IsFound image.now inode }
-    requires kind { holes ≡ false → IsDirectory image.now inode }
+    requires new { has inodes.now ino ≡ true }
+    requires found { IsFound image.now ino }
+    requires kind { holes ≡ false → IsDirectory image.now ino }
     ensures { (check : Check) (place : ℕ) →
-        FailsTreeOf image.now inode holes blocks.now check place → Fails image.now check place }
+        FailsTreeOf image.now ino holes blocks.now check place → Fails image.now check place }
 {}

@@ -12,7 +12,7 @@ ghost use Rattle.bp_scan.specs.Room.{HasScanMemory};
 ghost use Rattle.bp_scan.specs.Scanned.{AreOthersLive};
 ghost use Rattle.bp_scan.specs.Totals.{HasTreeTotals};
 ghost use Rattle.pm_region.specs.Memory.{words_in};
-ghost use Rattle.bp_layout.specs.Thaw.{none_kept};
+ghost use Rattle.bp_layout.specs.Thaw.{none_in_snapshot};
 
 use crate::directories::read_directory;
 use crate::totals::Totals;
@@ -60,7 +60,7 @@ pub(crate) fn read_trees<R: Region>(region: &R, work: &mut Scan) -> Result<Total
     requires formatted { IsFormatted (words_in R.memory region.now) }
     requires unread { IsUnread (words_in R.memory region.now) work.old }
     ensures well_formed { OnOk result (IsWellFormed (words_in R.memory region.now)) }
-    ensures blocks { OnOk result (AreFreeBlocks (words_in R.memory region.now) none_kept (has work.new.blocks)) }
+    ensures blocks { OnOk result (AreFreeBlocks (words_in R.memory region.now) none_in_snapshot (has work.new.blocks)) }
     ensures others { OnOk result (AreOthersLive (words_in R.memory region.now) (has work.new.blocks)) }
     ensures inodes { OnOk result (AreFreeInodes (words_in R.memory region.now) (has work.new.inodes)) }
     ensures counts { OnOk result (AreCounts (words_in R.memory region.now) work.new.counts) }

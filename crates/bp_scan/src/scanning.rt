@@ -13,7 +13,7 @@ ghost use Rattle.bp_scan.specs.Room.{HasScanMemory};
 ghost use Rattle.bp_scan.specs.Scanned.{AreOthersLive};
 ghost use Rattle.bp_scan.specs.Totals.{HasTreeTotals};
 ghost use Rattle.pm_region.specs.Memory.{words_in};
-ghost use Rattle.bp_layout.specs.Thaw.{none_kept};
+ghost use Rattle.bp_layout.specs.Thaw.{none_in_snapshot};
 
 use crate::fault::MountFault;
 use crate::pending::Pending;
@@ -57,8 +57,8 @@ fn check_superblock<R: Region>(region: &R) -> Result<(), MountFault>
     ensures fault { IfErr result (IsTreeFault (words_in R.memory region.now)) }
 {
     let superblock = read_superblock(region);
-    let mark = Version::at(superblock.magic).magic();
-    if superblock.magic != mark {
+    let magic_number = Version::at(superblock.magic).magic();
+    if superblock.magic != magic_number {
         return Err(MountFault::NotFormatted);
     }
     let blocks = region.words() / BLOCK_WORDS;
@@ -76,7 +76,7 @@ fn scan_with<R: Region>(region: &R, work: &mut Scan) -> Result<Totals, MountFaul
     requires sized { IsSized (words_in R.memory region.now) }
     requires room { HasScanMemory (words_in R.memory region.now) work.old }
     ensures well_formed { IsOk result ↔ IsWellFormed (words_in R.memory region.now) }
-    ensures blocks { OnOk result (AreFreeBlocks (words_in R.memory region.now) none_kept (has work.new.blocks)) }
+    ensures blocks { OnOk result (AreFreeBlocks (words_in R.memory region.now) none_in_snapshot (has work.new.blocks)) }
     ensures others { OnOk result (AreOthersLive (words_in R.memory region.now) (has work.new.blocks)) }
     ensures inodes { OnOk result (AreFreeInodes (words_in R.memory region.now) (has work.new.inodes)) }
     ensures counts { OnOk result (AreCounts (words_in R.memory region.now) work.new.counts) }
@@ -129,7 +129,7 @@ pub fn scan<R: Region>(
     requires pending { pending.old ≡ block_inodes * block_count (words_in R.memory region.now) }
     requires counts { length counts.old ≡ block_inodes * block_count (words_in R.memory region.now) }
     ensures well_formed { IsOk result ↔ IsWellFormed (words_in R.memory region.now) }
-    ensures blocks { OnOk result (AreFreeBlocks (words_in R.memory region.now) none_kept (has blocks.new)) }
+    ensures blocks { OnOk result (AreFreeBlocks (words_in R.memory region.now) none_in_snapshot (has blocks.new)) }
     ensures others { OnOk result (AreOthersLive (words_in R.memory region.now) (has blocks.new)) }
     ensures inodes { OnOk result (AreFreeInodes (words_in R.memory region.now) (has inodes.new)) }
     ensures counts { OnOk result (AreCounts (words_in R.memory region.now) counts.new) }

@@ -56,15 +56,15 @@ pub(crate) fn enter_inode_file<R: Region>(region: &R, blocks: &mut Blocks) -> Re
 }
 
 /// Reads the words of an inode.
-fn load_inode<R: Region>(region: &R, inode: u32) -> InodeWords
+fn load_inode<R: Region>(region: &R, ino: u32) -> InodeWords
     requires formatted { IsFormatted (words_in R.memory region.now) }
     requires sound { let words = words_in R.memory region.now in IsSound words (root_of words 0) (size_of words 0) }
     requires full { let words = words_in R.memory region.now in IsFull words (root_of words 0) (size_of words 0) }
-    requires some { 1 ≤ inode }
-    requires there { inode < inode_count (words_in R.memory region.now) }
-    ensures { AreWords (words_in R.memory region.now) inode result }
+    requires some { 1 ≤ ino }
+    requires there { ino < inode_count (words_in R.memory region.now) }
+    ensures { AreWords (words_in R.memory region.now) ino result }
 {
-    let place = place(region, inode, 0);
+    let place = place(region, ino, 0);
     InodeWords {
         place,
         kind: region.load(place),
@@ -76,10 +76,10 @@ fn load_inode<R: Region>(region: &R, inode: u32) -> InodeWords
 }
 
 /// Checks the kind of an inode, and the size of a directory.
-fn check_words(inode: u32, words: InodeWords) -> Result<(), CheckFault>
+fn check_words(ino: u32, words: InodeWords) -> Result<(), CheckFault>
     requires { words.place + 2 < 2 ^ 41 }
-    ensures ok { OnOk result (IsRightInode inode words.kind words.tree.size) }
-    ensures err { IfErr result (λ f. IsWrong inode words.kind words.tree.size words.place f.check f.place) }
+    ensures ok { OnOk result (IsRightInode ino words.kind words.tree.size) }
+    ensures err { IfErr result (λ f. IsWrong ino words.kind words.tree.size words.place f.check f.place) }
 {
     match words.kind {
         DIRECTORY_KIND if words.tree.size % ENTRY_SIZE == 0 => Ok(()),
@@ -87,7 +87,7 @@ fn check_words(inode: u32, words: InodeWords) -> Result<(), CheckFault>
             check: Check::DirectorySize,
             place: words.place + 2,
         }),
-        FILE_KIND if inode != ROOT_INUMBER => Ok(()),
+        FILE_KIND if ino != ROOT_INUMBER => Ok(()),
         _ => Err(CheckFault {
             check: Check::Kind,
             place: words.place,
@@ -97,29 +97,29 @@ fn check_words(inode: u32, words: InodeWords) -> Result<(), CheckFault>
 
 /// Enters the tree of an inode: takes its blocks out of the set, counts the inode, and, if it is a directory, adds it
 /// to those to be read.
-pub(crate) fn enter<R: Region>(region: &R, inode: u32, work: &mut Scan) -> Result<(), CheckFault>
+pub(crate) fn enter<R: Region>(region: &R, ino: u32, work: &mut Scan) -> Result<(), CheckFault>
     requires formatted { IsFormatted (words_in R.memory region.now) }
     requires sound { let words = words_in R.memory region.now in IsSound words (root_of words 0) (size_of words 0) }
     requires full { let words = words_in R.memory region.now in IsFull words (root_of words 0) (size_of words 0) }
-    requires some { 1 ≤ inode }
-    requires there { inode < inode_count (words_in R.memory region.now) }
+    requires some { 1 ≤ ino }
+    requires there { ino < inode_count (words_in R.memory region.now) }
     requires room { HasScanMemory (words_in R.memory region.now) work.old }
     requires not_first { has work.old.blocks 0 ≡ false }
-    requires new { has work.old.todo inode ≡ false }
-    requires todo { inode < length work.old.todo }
+    requires new { has work.old.todo ino ≡ false }
+    requires todo { ino < length work.old.todo }
     requires few { IsCountable work.old.totals }
-    ensures ok { OnOk result (EntersInode (words_in R.memory region.now) inode work.old work.new) }
+    ensures ok { OnOk result (EntersInode (words_in R.memory region.now) ino work.old work.new) }
     ensures err { let words = words_in R.memory region.now in
-        IfErr result (λ f. FailsInode words inode work.old.blocks f.check f.place) }
+        IfErr result (λ f. FailsInode words ino work.old.blocks f.check f.place) }
     ensures room { HasScanMemory (words_in R.memory region.now) work.new }
 {
-    let words = load_inode(region, inode);
-    check_words(inode, words)?;
+    let words = load_inode(region, ino);
+    check_words(ino, words)?;
     let holes = words.kind != DIRECTORY_KIND;
     take_tree(region, words.place + 1, words.tree, holes, &mut work.blocks)?;
     work.totals = count_inode(work.totals, words.kind, words.tree.size);
     if !holes {
-        work.todo.give(inode);
+        work.todo.give(ino);
     }
     Ok(())
 }

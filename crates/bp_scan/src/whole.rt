@@ -5,7 +5,7 @@ ghost use Rattle.bp_free.specs.Set.{empty, has};
 ghost use Rattle.bp_layout.specs.Formatted.{IsSized};
 ghost use Rattle.bp_layout.specs.Free.{AreFreeBlocks, AreFreeInodes};
 ghost use Rattle.bp_layout.specs.Names.{AreCounts};
-ghost use Rattle.bp_layout.specs.Trees.{AreFrozen, has_snapshot, snapshot_of};
+ghost use Rattle.bp_layout.specs.Trees.{AreInSnapshot, has_snapshot, snapshot_of};
 ghost use Rattle.bp_layout.specs.WellFormed.{IsWellFormed};
 ghost use Rattle.bp_layout.specs.Whole.{IsFileSystem, second_place};
 ghost use Rattle.bp_layout.specs.Words.{block_count};
@@ -20,7 +20,7 @@ use crate::pending::Pending;
 use crate::scanning::scan;
 use crate::totals::Totals;
 use bp_free::{Blocks, Counts, Inodes};
-use bp_limits::{SUPER_ROOT, SUPER_SECOND_ROOT, SUPER_SECOND_SIZE, SUPER_SIZE, Version};
+use bp_limits::{SUPER_ROOT, SUPER_SIZE, SUPER_SNAPSHOT_ROOT, SUPER_SNAPSHOT_SIZE, Version};
 use bp_second::Shown;
 use bp_tree::version;
 use pm_region::Region;
@@ -32,7 +32,7 @@ pub fn has_second<R: Region>(region: &R) -> bool
 {
     match version(region) {
         Version::One => false,
-        Version::Two => region.load(SUPER_SECOND_SIZE) != 0,
+        Version::Two => region.load(SUPER_SNAPSHOT_SIZE) != 0,
     }
 }
 
@@ -69,14 +69,14 @@ fn place_of_second(place: u64) -> u64
     ensures { result ≡ second_place place }
 {
     match place {
-        SUPER_ROOT => SUPER_SECOND_ROOT,
-        SUPER_SIZE => SUPER_SECOND_SIZE,
+        SUPER_ROOT => SUPER_SNAPSHOT_ROOT,
+        SUPER_SIZE => SUPER_SNAPSHOT_SIZE,
         _ => place,
     }
 }
 
 /// Returns the fault of an image whose second tree, read as the first, has this fault.
-fn fault_of_second(fault: MountFault) -> MountFault
+fn fault_of_snapshot(fault: MountFault) -> MountFault
     ensures { result ≡ of_second fault }
 {
     match fault {
@@ -88,13 +88,13 @@ fn fault_of_second(fault: MountFault) -> MountFault
     }
 }
 
-/// Scans the second tree of an image, and puts its blocks into `frozen`. The other sets and the counts have no defined
-/// contents then.
-fn scan_second<R: Region>(
+/// Scans the second tree of an image, and puts its blocks into `snapshot_blocks`. The other sets and the counts have no
+/// defined contents then.
+fn scan_snapshot<R: Region>(
     region: &R,
     blocks: &mut Blocks,
     inodes: &mut Inodes,
-    frozen: &mut Blocks,
+    snapshot_blocks: &mut Blocks,
     pending: &mut Pending,
     counts: &mut Counts,
 ) -> Result<(), MountFault>
@@ -102,77 +102,77 @@ fn scan_second<R: Region>(
     requires there { has_snapshot (words_in R.memory region.now) ≡ true }
     requires blocks { length blocks.old ≡ block_count (words_in R.memory region.now) }
     requires inodes { length inodes.old ≡ block_inodes * block_count (words_in R.memory region.now) }
-    requires frozen { length frozen.old ≡ block_count (words_in R.memory region.now) }
+    requires snapshot_blocks { length snapshot_blocks.old ≡ block_count (words_in R.memory region.now) }
     requires pending { pending.old ≡ block_inodes * block_count (words_in R.memory region.now) }
     requires counts { length counts.old ≡ block_inodes * block_count (words_in R.memory region.now) }
     ensures well_formed { OnOk result (IsWellFormed (snapshot_of (words_in R.memory region.now))) }
-    ensures frozen { OnOk result (AreFrozen (words_in R.memory region.now) (has frozen.new)) }
+    ensures snapshot_blocks { OnOk result (AreInSnapshot (words_in R.memory region.now) (has snapshot_blocks.new)) }
     ensures fault { IfErr result (IsFault (words_in R.memory region.now)) }
     ensures no_blocks { OnErr result (blocks.new ≡ empty (length blocks.old)) }
     ensures no_inodes { OnErr result (inodes.new ≡ empty (length inodes.old)) }
-    ensures no_frozen { OnErr result (frozen.new ≡ empty (length frozen.old)) }
+    ensures no_snapshot_blocks { OnErr result (snapshot_blocks.new ≡ empty (length snapshot_blocks.old)) }
     ensures no_counts { OnErr result (counts.new ≡ replicate (length counts.old) 0) }
     ensures block_room { length blocks.new ≡ length blocks.old }
     ensures inode_room { length inodes.new ≡ length inodes.old }
-    ensures frozen_room { length frozen.new ≡ length frozen.old }
+    ensures snapshot_room { length snapshot_blocks.new ≡ length snapshot_blocks.old }
     ensures count_room { length counts.new ≡ length counts.old }
     ensures pending { pending.new ≡ pending.old }
 {
     let second = Shown::second(region);
     match scan(&second, blocks, inodes, pending, counts) {
         Ok(_) => {
-            fill_others(blocks, frozen);
+            fill_others(blocks, snapshot_blocks);
             Ok(())
         }
         Err(fault) => {
-            frozen.clear();
-            Err(fault_of_second(fault))
+            snapshot_blocks.clear();
+            Err(fault_of_snapshot(fault))
         }
     }
 }
 
-/// Does what `scan_second` does if an image has a second tree, and else empties `frozen`.
-fn find_frozen<R: Region>(
+/// Does what `scan_snapshot` does if an image has a second tree, and else empties `snapshot_blocks`.
+fn find_snapshot<R: Region>(
     region: &R,
     blocks: &mut Blocks,
     inodes: &mut Inodes,
-    frozen: &mut Blocks,
+    snapshot_blocks: &mut Blocks,
     pending: &mut Pending,
     counts: &mut Counts,
 ) -> Result<(), MountFault>
     requires sized { IsSized (words_in R.memory region.now) }
     requires blocks { length blocks.old ≡ block_count (words_in R.memory region.now) }
     requires inodes { length inodes.old ≡ block_inodes * block_count (words_in R.memory region.now) }
-    requires frozen { length frozen.old ≡ block_count (words_in R.memory region.now) }
+    requires snapshot_blocks { length snapshot_blocks.old ≡ block_count (words_in R.memory region.now) }
     requires pending { pending.old ≡ block_inodes * block_count (words_in R.memory region.now) }
     requires counts { length counts.old ≡ block_inodes * block_count (words_in R.memory region.now) }
     ensures well_formed { let words = words_in R.memory region.now in
         OnOk result (has_snapshot words ≡ true → IsWellFormed (snapshot_of words)) }
-    ensures frozen { OnOk result (AreFrozen (words_in R.memory region.now) (has frozen.new)) }
+    ensures snapshot_blocks { OnOk result (AreInSnapshot (words_in R.memory region.now) (has snapshot_blocks.new)) }
     ensures fault { IfErr result (IsFault (words_in R.memory region.now)) }
     ensures no_blocks { OnErr result (blocks.new ≡ empty (length blocks.old)) }
     ensures no_inodes { OnErr result (inodes.new ≡ empty (length inodes.old)) }
-    ensures no_frozen { OnErr result (frozen.new ≡ empty (length frozen.old)) }
+    ensures no_snapshot_blocks { OnErr result (snapshot_blocks.new ≡ empty (length snapshot_blocks.old)) }
     ensures no_counts { OnErr result (counts.new ≡ replicate (length counts.old) 0) }
     ensures block_room { length blocks.new ≡ length blocks.old }
     ensures inode_room { length inodes.new ≡ length inodes.old }
-    ensures frozen_room { length frozen.new ≡ length frozen.old }
+    ensures snapshot_room { length snapshot_blocks.new ≡ length snapshot_blocks.old }
     ensures count_room { length counts.new ≡ length counts.old }
     ensures pending { pending.new ≡ pending.old }
 {
     if has_second(region) {
-        return scan_second(region, blocks, inodes, frozen, pending, counts);
+        return scan_snapshot(region, blocks, inodes, snapshot_blocks, pending, counts);
     }
-    frozen.clear();
+    snapshot_blocks.clear();
     Ok(())
 }
 
-/// Reads both trees of the image in a region of 8 to 67,108,864 blocks of 512 words, and returns the totals of the first
-/// tree, with the live blocks of both.
+/// Reads both trees of the image in a region of 8 to 67,108,864 blocks of 512 words, and returns the totals of the
+/// first tree, with the live blocks of both.
 ///
-/// It puts the blocks of the second tree into `frozen`, and the blocks that are in neither into `blocks`. It puts the
-/// inodes that the first tree lacks into `inodes`, and the number of links that each inode has in it into the counts.
-/// Their old contents do not matter. It takes the time of [`scan`] for each tree that is there.
+/// It puts the blocks of the second tree into `snapshot_blocks`, and the blocks that are in neither into `blocks`. It
+/// puts the inodes that the first tree lacks into `inodes`, and the number of links that each inode has in it into the
+/// counts. Their old contents do not matter. It takes the time of [`scan`] for each tree that is there.
 ///
 /// # Errors
 ///
@@ -184,44 +184,44 @@ pub fn scan_whole<R: Region>(
     region: &R,
     blocks: &mut Blocks,
     inodes: &mut Inodes,
-    frozen: &mut Blocks,
+    snapshot_blocks: &mut Blocks,
     pending: &mut Pending,
     counts: &mut Counts,
 ) -> Result<Totals, MountFault>
     requires sized { IsSized (words_in R.memory region.now) }
     requires blocks { length blocks.old ≡ block_count (words_in R.memory region.now) }
     requires inodes { length inodes.old ≡ block_inodes * block_count (words_in R.memory region.now) }
-    requires frozen { length frozen.old ≡ block_count (words_in R.memory region.now) }
+    requires snapshot_blocks { length snapshot_blocks.old ≡ block_count (words_in R.memory region.now) }
     requires pending { pending.old ≡ block_inodes * block_count (words_in R.memory region.now) }
     requires counts { length counts.old ≡ block_inodes * block_count (words_in R.memory region.now) }
     ensures well_formed { IsOk result ↔ IsFileSystem (words_in R.memory region.now) }
-    ensures frozen { OnOk result (AreFrozen (words_in R.memory region.now) (has frozen.new)) }
+    ensures snapshot_blocks { OnOk result (AreInSnapshot (words_in R.memory region.now) (has snapshot_blocks.new)) }
     ensures blocks { let words = words_in R.memory region.now in
-        OnOk result (AreFreeBlocks words (has frozen.new) (has blocks.new)) }
+        OnOk result (AreFreeBlocks words (has snapshot_blocks.new) (has blocks.new)) }
     ensures inodes { OnOk result (AreFreeInodes (words_in R.memory region.now) (has inodes.new)) }
     ensures counts { OnOk result (AreCounts (words_in R.memory region.now) counts.new) }
     ensures totals { IfOk result (HasTotals (words_in R.memory region.now)) }
     ensures fault { IfErr result (IsFault (words_in R.memory region.now)) }
     ensures no_blocks { OnErr result (blocks.new ≡ empty (length blocks.old)) }
     ensures no_inodes { OnErr result (inodes.new ≡ empty (length inodes.old)) }
-    ensures no_frozen { OnErr result (frozen.new ≡ empty (length frozen.old)) }
+    ensures no_snapshot_blocks { OnErr result (snapshot_blocks.new ≡ empty (length snapshot_blocks.old)) }
     ensures no_counts { OnErr result (counts.new ≡ replicate (length counts.old) 0) }
     ensures block_room { length blocks.new ≡ length blocks.old }
     ensures inode_room { length inodes.new ≡ length inodes.old }
-    ensures frozen_room { length frozen.new ≡ length frozen.old }
+    ensures snapshot_room { length snapshot_blocks.new ≡ length snapshot_blocks.old }
     ensures count_room { length counts.new ≡ length counts.old }
     ensures pending { pending.new ≡ pending.old }
 {
     // The second tree comes first, so that one set of each kind suffices for both.
-    find_frozen(region, blocks, inodes, frozen, pending, counts)?;
+    find_snapshot(region, blocks, inodes, snapshot_blocks, pending, counts)?;
     match scan(region, blocks, inodes, pending, counts) {
         Ok(totals) => {
-            take_out(frozen, blocks);
+            take_out(snapshot_blocks, blocks);
             let live = blocks.room() - 1 - blocks.count();
             Ok(Totals { live, ..totals })
         }
         Err(fault) => {
-            frozen.clear();
+            snapshot_blocks.clear();
             Err(fault)
         }
     }

@@ -12,6 +12,6 @@ use Rattle.bp_script.specs.declared.lines.Syntax.{Syntax}
 pub can_be_asked : (asked : Result Line Syntax) → IsServedCommand (line_asks asked) → HasItsParts asked → CanBeAsked asked
 can_be_asked (Ok (asks.Call (given.Batch text pieces))) served parts =
     let len = length-map pieces.now (piece_in text.now) in (omega (arith, len, served.0), omega (arith, len, served.1), parts)
-can_be_asked (Ok (asks.Call (given.Read path off len))) served parts = served
-can_be_asked (Ok (asks.Call (given.SnapRead path off len))) served parts = served
+can_be_asked (Ok (asks.Call (given.Read path offset len))) served parts = served
+can_be_asked (Ok (asks.Call (given.SnapRead path offset len))) served parts = served
 can_be_asked asked served parts = tt

@@ -32,7 +32,7 @@ part_kept end text longer part same inside =
 pub piece_kept : (end : ℕ) (text longer : List ℕ) (piece : GivenPiece) → take end longer ≡ take end text → LiesIn (take end text) piece → piece_in longer piece ≡ piece_in text piece
 piece_kept end text longer piece same lies =
     let n = length-take end text in
-    ap₂ (λ (path bytes : List ℕ). record { path = path; off = piece.off; bytes = bytes })
+    ap₂ (λ (path bytes : List ℕ). record { path = path; offset = piece.offset; bytes = bytes })
     (part_kept end text longer piece.path same (omega (arith, n, lies.path)))
     (part_kept end text longer piece.bytes same (omega (arith, n, lies.bytes)))
 
@@ -80,11 +80,11 @@ front_stays at end text part_bytes longer within later is =
 
 -- ---- the piece of three words
 
-pub piece_is : (path off bytes : List ℕ) (n : ℕ) (new : List ℕ) → is_empty_word path ≡ false → number_spelled off ≡ Some n → bytes_in_word bytes ≡ Some new
-    → piece_decoded path off bytes ≡ Some (record { path = path_bytes path; off = n; bytes = new })
-piece_is path off bytes n new some_path number spelled = go (is_empty_word bytes) refl
+pub piece_is : (path offset bytes : List ℕ) (n : ℕ) (new : List ℕ) → is_empty_word path ≡ false → number_spelled offset ≡ Some n → bytes_in_word bytes ≡ Some new
+    → piece_decoded path offset bytes ≡ Some (record { path = path_bytes path; offset = n; bytes = new })
+piece_is path offset bytes n new some_path number spelled = go (is_empty_word bytes) refl
   where
-    go : (none : Bool) → is_empty_word bytes ≡ none → piece_decoded path off bytes ≡ Some (record { path = path_bytes path; off = n; bytes = new })
+    go : (none : Bool) → is_empty_word bytes ≡ none → piece_decoded path offset bytes ≡ Some (record { path = path_bytes path; offset = n; bytes = new })
     go true at = let no_bytes : ◌≡◌ {A = Option (List ℕ)} None (Some new) = rw at at spelled in absurd (cc)
     go false at = let found : bytes_spelled bytes ≡ Some new = rw at at spelled in rw (some_path, at, number, found) refl
 
@@ -127,38 +127,38 @@ unfolding rest_of
 rest_more done piece None = refl
 rest_more done piece (Some pieces) = ap (λ all. batch_of (Some all)) (sym (append_assoc done (decoded_piece piece ∷ []) (map decoded_piece pieces)))
 
-some_digits : (off : List ℕ) (n : ℕ) → number_spelled off ≡ Some n → is_empty_word off ≡ false
+some_digits : (offset : List ℕ) (n : ℕ) → number_spelled offset ≡ Some n → is_empty_word offset ≡ false
 some_digits [] n is = absurd (cc)
-some_digits (d ∷ off) n is = ne_eqb (length (d ∷ off)) 0 (λ none. absurd (omega (arith, none)))
+some_digits (d ∷ offset) n is = ne_eqb (length (d ∷ offset)) 0 (λ none. absurd (omega (arith, none)))
 
 -- three words of a piece
-pub on_piece : (done : List Piece) (path off bytes : List ℕ) (words : List (List ℕ)) (piece : Piece) → piece_decoded path off bytes ≡ Some piece
-    → asks_on done (path ∷ off ∷ bytes ∷ words) ≡ asks_on (done ++ piece ∷ []) words
+pub on_piece : (done : List Piece) (path offset bytes : List ℕ) (words : List (List ℕ)) (piece : Piece) → piece_decoded path offset bytes ≡ Some piece
+    → asks_on done (path ∷ offset ∷ bytes ∷ words) ≡ asks_on (done ++ piece ∷ []) words
 unfolding asks_on
-on_piece done path off bytes words piece is = go (is_empty_word path) (is_empty_word bytes) (number_spelled off) (bytes_spelled bytes) refl refl refl refl
+on_piece done path offset bytes words piece is = go (is_empty_word path) (is_empty_word bytes) (number_spelled offset) (bytes_spelled bytes) refl refl refl refl
   where
-    go : (no_path no_bytes : Bool) (number : Option ℕ) (new : Option (List ℕ)) → is_empty_word path ≡ no_path → is_empty_word bytes ≡ no_bytes → number_spelled off ≡ number → bytes_spelled bytes ≡ new
-        → asks_on done (path ∷ off ∷ bytes ∷ words) ≡ asks_on (done ++ piece ∷ []) words
+    go : (no_path no_bytes : Bool) (number : Option ℕ) (new : Option (List ℕ)) → is_empty_word path ≡ no_path → is_empty_word bytes ≡ no_bytes → number_spelled offset ≡ number → bytes_spelled bytes ≡ new
+        → asks_on done (path ∷ offset ∷ bytes ∷ words) ≡ asks_on (done ++ piece ∷ []) words
     go true no_bytes number new at_path at_bytes at_off at_new = let none : ◌≡◌ {A = Option Piece} None (Some piece) = rw at_path at is in absurd (cc)
     go false true number new at_path at_bytes at_off at_new = let none : ◌≡◌ {A = Option Piece} None (Some piece) = rw (at_path, at_bytes) at is in absurd (cc)
     go false false None new at_path at_bytes at_off at_new = let none : ◌≡◌ {A = Option Piece} None (Some piece) = rw (at_path, at_bytes, at_off) at is in absurd (cc)
     go false false (Some n) None at_path at_bytes at_off at_new = let none : ◌≡◌ {A = Option Piece} None (Some piece) = rw (at_path, at_bytes, at_off, at_new) at is in absurd (cc)
     go false false (Some n) (Some new) at_path at_bytes at_off at_new =
-        let same : Some (decoded_piece (record { path = path; off = n; bytes = new })) ≡ Some piece = rw (at_path, at_bytes, at_off, at_new) at is in
-        rw (at_path, at_bytes, some_digits off n at_off, at_off, at_new)
+        let same : Some (decoded_piece (record { path = path; offset = n; bytes = new })) ≡ Some piece = rw (at_path, at_bytes, at_off, at_new) at is in
+        rw (at_path, at_bytes, some_digits offset n at_off, at_off, at_new)
         (ap (λ command. if list_any is_empty_word words then bad_syntax else command)
-        (rest_more done (record { path = path; off = n; bytes = new }) (piece_words words) ∙ ap (λ (all : Option Piece). rest_of (done ++ option_to_list all) (piece_words words)) same))
+        (rest_more done (record { path = path; offset = n; bytes = new }) (piece_words words) ∙ ap (λ (all : Option Piece). rest_of (done ++ option_to_list all) (piece_words words)) same))
 
 -- and of none
-pub no_piece : (done : List Piece) (path off bytes : List ℕ) (words : List (List ℕ)) → piece_decoded path off bytes ≡ None → asks_on done (path ∷ off ∷ bytes ∷ words) ≡ bad_syntax
+pub no_piece : (done : List Piece) (path offset bytes : List ℕ) (words : List (List ℕ)) → piece_decoded path offset bytes ≡ None → asks_on done (path ∷ offset ∷ bytes ∷ words) ≡ bad_syntax
 unfolding asks_on rest_of
-no_piece done path off bytes words is = go (is_empty_word path) (is_empty_word bytes) (piece_spelled path (number_spelled off) (bytes_spelled bytes)) refl refl refl
+no_piece done path offset bytes words is = go (is_empty_word path) (is_empty_word bytes) (piece_spelled path (number_spelled offset) (bytes_spelled bytes)) refl refl refl
   where
-    go : (no_path no_bytes : Bool) (spelled : Option Piece) → is_empty_word path ≡ no_path → is_empty_word bytes ≡ no_bytes → piece_spelled path (number_spelled off) (bytes_spelled bytes) ≡ spelled
-        → asks_on done (path ∷ off ∷ bytes ∷ words) ≡ bad_syntax
+    go : (no_path no_bytes : Bool) (spelled : Option Piece) → is_empty_word path ≡ no_path → is_empty_word bytes ≡ no_bytes → piece_spelled path (number_spelled offset) (bytes_spelled bytes) ≡ spelled
+        → asks_on done (path ∷ offset ∷ bytes ∷ words) ≡ bad_syntax
     go true no_bytes spelled at_path at_bytes at = rw at_path refl
-    go false true spelled at_path at_bytes at = rw (at_path, at_bytes, either_true (is_empty_word off)) refl
-    go false false None at_path at_bytes at = rw at (either_bad (list_any is_empty_word (path ∷ off ∷ bytes ∷ words)) bad_syntax refl)
+    go false true spelled at_path at_bytes at = rw (at_path, at_bytes, either_true (is_empty_word offset)) refl
+    go false false None at_path at_bytes at = rw at (either_bad (list_any is_empty_word (path ∷ offset ∷ bytes ∷ words)) bad_syntax refl)
     go false false (Some piece) at_path at_bytes at = let some : ◌≡◌ {A = Option Piece} (Some (decoded_piece piece)) None = rw (at_path, at_bytes, at) at is in absurd (cc)
 
 -- no more words
@@ -183,10 +183,10 @@ too_many done piece pieces full = go (nat_le 1 (length (done ++ piece ∷ pieces
     go false false at = refl
 
 -- three words more than a batch may have
-pub on_full : (done : List Piece) (path off bytes : List ℕ) (words : List (List ℕ)) → length done ≡ max_pieces → asks_on done (path ∷ off ∷ bytes ∷ words) ≡ bad_syntax
+pub on_full : (done : List Piece) (path offset bytes : List ℕ) (words : List (List ℕ)) → length done ≡ max_pieces → asks_on done (path ∷ offset ∷ bytes ∷ words) ≡ bad_syntax
 unfolding asks_on rest_of
-on_full done path off bytes words full =
-    either_bad (list_any is_empty_word (path ∷ off ∷ bytes ∷ words)) _ (go (piece_spelled path (number_spelled off) (bytes_spelled bytes)) (piece_words words))
+on_full done path offset bytes words full =
+    either_bad (list_any is_empty_word (path ∷ offset ∷ bytes ∷ words)) _ (go (piece_spelled path (number_spelled offset) (bytes_spelled bytes)) (piece_words words))
   where
     go : (one : Option Piece) (more : Option (List Piece)) → rest_of done (and_pieces one more) ≡ bad_syntax
     go None more = refl

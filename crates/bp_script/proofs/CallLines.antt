@@ -275,40 +275,40 @@ module _ (text : List ℕ) (word : IsWord text) where
       words-front w (first ++ 32 ∷ second) has.whole
       ∙ ap (λ ws. w ∷ ws) (words-front first second one ∙ ap (λ ws. first ∷ ws) (words-last second two))
 
-  read_asks : (off len : ℕ) → off < 2 ^ 64 → len ≤ max_read → IsRead (read text off len)
-  read_asks off len low few fits =
-      asks (read text off len) (codes "read" ∷ w ∷ decimal off ∷ decimal len ∷ []) (read w off len) fits
-      (ap words_of line ∙ ap (λ ws. codes "read" ∷ ws) (three_words (decimal off) (decimal len) (decimal_whole off low) (decimal_whole len small)))
-      (rw (has.some, filled (decimal off) (decimal_nonempty off low), filled (decimal len) (decimal_nonempty len small), decimal_spells off low, decimal_spells len small, le-leb len max_read few) refl)
-      (ap (λ p. file_call (read p off len)) has.is)
+  read_asks : (offset len : ℕ) → offset < 2 ^ 64 → len ≤ max_read → IsRead (read text offset len)
+  read_asks offset len low few fits =
+      asks (read text offset len) (codes "read" ∷ w ∷ decimal offset ∷ decimal len ∷ []) (read w offset len) fits
+      (ap words_of line ∙ ap (λ ws. codes "read" ∷ ws) (three_words (decimal offset) (decimal len) (decimal_whole offset low) (decimal_whole len small)))
+      (rw (has.some, filled (decimal offset) (decimal_nonempty offset low), filled (decimal len) (decimal_nonempty len small), decimal_spells offset low, decimal_spells len small, le-leb len max_read few) refl)
+      (ap (λ p. file_call (read p offset len)) has.is)
     where
       small : len < 2 ^ 64
       small = omega (arith, few)
 
-      line : call_line (read text off len) ≡ codes "read " ++ (w ++ 32 ∷ (decimal off ++ 32 ∷ decimal len))
+      line : call_line (read text offset len) ≡ codes "read " ++ (w ++ 32 ∷ (decimal offset ++ 32 ∷ decimal len))
       line = simp append_assoc
 
-  snap_read_asks : (off len : ℕ) → off < 2 ^ 64 → len ≤ max_read → IsRead (snap_read text off len)
-  snap_read_asks off len low few fits =
-      asks (snap_read text off len) (codes "sread" ∷ w ∷ decimal off ∷ decimal len ∷ []) (snap_read w off len) fits
-      (ap words_of line ∙ ap (λ ws. codes "sread" ∷ ws) (three_words (decimal off) (decimal len) (decimal_whole off low) (decimal_whole len small)))
-      (rw (has.some, filled (decimal off) (decimal_nonempty off low), filled (decimal len) (decimal_nonempty len small), decimal_spells off low, decimal_spells len small, le-leb len max_read few) refl)
-      (ap (λ p. file_call (snap_read p off len)) has.is)
+  snap_read_asks : (offset len : ℕ) → offset < 2 ^ 64 → len ≤ max_read → IsRead (snap_read text offset len)
+  snap_read_asks offset len low few fits =
+      asks (snap_read text offset len) (codes "sread" ∷ w ∷ decimal offset ∷ decimal len ∷ []) (snap_read w offset len) fits
+      (ap words_of line ∙ ap (λ ws. codes "sread" ∷ ws) (three_words (decimal offset) (decimal len) (decimal_whole offset low) (decimal_whole len small)))
+      (rw (has.some, filled (decimal offset) (decimal_nonempty offset low), filled (decimal len) (decimal_nonempty len small), decimal_spells offset low, decimal_spells len small, le-leb len max_read few) refl)
+      (ap (λ p. file_call (snap_read p offset len)) has.is)
     where
       small : len < 2 ^ 64
       small = omega (arith, few)
 
-      line : call_line (snap_read text off len) ≡ codes "sread " ++ (w ++ 32 ∷ (decimal off ++ 32 ∷ decimal len))
+      line : call_line (snap_read text offset len) ≡ codes "sread " ++ (w ++ 32 ∷ (decimal offset ++ 32 ∷ decimal len))
       line = simp append_assoc
 
-  write_asks : (off : ℕ) (new : List ℕ) → off < 2 ^ 64 → are_bytes new ≡ true → IsRead (write text off new)
-  write_asks off new low bytes fits =
-      asks (write text off new) (codes "write" ∷ w ∷ decimal off ∷ digits_or_dash new ∷ []) (write w off new) fits
-      (ap words_of line ∙ ap (λ ws. codes "write" ∷ ws) (three_words (decimal off) (digits_or_dash new) (decimal_whole off low) (dash_whole new bytes)))
-      (rw (has.some, filled (decimal off) (decimal_nonempty off low), filled (digits_or_dash new) (dash_some new), decimal_spells off low, dash_spells new bytes) refl)
-      (ap (λ p. file_call (write p off new)) has.is)
+  write_asks : (offset : ℕ) (new : List ℕ) → offset < 2 ^ 64 → are_bytes new ≡ true → IsRead (write text offset new)
+  write_asks offset new low bytes fits =
+      asks (write text offset new) (codes "write" ∷ w ∷ decimal offset ∷ digits_or_dash new ∷ []) (write w offset new) fits
+      (ap words_of line ∙ ap (λ ws. codes "write" ∷ ws) (three_words (decimal offset) (digits_or_dash new) (decimal_whole offset low) (dash_whole new bytes)))
+      (rw (has.some, filled (decimal offset) (decimal_nonempty offset low), filled (digits_or_dash new) (dash_some new), decimal_spells offset low, dash_spells new bytes) refl)
+      (ap (λ p. file_call (write p offset new)) has.is)
     where
-      line : call_line (write text off new) ≡ codes "write " ++ (w ++ 32 ∷ (decimal off ++ 32 ∷ digits_or_dash new))
+      line : call_line (write text offset new) ≡ codes "write " ++ (w ++ 32 ∷ (decimal offset ++ 32 ∷ digits_or_dash new))
       line = simp append_assoc
 
 -- a verb and two paths
@@ -333,8 +333,8 @@ call_asks (rmdir text) is = path_asks text is (codes "rmdir") rmdir refl refl (�
 call_asks (list text) is = path_asks text is (codes "list") list refl refl (λ p. refl) (λ p. refl) refl
 call_asks (stat text) is = path_asks text is (codes "stat") stat refl refl (λ p. refl) (λ p. refl) refl
 call_asks (links text) is = path_asks text is (codes "links") links refl refl (λ p. refl) (λ p. refl) refl
-call_asks (read text off len) is = read_asks text is.0 off len is.1 is.2
-call_asks (write text off new) is = write_asks text is.0 off new is.1 is.2
+call_asks (read text offset len) is = read_asks text is.0 offset len is.1 is.2
+call_asks (write text offset new) is = write_asks text is.0 offset new is.1 is.2
 call_asks (truncate text size) is = truncate_asks text is.0 size is.1
 call_asks (rename from to) is = pair_asks from to is.0 is.1 (codes "rename") rename refl refl (λ p q. refl) (λ p q. refl) (simp append_assoc)
 call_asks (link from to) is = pair_asks from to is.0 is.1 (codes "link") link refl refl (λ p q. refl) (λ p q. refl) (simp append_assoc)
@@ -343,5 +343,5 @@ call_asks snap is = λ fits. refl
 call_asks unsnap is = λ fits. refl
 call_asks (snap_list text) is = path_asks text is (codes "slist") snap_list refl refl (λ p. refl) (λ p. refl) refl
 call_asks (snap_stat text) is = path_asks text is (codes "sstat") snap_stat refl refl (λ p. refl) (λ p. refl) refl
-call_asks (snap_read text off len) is = snap_read_asks text is.0 off len is.1 is.2
+call_asks (snap_read text offset len) is = snap_read_asks text is.0 offset len is.1 is.2
 call_asks (batch pieces) is = absurd is

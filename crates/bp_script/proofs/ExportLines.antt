@@ -139,19 +139,19 @@ module _ (text : List ℕ) (short : IsShort text) where
         number_short size low,
       )
 
-  write_said : (off : ℕ) (new : List ℕ) → off ≤ max_size → are_bytes new ≡ true → length new ≤ 4096 → IsSaid (write text off new)
-  write_said off new low bytes block = record { spelled = (short.word, omega (arith, low), bytes); line = omega (arith, few); text = omega (arith, few) }
+  write_said : (offset : ℕ) (new : List ℕ) → offset ≤ max_size → are_bytes new ≡ true → length new ≤ 4096 → IsSaid (write text offset new)
+  write_said offset new low bytes block = record { spelled = (short.word, omega (arith, low), bytes); line = omega (arith, few); text = omega (arith, few) }
     where
-      few : length (call_line (write text off new)) < 30000
+      few : length (call_line (write text offset new)) < 30000
       few = omega (
         arith,
-        length-append (codes "write " ++ w ++ codes " " ++ decimal off ++ codes " ") (digits_or_dash new),
-        length-append (codes "write " ++ w ++ codes " " ++ decimal off) (codes " "),
-        length-append (codes "write " ++ w ++ codes " ") (decimal off),
+        length-append (codes "write " ++ w ++ codes " " ++ decimal offset ++ codes " ") (digits_or_dash new),
+        length-append (codes "write " ++ w ++ codes " " ++ decimal offset) (codes " "),
+        length-append (codes "write " ++ w ++ codes " ") (decimal offset),
         length-append (codes "write " ++ w) (codes " "),
         length-append (codes "write ") w,
         word_short text short,
-        number_short off low,
+        number_short offset low,
         dash_length new,
         block,
       )

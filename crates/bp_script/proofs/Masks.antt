@@ -68,20 +68,20 @@ pair_none verb first second =
     (none_either (bytes_eq verb (codes "rename")) (file_call (rename first second)) _ refl
     (none_either (bytes_eq verb (codes "link")) (file_call (link first second)) bad_syntax refl refl))
 
-read_none : (path : List ℕ) (off len : Option ℕ) → mask_in (read_command path off len) ≡ []
+read_none : (path : List ℕ) (offset len : Option ℕ) → mask_in (read_command path offset len) ≡ []
 read_none path None len = refl
-read_none path (Some off) None = refl
-read_none path (Some off) (Some len) = refl
+read_none path (Some offset) None = refl
+read_none path (Some offset) (Some len) = refl
 
-snap_read_none : (path : List ℕ) (off len : Option ℕ) → mask_in (snap_read_command path off len) ≡ []
+snap_read_none : (path : List ℕ) (offset len : Option ℕ) → mask_in (snap_read_command path offset len) ≡ []
 snap_read_none path None len = refl
-snap_read_none path (Some off) None = refl
-snap_read_none path (Some off) (Some len) = refl
+snap_read_none path (Some offset) None = refl
+snap_read_none path (Some offset) (Some len) = refl
 
-write_none : (path : List ℕ) (off : Option ℕ) (new : Option (List ℕ)) → mask_in (write_command path off new) ≡ []
+write_none : (path : List ℕ) (offset : Option ℕ) (new : Option (List ℕ)) → mask_in (write_command path offset new) ≡ []
 write_none path None new = refl
-write_none path (Some off) None = refl
-write_none path (Some off) (Some new) = refl
+write_none path (Some offset) None = refl
+write_none path (Some offset) (Some new) = refl
 
 -- ---- a mask that is spelled
 

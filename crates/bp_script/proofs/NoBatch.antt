@@ -24,22 +24,22 @@ either : (test : Bool) (first second : Command) → has_batch first ≡ false �
 either true first second one other = one
 either false first second one other = other
 
-none_read : (path : List ℕ) (off len : Option ℕ) → has_batch (read_command path off len) ≡ false
+none_read : (path : List ℕ) (offset len : Option ℕ) → has_batch (read_command path offset len) ≡ false
 unfolding has_batch is_batch
-none_read path (Some off) (Some len) = refl
+none_read path (Some offset) (Some len) = refl
 none_read path None len = refl
-none_read path (Some off) None = refl
+none_read path (Some offset) None = refl
 
-none_snap_read : (path : List ℕ) (off len : Option ℕ) → has_batch (snap_read_command path off len) ≡ false
+none_snap_read : (path : List ℕ) (offset len : Option ℕ) → has_batch (snap_read_command path offset len) ≡ false
 unfolding has_batch is_batch
-none_snap_read path (Some off) (Some len) = refl
+none_snap_read path (Some offset) (Some len) = refl
 none_snap_read path None len = refl
-none_snap_read path (Some off) None = refl
+none_snap_read path (Some offset) None = refl
 
-none_write : (path : List ℕ) (off : Option ℕ) (new : Option (List ℕ)) → has_batch (write_command path off new) ≡ false
+none_write : (path : List ℕ) (offset : Option ℕ) (new : Option (List ℕ)) → has_batch (write_command path offset new) ≡ false
 unfolding has_batch is_batch
-none_write path (Some off) (Some new) = refl
-none_write path (Some off) None = refl
+none_write path (Some offset) (Some new) = refl
+none_write path (Some offset) None = refl
 none_write path None new = refl
 
 none_truncate : (path : List ℕ) (size : Option ℕ) → has_batch (truncate_command path size) ≡ false

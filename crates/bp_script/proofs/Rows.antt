@@ -114,17 +114,17 @@ bytes_with_space (x ∷ y ∷ word) i inside is = go (x == 45) (digits_with_spac
     go true none = none
     go false none = none
 
-no_length : (path : List ℕ) (off : Option ℕ) → read_command path off None ≡ bad_syntax
+no_length : (path : List ℕ) (offset : Option ℕ) → read_command path offset None ≡ bad_syntax
 no_length path None = refl
-no_length path (Some off) = refl
+no_length path (Some offset) = refl
 
-no_snap_length : (path : List ℕ) (off : Option ℕ) → snap_read_command path off None ≡ bad_syntax
+no_snap_length : (path : List ℕ) (offset : Option ℕ) → snap_read_command path offset None ≡ bad_syntax
 no_snap_length path None = refl
-no_snap_length path (Some off) = refl
+no_snap_length path (Some offset) = refl
 
-no_bytes : (path : List ℕ) (off : Option ℕ) → write_command path off None ≡ bad_syntax
+no_bytes : (path : List ℕ) (offset : Option ℕ) → write_command path offset None ≡ bad_syntax
 no_bytes path None = refl
-no_bytes path (Some off) = refl
+no_bytes path (Some offset) = refl
 
 no_mask : (moment epoch : Option ℕ) → masked_crash moment epoch None ≡ bad_syntax
 no_mask None epoch = refl

@@ -16,27 +16,27 @@ served_either : (test : Bool) (first second : Command) → IsServedCommand first
 served_either true first second one other = one
 served_either false first second one other = other
 
-served_read : (path : List ℕ) (off number : Option ℕ) → IsServedCommand (read_command path off (short_length number))
-served_read path (Some off) (Some len) = go (nat_le len max_read) refl
+served_read : (path : List ℕ) (offset number : Option ℕ) → IsServedCommand (read_command path offset (short_length number))
+served_read path (Some offset) (Some len) = go (nat_le len max_read) refl
   where
-    go : (few : Bool) → nat_le len max_read ≡ few → IsServedCommand (read_command path (Some off) (if few then Some len else None))
+    go : (few : Bool) → nat_le len max_read ≡ few → IsServedCommand (read_command path (Some offset) (if few then Some len else None))
     go true e = leb-true len max_read e
     go false e = tt
 served_read path None number = tt
-served_read path (Some off) None = tt
+served_read path (Some offset) None = tt
 
-served_snap_read : (path : List ℕ) (off number : Option ℕ) → IsServedCommand (snap_read_command path off (short_length number))
-served_snap_read path (Some off) (Some len) = go (nat_le len max_read) refl
+served_snap_read : (path : List ℕ) (offset number : Option ℕ) → IsServedCommand (snap_read_command path offset (short_length number))
+served_snap_read path (Some offset) (Some len) = go (nat_le len max_read) refl
   where
-    go : (few : Bool) → nat_le len max_read ≡ few → IsServedCommand (snap_read_command path (Some off) (if few then Some len else None))
+    go : (few : Bool) → nat_le len max_read ≡ few → IsServedCommand (snap_read_command path (Some offset) (if few then Some len else None))
     go true e = leb-true len max_read e
     go false e = tt
 served_snap_read path None number = tt
-served_snap_read path (Some off) None = tt
+served_snap_read path (Some offset) None = tt
 
-served_write : (path : List ℕ) (off : Option ℕ) (new : Option (List ℕ)) → IsServedCommand (write_command path off new)
-served_write path (Some off) (Some new) = tt
-served_write path (Some off) None = tt
+served_write : (path : List ℕ) (offset : Option ℕ) (new : Option (List ℕ)) → IsServedCommand (write_command path offset new)
+served_write path (Some offset) (Some new) = tt
+served_write path (Some offset) None = tt
 served_write path None new = tt
 
 served_truncate : (path : List ℕ) (size : Option ℕ) → IsServedCommand (truncate_command path size)
@@ -122,8 +122,8 @@ served_words (verb ∷ words) =
 
 -- decoded paths make no other call of one
 served_decoded_call : (call : Call) → IsServed call → IsServed (decoded_call call)
-served_decoded_call (read path off len) served = served
-served_decoded_call (snap_read path off len) served = served
+served_decoded_call (read path offset len) served = served
+served_decoded_call (snap_read path offset len) served = served
 served_decoded_call (batch pieces) served = let len = length-map pieces decoded_piece in (omega (arith, len, served.0), omega (arith, len, served.1))
 served_decoded_call call served = served
 

@@ -23,11 +23,11 @@ behind : (xs ys : List ℕ) → IsOneLine xs → IsOneLine ys → IsOneLine (xs 
 behind xs ys one two = both (xs ++ codes " ") ys (both xs (codes " ") one refl) two
 
 -- a verb, a path and two numbers
-read_line : (verb text : List ℕ) (off len : ℕ) → IsOneLine verb → IsWord text → off < 2 ^ 64 → len ≤ max_read
-    → IsOneLine (verb ++ path_word text ++ codes " " ++ decimal off ++ codes " " ++ decimal len)
-read_line verb text off len one word low few =
-    behind (verb ++ path_word text ++ codes " " ++ decimal off) (decimal len)
-    (behind (verb ++ path_word text) (decimal off) (both verb (path_word text) one (path_line text word)) (word_line (decimal off) (decimal_whole off low)))
+read_line : (verb text : List ℕ) (offset len : ℕ) → IsOneLine verb → IsWord text → offset < 2 ^ 64 → len ≤ max_read
+    → IsOneLine (verb ++ path_word text ++ codes " " ++ decimal offset ++ codes " " ++ decimal len)
+read_line verb text offset len one word low few =
+    behind (verb ++ path_word text ++ codes " " ++ decimal offset) (decimal len)
+    (behind (verb ++ path_word text) (decimal offset) (both verb (path_word text) one (path_line text word)) (word_line (decimal offset) (decimal_whole offset low)))
     (word_line (decimal len) (decimal_whole len (omega (arith, few))))
 
 pub one_line : (call : Call) → IsSpelled call → IsOneLine (call_line call)
@@ -38,10 +38,10 @@ one_line (rmdir text) is = both (codes "rmdir ") (path_word text) refl (path_lin
 one_line (list text) is = both (codes "list ") (path_word text) refl (path_line text is)
 one_line (stat text) is = both (codes "stat ") (path_word text) refl (path_line text is)
 one_line (links text) is = both (codes "links ") (path_word text) refl (path_line text is)
-one_line (read text off len) is = read_line (codes "read ") text off len refl is.0 is.1 is.2
-one_line (write text off new) is =
-    behind (codes "write " ++ path_word text ++ codes " " ++ decimal off) (digits_or_dash new)
-    (behind (codes "write " ++ path_word text) (decimal off) (both (codes "write ") (path_word text) refl (path_line text is.0)) (word_line (decimal off) (decimal_whole off is.1)))
+one_line (read text offset len) is = read_line (codes "read ") text offset len refl is.0 is.1 is.2
+one_line (write text offset new) is =
+    behind (codes "write " ++ path_word text ++ codes " " ++ decimal offset) (digits_or_dash new)
+    (behind (codes "write " ++ path_word text) (decimal offset) (both (codes "write ") (path_word text) refl (path_line text is.0)) (word_line (decimal offset) (decimal_whole offset is.1)))
     (word_line (digits_or_dash new) (dash_whole new is.2))
 one_line (truncate text size) is = behind (codes "truncate " ++ path_word text) (decimal size) (both (codes "truncate ") (path_word text) refl (path_line text is.0)) (word_line (decimal size) (decimal_whole size is.1))
 one_line (rename from to) is = behind (codes "rename " ++ path_word from) (path_word to) (both (codes "rename ") (path_word from) refl (path_line from is.0)) (path_line to is.1)
@@ -51,5 +51,5 @@ one_line snap is = refl
 one_line unsnap is = refl
 one_line (snap_list text) is = both (codes "slist ") (path_word text) refl (path_line text is)
 one_line (snap_stat text) is = both (codes "sstat ") (path_word text) refl (path_line text is)
-one_line (snap_read text off len) is = read_line (codes "sread ") text off len refl is.0 is.1 is.2
+one_line (snap_read text offset len) is = read_line (codes "sread ") text offset len refl is.0 is.1 is.2
 one_line (batch pieces) is = absurd is

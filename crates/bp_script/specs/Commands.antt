@@ -75,18 +75,18 @@ bytes_spelled word = if bytes_eq word (codes "-") then Some [] else result_ok (d
 -- ---- the table, with paths as they are written
 
 abbrev pub read_command : List ℕ → Option ℕ → Option ℕ → Command
-read_command path (Some off) (Some len) = file_call (read path off len)
-read_command path off len = bad_syntax
+read_command path (Some offset) (Some len) = file_call (read path offset len)
+read_command path offset len = bad_syntax
 
 -- A read of a file of the snapshot.
 abbrev pub snap_read_command : List ℕ → Option ℕ → Option ℕ → Command
-snap_read_command path (Some off) (Some len) = file_call (snap_read path off len)
-snap_read_command path off len = bad_syntax
+snap_read_command path (Some offset) (Some len) = file_call (snap_read path offset len)
+snap_read_command path offset len = bad_syntax
 
 -- A write. The call itself refuses an offset or bytes that are too large.
 abbrev pub write_command : List ℕ → Option ℕ → Option (List ℕ) → Command
-write_command path (Some off) (Some new) = file_call (write path off new)
-write_command path off new = bad_syntax
+write_command path (Some offset) (Some new) = file_call (write path offset new)
+write_command path offset new = bad_syntax
 
 abbrev pub truncate_command : List ℕ → Option ℕ → Command
 truncate_command path (Some size) = file_call (truncate path size)
@@ -106,8 +106,8 @@ masked_crash moment epoch mask = bad_syntax
 
 -- A piece of a batch, if its offset is a number and its bytes are hexadecimal digits.
 abbrev pub piece_spelled : List ℕ → Option ℕ → Option (List ℕ) → Option Piece
-piece_spelled path (Some off) (Some bytes) = Some (record { path = path; off = off; bytes = bytes })
-piece_spelled path off bytes = None
+piece_spelled path (Some offset) (Some bytes) = Some (record { path = path; offset = offset; bytes = bytes })
+piece_spelled path offset bytes = None
 
 abbrev pub and_pieces : Option Piece → Option (List Piece) → Option (List Piece)
 and_pieces (Some piece) (Some pieces) = Some (piece ∷ pieces)
@@ -116,8 +116,8 @@ and_pieces piece pieces = None
 -- The pieces that fields spell, three fields each: a path, an offset and bytes.
 abbrev pub piece_words : List (List ℕ) → Option (List Piece)
 piece_words [] = Some []
-piece_words (path ∷ off ∷ bytes ∷ words) =
-    and_pieces (piece_spelled path (number_spelled off) (bytes_spelled bytes)) (piece_words words)
+piece_words (path ∷ offset ∷ bytes ∷ words) =
+    and_pieces (piece_spelled path (number_spelled offset) (bytes_spelled bytes)) (piece_words words)
 piece_words words = None
 
 -- A batch of 1 to `max_pieces` pieces. The call itself refuses pieces that are too large.
@@ -231,15 +231,15 @@ decoded_call (unlink path) = unlink (path_bytes path)
 decoded_call (rmdir path) = rmdir (path_bytes path)
 decoded_call (list path) = list (path_bytes path)
 decoded_call (stat path) = stat (path_bytes path)
-decoded_call (read path off len) = read (path_bytes path) off len
-decoded_call (write path off new) = write (path_bytes path) off new
+decoded_call (read path offset len) = read (path_bytes path) offset len
+decoded_call (write path offset new) = write (path_bytes path) offset new
 decoded_call (truncate path size) = truncate (path_bytes path) size
 decoded_call (rename from to) = rename (path_bytes from) (path_bytes to)
 decoded_call (link from to) = link (path_bytes from) (path_bytes to)
 decoded_call (links path) = links (path_bytes path)
 decoded_call (snap_list path) = snap_list (path_bytes path)
 decoded_call (snap_stat path) = snap_stat (path_bytes path)
-decoded_call (snap_read path off len) = snap_read (path_bytes path) off len
+decoded_call (snap_read path offset len) = snap_read (path_bytes path) offset len
 decoded_call (batch pieces) = batch (map decoded_piece pieces)
 -- The other calls have no path.
 decoded_call call = call

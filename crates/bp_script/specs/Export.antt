@@ -23,9 +23,9 @@ call_line (unlink text) = codes "unlink " ++ path_word text
 call_line (rmdir text) = codes "rmdir " ++ path_word text
 call_line (list text) = codes "list " ++ path_word text
 call_line (stat text) = codes "stat " ++ path_word text
-call_line (read text off len) = codes "read " ++ path_word text ++ codes " " ++ decimal off ++ codes " " ++ decimal len
-call_line (write text off new) =
-    codes "write " ++ path_word text ++ codes " " ++ decimal off ++ codes " " ++ digits_or_dash new
+call_line (read text offset len) = codes "read " ++ path_word text ++ codes " " ++ decimal offset ++ codes " " ++ decimal len
+call_line (write text offset new) =
+    codes "write " ++ path_word text ++ codes " " ++ decimal offset ++ codes " " ++ digits_or_dash new
 call_line (truncate text size) = codes "truncate " ++ path_word text ++ codes " " ++ decimal size
 call_line (rename from to) = codes "rename " ++ path_word from ++ codes " " ++ path_word to
 call_line (link from to) = codes "link " ++ path_word from ++ codes " " ++ path_word to
@@ -35,8 +35,8 @@ call_line snap = codes "snap"
 call_line unsnap = codes "unsnap"
 call_line (snap_list text) = codes "slist " ++ path_word text
 call_line (snap_stat text) = codes "sstat " ++ path_word text
-call_line (snap_read text off len) =
-    codes "sread " ++ path_word text ++ codes " " ++ decimal off ++ codes " " ++ decimal len
+call_line (snap_read text offset len) =
+    codes "sread " ++ path_word text ++ codes " " ++ decimal offset ++ codes " " ++ decimal len
 -- The line of a batch is not defined.
 call_line (batch pieces) = []
 
@@ -56,8 +56,8 @@ IsSpelled (unlink text) = IsWord text
 IsSpelled (rmdir text) = IsWord text
 IsSpelled (list text) = IsWord text
 IsSpelled (stat text) = IsWord text
-IsSpelled (read text off len) = IsWord text × (off < 2 ^ 64) × (len ≤ max_read)
-IsSpelled (write text off new) = IsWord text × (off < 2 ^ 64) × (are_bytes new ≡ true)
+IsSpelled (read text offset len) = IsWord text × (offset < 2 ^ 64) × (len ≤ max_read)
+IsSpelled (write text offset new) = IsWord text × (offset < 2 ^ 64) × (are_bytes new ≡ true)
 IsSpelled (truncate text size) = IsWord text × (size < 2 ^ 64)
 IsSpelled (rename from to) = IsWord from × IsWord to
 IsSpelled (link from to) = IsWord from × IsWord to
@@ -67,7 +67,7 @@ IsSpelled snap = Unit {0}
 IsSpelled unsnap = Unit {0}
 IsSpelled (snap_list text) = IsWord text
 IsSpelled (snap_stat text) = IsWord text
-IsSpelled (snap_read text off len) = IsWord text × (off < 2 ^ 64) × (len ≤ max_read)
+IsSpelled (snap_read text offset len) = IsWord text × (offset < 2 ^ 64) × (len ≤ max_read)
 IsSpelled (batch pieces) = ⊥
 
 -- The line of the call is at most as long as a line may be.
@@ -78,7 +78,7 @@ FitsLine call = length (call_line call) ≤ max_line
 abbrev pub FitsText : Call → Type 0
 FitsText (create text) = length (call_line (create text)) < max_text
 FitsText (mkdir text) = length (call_line (mkdir text)) < max_text
-FitsText (write text off new) = length (call_line (write text off new)) < max_text
+FitsText (write text offset new) = length (call_line (write text offset new)) < max_text
 FitsText (truncate text size) = length (call_line (truncate text size)) < max_text
 FitsText (link from to) = length (call_line (link from to)) < max_text
 FitsText call = ⊥

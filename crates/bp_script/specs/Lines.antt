@@ -77,10 +77,10 @@ CanBeAsked asked = Unit {0}
 
 -- The fields of a piece and of all pieces after it, and the number of their bytes.
 abbrev pub words_at : PieceWords → List (List ℕ)
-words_at words = words.path.now ∷ words.off.now ∷ words_of words.rest.now
+words_at words = words.path.now ∷ words.offset.now ∷ words_of words.rest.now
 
 abbrev pub words_len : PieceWords → ℕ
-words_len words = length words.path.now + length words.off.now + length words.rest.now
+words_len words = length words.path.now + length words.offset.now + length words.rest.now
 
 -- The first field of a text.
 abbrev pub first_word : List ℕ → List ℕ
@@ -103,13 +103,13 @@ bytes_in_word word = if is_empty_word word then None else bytes_spelled word
 
 -- A piece decoded from its three fields, if none of them is empty.
 abbrev pub piece_decoded : List ℕ → List ℕ → List ℕ → Option Piece
-piece_decoded path off bytes =
+piece_decoded path offset bytes =
     if is_empty_word path || is_empty_word bytes then None
-    else option_map decoded_piece (piece_spelled path (number_spelled off) (bytes_spelled bytes))
+    else option_map decoded_piece (piece_spelled path (number_spelled offset) (bytes_spelled bytes))
 
 -- The first piece that these fields spell.
 abbrev pub first_piece : PieceWords → Option Piece
-first_piece words = piece_decoded words.path.now words.off.now (first_word words.rest.now)
+first_piece words = piece_decoded words.path.now words.offset.now (first_word words.rest.now)
 
 -- The command of a verb and a path.
 abbrev pub path_row : PathVerb → List ℕ → Command

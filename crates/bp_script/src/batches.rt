@@ -22,7 +22,7 @@ pub(crate) struct PieceWords<'a> {
     /// The field of the path.
     pub(crate) path: &'a [u8],
     /// The field of the offset.
-    pub(crate) off: &'a [u8],
+    pub(crate) offset: &'a [u8],
     /// The field of the bytes, with the text after it.
     pub(crate) rest: &'a [u8],
 }
@@ -39,8 +39,8 @@ pub(crate) fn decode_pieces(
     text: &mut Vec<u8>,
     pieces: &mut ArrayVec<Piece, MAX_PIECES>,
 ) -> Result<(), Syntax>
-    requires room { length first.path.now + length first.off.now + length first.rest.now ≤ vec_capacity text.old }
-    requires low { length first.path.now + length first.off.now + length first.rest.now ≤ most_room }
+    requires room { length first.path.now + length first.offset.now + length first.rest.now ≤ vec_capacity text.old }
+    requires low { length first.path.now + length first.offset.now + length first.rest.now ≤ most_room }
     ensures meaning { (if is_ok result then file_call (batch_in text.new.items pieces.new.items) else bad_syntax) ≡
         asked_batch (words_at first.entry) }
     ensures whole { OnOk result (All (LiesIn text.new.items) pieces.new.items) }
@@ -75,9 +75,9 @@ fn next_words(text: Option<&[u8]>) -> Result<Option<PieceWords<'_>>, Syntax>
         return Ok(None);
     };
     let (path, rest) = split_once(text, b' ');
-    let (off, rest) = split_once(rest.ok_or(Syntax)?, b' ');
+    let (offset, rest) = split_once(rest.ok_or(Syntax)?, b' ');
     let rest = rest.ok_or(Syntax)?;
-    Ok(Some(PieceWords { path, off, rest }))
+    Ok(Some(PieceWords { path, offset, rest }))
 }
 
 /// Decodes the fields of a piece: its path and its bytes go into a text, from an offset on, in memory that is
@@ -108,12 +108,19 @@ fn add_piece<'a>(
     if words.path.is_empty() {
         return Err(Syntax);
     }
-    let Some(off) = number(words.off) else {
+    let Some(offset) = number(words.offset) else {
         return Err(Syntax);
     };
     let path = add_path_part(words.path, text, at);
     let (bytes, behind) = add_bytes_part(words.rest, text, end_of(path))?;
-    Ok((Piece { path, off, bytes }, behind))
+    Ok((
+        Piece {
+            path,
+            offset,
+            bytes,
+        },
+        behind,
+    ))
 }
 
 /// Returns the end of a part of a text.

@@ -37,7 +37,11 @@ fn say_line(call: &Call<'_>, into: &mut [u8]) -> usize
     match *call {
         Call::Create(path) => say_verb(b"create ", path, into),
         Call::Mkdir(path) => say_verb(b"mkdir ", path, into),
-        Call::Write { path, off, bytes } => say_write(path, off, bytes, into),
+        Call::Write {
+            path,
+            offset,
+            bytes,
+        } => say_write(path, offset, bytes, into),
         Call::Truncate { path, size } => say_truncate(path, size, into),
         Call::Link { from, to } => say_link(from, to, into),
         _ => unreachable!(),
@@ -45,13 +49,13 @@ fn say_line(call: &Call<'_>, into: &mut [u8]) -> usize
 }
 
 /// Writes the line of a write.
-fn say_write(path: &[u8], off: u64, bytes: &[u8], into: &mut [u8]) -> usize
-    requires { length (call_line (write path.now off bytes.now)) ≤ length into.old }
-    ensures text { into.new ≡ call_line (write path.now off bytes.now) ++ drop result into.old }
-    ensures end { result ≡ length (call_line (write path.now off bytes.now)) }
+fn say_write(path: &[u8], offset: u64, bytes: &[u8], into: &mut [u8]) -> usize
+    requires { length (call_line (write path.now offset bytes.now)) ≤ length into.old }
+    ensures text { into.new ≡ call_line (write path.now offset bytes.now) ++ drop result into.old }
+    ensures end { result ≡ length (call_line (write path.now offset bytes.now)) }
 {
     let end = say_verb(b"write ", path, into);
-    let end = put_number(into, end, off);
+    let end = put_number(into, end, offset);
     put_bytes(into, end, bytes)
 }
 

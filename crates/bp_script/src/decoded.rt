@@ -216,27 +216,27 @@ impl Decoded {
     }
 
     /// Decodes the line of a batch from the first two fields of its first piece, and the text after them.
-    fn batch(&mut self, path: &[u8], off: &[u8], rest: &[u8]) -> Result<Line<'_>, Syntax>
-        requires { length path.now + length off.now + length rest.now ≤ decoded_room self.old }
+    fn batch(&mut self, path: &[u8], offset: &[u8], rest: &[u8]) -> Result<Line<'_>, Syntax>
+        requires { length path.now + length offset.now + length rest.now ≤ decoded_room self.old }
         ensures* keeps_room { sem 𝓛 (KeepsRoom self.entry) }
         ensures meaning { line_asks result ≡
-            asked_batch (path.now ∷ off.now ∷ words_of rest.now) }
+            asked_batch (path.now ∷ offset.now ∷ words_of rest.now) }
         ensures whole { HasItsParts result }
     {
-        self.pieces_of(path, off, rest)?;
+        self.pieces_of(path, offset, rest)?;
         Ok(self.batch_held())
     }
 
     /// Decodes the pieces of a batch.
-    fn pieces_of(&mut self, path: &[u8], off: &[u8], rest: &[u8]) -> Result<(), Syntax>
-        requires { length path.now + length off.now + length rest.now ≤ decoded_room self.old }
+    fn pieces_of(&mut self, path: &[u8], offset: &[u8], rest: &[u8]) -> Result<(), Syntax>
+        requires { length path.now + length offset.now + length rest.now ≤ decoded_room self.old }
         ensures meaning { (if is_ok result then file_call (batch (pieces_held self.new)) else bad_syntax) ≡
-            asked_batch (path.now ∷ off.now ∷ words_of rest.now) }
+            asked_batch (path.now ∷ offset.now ∷ words_of rest.now) }
         ensures whole { OnOk result (HoldsParts self.new) }
         ensures room { decoded_room self.old ≤ decoded_room self.new }
     {
         let Decoded { first, pieces, .. } = self;
-        decode_pieces(PieceWords { path, off, rest }, first, pieces)
+        decode_pieces(PieceWords { path, offset, rest }, first, pieces)
     }
 
     /// Makes the line of a batch from the decoded pieces.
@@ -277,18 +277,22 @@ impl Decoded {
     fn write<'a>(
         &'a mut self,
         path: &'a [u8],
-        off: Option<u64>,
+        offset: Option<u64>,
         word: &[u8],
     ) -> Result<Line<'a>, Syntax>
         requires path { length path.now ≤ decoded_room self.old }
         requires word { length word.now ≤ decoded_room self.old }
         ensures* keeps_room { sem 𝓛 (KeepsRoom self.entry) }
-        ensures meaning { line_asks result ≡ decoded (write_command path.now off (bytes_spelled word.now)) }
+        ensures meaning { line_asks result ≡ decoded (write_command path.now offset (bytes_spelled word.now)) }
     {
-        match off {
-            Some(off) => {
+        match offset {
+            Some(offset) => {
                 let (path, bytes) = self.path_and_bytes(path, digits_of(word))?;
-                Ok(Line::Call(Call::Write { path, off, bytes }))
+                Ok(Line::Call(Call::Write {
+                    path,
+                    offset,
+                    bytes,
+                }))
             }
             None => Err(Syntax),
         }

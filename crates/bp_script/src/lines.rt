@@ -116,11 +116,11 @@ pub(crate) fn truncate(path: &[u8], size: Option<u64>) -> Result<Line<'_>, Synta
 }
 
 /// Makes the line of a read.
-pub(crate) fn read(path: &[u8], off: Option<u64>, len: Option<usize>) -> Result<Line<'_>, Syntax>
-    ensures { line_asks result ≡ read_command path.now off len }
+pub(crate) fn read(path: &[u8], offset: Option<u64>, len: Option<usize>) -> Result<Line<'_>, Syntax>
+    ensures { line_asks result ≡ read_command path.now offset len }
 {
-    match (off, len) {
-        (Some(off), Some(len)) => Ok(Line::Call(Call::Read { path, off, len })),
+    match (offset, len) {
+        (Some(offset), Some(len)) => Ok(Line::Call(Call::Read { path, offset, len })),
         _ => Err(Syntax),
     }
 }
@@ -128,13 +128,13 @@ pub(crate) fn read(path: &[u8], off: Option<u64>, len: Option<usize>) -> Result<
 /// Makes the line of a read of the snapshot.
 pub(crate) fn snap_read(
     path: &[u8],
-    off: Option<u64>,
+    offset: Option<u64>,
     len: Option<usize>,
 ) -> Result<Line<'_>, Syntax>
-    ensures { line_asks result ≡ snap_read_command path.now off len }
+    ensures { line_asks result ≡ snap_read_command path.now offset len }
 {
-    match (off, len) {
-        (Some(off), Some(len)) => Ok(Line::Call(Call::SnapRead { path, off, len })),
+    match (offset, len) {
+        (Some(offset), Some(len)) => Ok(Line::Call(Call::SnapRead { path, offset, len })),
         _ => Err(Syntax),
     }
 }

@@ -1,1 +1,1 @@
-mod SecondLaws
+mod SnapshotLaws

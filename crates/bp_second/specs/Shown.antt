@@ -4,7 +4,7 @@ use Rattle.pm_region.specs.Memory.{Memory, current_words}
 use Rattle.pm_region.specs.declared.region.Region.{Ghosts}
 use Rattle.bp_layout.specs.Trees.{snapshot_of}
 use Rattle.bp_second.specs.declared.shown.Shown.{Shown}
-use Rattle.bp_second.specs.declared.shown.Shown.TheVariants.{First, Second}
+use Rattle.bp_second.specs.declared.shown.Shown.TheVariants.{First, Snapshot}
 
 -- The current words, with the second tree in place of the first one, after this number of drains. The log has no room,
 -- so that nothing can be stored.
@@ -19,4 +19,4 @@ second_memory memory drains = record {
 -- The memory of the region if it shows its first tree, and `second_memory` of it if it shows its second tree.
 abbrev pub shown_memory : {R : Type 0} {region : Ghosts R} → (R → Memory) → Shown R region → Memory
 shown_memory memory (First region) = memory region.now
-shown_memory memory (Second second) = second_memory (memory second.region.now) second.drains
+shown_memory memory (Snapshot second) = second_memory (memory second.region.now) second.drains

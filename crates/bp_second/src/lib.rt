@@ -4,4 +4,4 @@
 
 pub mod shown;
 
-pub use shown::{SecondTree, Shown};
+pub use shown::{Shown, SnapshotTree};

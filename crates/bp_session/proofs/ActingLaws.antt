@@ -1,9 +1,9 @@
 -- One line, by its case.
 use Rattle.std.proofs.Common.{refl, sym, ◌∙◌, ap, arith, ◌≡◌, ◌≤◌, ◌<◌, ◌+◌, ◌*◌, ℕ, List, [], ◌∷◌, length, take, true, false, inl, inr}
 use Rattle.std.specs.Prelude.{Some, nat_lt, slice_get, if◌then◌else◌}
-use Rattle.pm_epochs.proofs.CrashLaws.{barriers-append, length-words_after, marks-append}
+use Rattle.pm_epochs.proofs.CrashLaws.{barriers-append, length-words_after, call_ends-append}
 use Rattle.pm_epochs.specs.declared.event.Event.{Event}
-use Rattle.pm_epochs.specs.Log.{barriers, marks}
+use Rattle.pm_epochs.specs.Log.{barriers, call_ends}
 use Rattle.pm_epochs.specs.Replay.{PowerCut, kept_calls, kept_stores}
 use Rattle.pm_region.specs.Memory.{Memory, crashed, current_words, drained, with_room, room_in}
 use Rattle.bp_layout.specs.Words.{Image}
@@ -95,7 +95,7 @@ module _ (old new : Memory) (cut : PowerCut) (outcome : Outcome) (answer : Answe
     });
     size = ap (λ (m : Memory). length m.base) does.left ∙ size-crashed old cut;
     capacity = ap (λ (m : Memory). m.capacity) does.left;
-    comes = rw does.told (comes (kept_calls old.events cut) (marks old.events));
+    comes = rw does.told (comes (kept_calls old.events cut) (call_ends old.events));
     base = rw does.told tt;
   }
 
@@ -131,7 +131,7 @@ does_cache old new seed outcome answer (inr lacks) = record {
   base = rw lacks.told (ap (λ (m : Memory). m.base) lacks.same);
 }
 
-pub does_log : (memory : Memory) (outcome : Outcome) (answer : Answer) → outcome ≡ Logged (length memory.events) (barriers memory.events) (marks memory.events) → Does memory log outcome answer memory
+pub does_log : (memory : Memory) (outcome : Outcome) (answer : Answer) → outcome ≡ Logged (length memory.events) (barriers memory.events) (call_ends memory.events) → Does memory log outcome answer memory
 does_log memory outcome answer is = record {
   line = λ saved. record { told = ap (λ o. reply_of o answer) is; same = refl };
   size = refl;
@@ -145,8 +145,8 @@ does_log memory outcome answer is = record {
 pub one_more_barrier : (events : List Event) (i : ℕ) (event : Event) → slice_get events i ≡ Some event → barriers (take (i + 1) events) ≡ barriers (take i events) + barriers (event ∷ [])
 one_more_barrier events i event at = ap barriers (taken_more events i event at) ∙ barriers-append (take i events) (event ∷ [])
 
-pub one_more_mark : (events : List Event) (i : ℕ) (event : Event) → slice_get events i ≡ Some event → marks (take (i + 1) events) ≡ marks (take i events) + marks (event ∷ [])
-one_more_mark events i event at = ap marks (taken_more events i event at) ∙ marks-append (take i events) (event ∷ [])
+pub one_more_call_end : (events : List Event) (i : ℕ) (event : Event) → slice_get events i ≡ Some event → call_ends (take (i + 1) events) ≡ call_ends (take i events) + call_ends (event ∷ [])
+one_more_call_end events i event at = ap call_ends (taken_more events i event at) ∙ call_ends-append (take i events) (event ∷ [])
 
 -- ---- more of what a line did
 
@@ -175,7 +175,7 @@ to_save_other command outcome memory saved comes other = refl
 
 -- a crash comes to none
 pub crash_not_left : {P : Type 0} (old new : Memory) (cut : PowerCut) (outcome : Outcome) → CrashesTo old cut outcome new → outcome ≡ Synced → P
-crash_not_left old new cut outcome (inl does) e = absurd (let no : ◌≡◌ {A = Outcome} (Kept (kept_calls old.events cut) (marks old.events)) Synced = sym does.told ∙ e in cc)
+crash_not_left old new cut outcome (inl does) e = absurd (let no : ◌≡◌ {A = Outcome} (Kept (kept_calls old.events cut) (call_ends old.events)) Synced = sym does.told ∙ e in cc)
 crash_not_left old new cut outcome (inr does) e = absurd (let no : ◌≡◌ {A = Outcome} BadChoice Synced = sym does.told ∙ e in cc)
 
 pub no_sync_storm : (seed : ℕ) → ¬ (storm seed ≡ sync)

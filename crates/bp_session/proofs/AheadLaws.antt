@@ -401,10 +401,10 @@ module _ (command : Command) (old new : Moment) where
 -- ---- what is taken of a file
 
 -- a moment at which any block may lack words
-forgets : (old new : Moment) (saved image : Image) → Carries old new saved image → Carries old (record new { stale = [] }) saved image
+forgets : (old new : Moment) (saved image : Image) → Carries old new saved image → Carries old (record new { dirty = [] }) saved image
 forgets old new saved image carried name held = holds_lost [] new.files new.memory.base name image (λ i. refl) (carried name held).file
 
-pub line_forgets : (ended : Option Broken) (commands : List Command) (old new : Moment) → LineOutcome ended commands old new → LineOutcome ended commands old (record new { stale = [] })
+pub line_forgets : (ended : Option Broken) (commands : List Command) (old new : Moment) → LineOutcome ended commands old new → LineOutcome ended commands old (record new { dirty = [] })
 line_forgets ended commands old new line = record {
   whole = λ e saved. all_as _ _ _ _ _ _ (forgets old new saved) _ (line.whole e saved);
   broken = λ e saved. breaks_as _ _ _ _ _ _ (forgets old new saved) 0 0 _ (λ z. z) (line.broken e saved);
@@ -414,7 +414,7 @@ line_forgets ended commands old new line = record {
   one_of = line.one_of;
 }
 
-pub serve_forgets : (ended : Option Broken) (most : ℕ) (before after : SourceView) (old new : Moment) → ServeOutcome ended most before after old new → ServeOutcome ended most before after old (record new { stale = [] })
+pub serve_forgets : (ended : Option Broken) (most : ℕ) (before after : SourceView) (old new : Moment) → ServeOutcome ended most before after old new → ServeOutcome ended most before after old (record new { dirty = [] })
 serve_forgets ended most before after old new served = record {
   whole = λ e. let all = served.whole e in (all.0, all.1, all.2, all.3, λ saved. all_as _ _ _ _ _ _ (forgets old new saved) _ (all.4 saved));
   part = λ e. let part = served.part e in (part.0, part.1, part.2, λ saved. serves_as _ _ _ _ _ _ (forgets old new saved) _ _ _ (part.3 saved));

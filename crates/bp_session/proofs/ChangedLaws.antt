@@ -1,4 +1,4 @@
--- A file whose marked blocks are written holds the words as they are.
+-- A file whose dirty blocks are written holds the words as they are.
 use Rattle.std.proofs.Common.{refl, sym, ◌∙◌, ap, subst, arith, ◌≡◌, ℕ, ◌+◌, ◌*◌, ◌/◌, ◌%◌, ◌<◌, List, length, take, drop, get_or, get_or-drop, Bool, true, false, inr}
 use Rattle.std.specs.Prelude.{None, Some, is_some}
 use Rattle.std.proofs.lemmas.List.{ext_get_or, get_or-take, length-drop, length-take-le}
@@ -6,8 +6,8 @@ use Rattle.bp_io.specs.Files.{TellsFile, block_bytes}
 use Rattle.bp_io.specs.Views.{Known, View, HasBytes}
 use Rattle.bp_layout.specs.Bytes.{image_bytes}
 use Rattle.bp_layout.specs.Words.{Image, word}
-use Rattle.bp_session.specs.Changed.{AreMarked, HasChanged, HoldsChanged, IsChanged, MarksChanges, is_marked}
-use Rattle.bp_session.specs.Files.{HasUnmarked, Holds, HoldsAs, StaysTold}
+use Rattle.bp_session.specs.Changed.{AreDirty, HasChanged, HoldsChanged, IsChanged, CoversChanges, is_dirty}
+use Rattle.bp_session.specs.Files.{HasClean, Holds, HoldsAs, StaysTold}
 use Rattle.bp_session.proofs.ActingLaws.{holds_bytes}
 use Rattle.bp_session.proofs.BlockLaws.{blocks-image_bytes, length-image_bytes}
 use Rattle.bp_session.proofs.SavingLaws.{block_is}
@@ -43,77 +43,77 @@ bytes_same first second i n one two inside same =
 
 -- ---- the words of the last drain in a file
 
-off_before : (before after : List Bool) (i : ℕ) → (is_marked before i ≡ true → is_marked after i ≡ true) → is_marked after i ≡ false → is_marked before i ≡ false
-off_before before after i more off = go (is_marked before i) refl
+off_before : (before after : List Bool) (i : ℕ) → (is_dirty before i ≡ true → is_dirty after i ≡ true) → is_dirty after i ≡ false → is_dirty before i ≡ false
+off_before before after i more offset = go (is_dirty before i) refl
   where
-    go : (b : Bool) → is_marked before i ≡ b → is_marked before i ≡ false
+    go : (b : Bool) → is_dirty before i ≡ b → is_dirty before i ≡ false
     go false e = e
-    go true e = absurd (let no : true ≡ false = sym (more e) ∙ off in cc)
+    go true e = absurd (let no : true ≡ false = sym (more e) ∙ offset in cc)
 
--- where these words change, and more is marked: each block in which they do
+-- where these words change, and more is dirty: each block in which they do
 module _ (before after : List Bool) (base next : Image) (n : ℕ) (one : length base ≡ 512 * n) (two : length next ≡ 512 * n)
-    (more : (i : ℕ) → is_marked before i ≡ true → is_marked after i ≡ true) (changes : MarksChanges after base next) where
-  unmarked_more : (bytes : List ℕ) → length bytes ≡ 4096 * n → HasUnmarked before base bytes → HasUnmarked after next bytes
-  unmarked_more bytes size held i inside off =
-      held i inside (off_before before after i (more i) off)
-      ∙ sym (bytes_same base next i n one two (omega (arith, inside, size)) (λ place within there. changes place within (ap (λ a. is_marked after a) there ∙ off)))
+    (more : (i : ℕ) → is_dirty before i ≡ true → is_dirty after i ≡ true) (changes : CoversChanges after base next) where
+  more_without_call_ends : (bytes : List ℕ) → length bytes ≡ 4096 * n → HasClean before base bytes → HasClean after next bytes
+  more_without_call_ends bytes size held i inside offset =
+      held i inside (off_before before after i (more i) offset)
+      ∙ sym (bytes_same base next i n one two (omega (arith, inside, size)) (λ place within there. changes place within (ap (λ a. is_dirty after a) there ∙ offset)))
 
-  told_more : (known : Known) (image : Image) → length image ≡ 512 * n → HasBytes known (image_bytes image) → TellsFile known (HasUnmarked before base) → TellsFile known (HasUnmarked after next)
+  told_more : (known : Known) (image : Image) → length image ≡ 512 * n → HasBytes known (image_bytes image) → TellsFile known (HasClean before base) → TellsFile known (HasClean after next)
   told_more None image size bytes held = tt
   told_more (Some None) image size bytes held = tt
   told_more (Some (Some found)) image size bytes held =
       let same : found ≡ image_bytes image = bytes in
-      unmarked_more found (omega (arith, ap length same, length-image_bytes image, size)) held
+      more_without_call_ends found (omega (arith, ap length same, length-image_bytes image, size)) held
 
   pub holds_more : (files : View) (name : List ℕ) (image : Image) → files.blocks ≡ n → HoldsAs before files base name image → HoldsAs after files next name image
   holds_more files name image is held = record { file = held.file; fresh = told_more (files.contents name) image (omega (arith, held.file.size, is)) held.file.bytes held.fresh }
 
--- a file that holds just these words, whatever is marked
-pub holds_drained : (marks : List Bool) (files : View) (base : Image) (name : List ℕ) → Holds files name base → HoldsAs marks files base name base
-holds_drained marks files base name file = record { file = file; fresh = go (files.contents name) file.bytes }
+-- a file that holds just these words, whatever is dirty
+pub holds_drained : (flags : List Bool) (files : View) (base : Image) (name : List ℕ) → Holds files name base → HoldsAs flags files base name base
+holds_drained flags files base name file = record { file = file; fresh = go (files.contents name) file.bytes }
   where
-    go : (known : Known) → HasBytes known (image_bytes base) → TellsFile known (HasUnmarked marks base)
+    go : (known : Known) → HasBytes known (image_bytes base) → TellsFile known (HasClean flags base)
     go None has = tt
     go (Some None) has = tt
-    go (Some (Some found)) has = λ i inside off. ap (λ l. block_bytes l i) has
+    go (Some (Some found)) has = λ i inside offset. ap (λ l. block_bytes l i) has
 
--- .. and one where each block is marked, whatever it holds
-pub holds_lost : (marks : List Bool) (files : View) (base : Image) (name : List ℕ) (image : Image) → AreMarked marks → Holds files name image → HoldsAs marks files base name image
-holds_lost marks files base name image all file = record { file = file; fresh = go (files.contents name) }
+-- .. and one where each block is dirty, whatever it holds
+pub holds_lost : (flags : List Bool) (files : View) (base : Image) (name : List ℕ) (image : Image) → AreDirty flags → Holds files name image → HoldsAs flags files base name image
+holds_lost flags files base name image all file = record { file = file; fresh = go (files.contents name) }
   where
-    go : (known : Known) → TellsFile known (HasUnmarked marks base)
+    go : (known : Known) → TellsFile known (HasClean flags base)
     go None = tt
     go (Some None) = tt
-    go (Some (Some found)) = λ i inside off. absurd (let no : true ≡ false = sym (all i) ∙ off in cc)
+    go (Some (Some found)) = λ i inside offset. absurd (let no : true ≡ false = sym (all i) ∙ offset in cc)
 
 -- ---- what is saved
 
 -- blocks are left only where the file holds the words as they are
-module _ (marks : List Bool) (now : Image) (n : ℕ) (two : length now ≡ 512 * n) where
-  all_saved : (was found : List ℕ) → length was ≡ 4096 * n → HasUnmarked marks now was → IsChanged marks n was (image_bytes now) found → found ≡ image_bytes now
+module _ (flags : List Bool) (now : Image) (n : ℕ) (two : length now ≡ 512 * n) where
+  all_saved : (was found : List ℕ) → length was ≡ 4096 * n → HasClean flags now was → IsChanged flags n was (image_bytes now) found → found ≡ image_bytes now
   all_saved was found size held is =
-      by_blocks found (image_bytes now) n (is.size ∙ size) (omega (arith, length-image_bytes now, two)) (λ i low. go i low (omega (arith, is.size, size, low)) (is_marked marks i) refl)
+      by_blocks found (image_bytes now) n (is.size ∙ size) (omega (arith, length-image_bytes now, two)) (λ i low. go i low (omega (arith, is.size, size, low)) (is_dirty flags i) refl)
     where
-      go : (i : ℕ) → i < n → 4096 * i < length found → (b : Bool) → is_marked marks i ≡ b → block_bytes found i ≡ block_bytes (image_bytes now) i
-      go i low inside true e = is.marked i low inside e
+      go : (i : ℕ) → i < n → 4096 * i < length found → (b : Bool) → is_dirty flags i ≡ b → block_bytes found i ≡ block_bytes (image_bytes now) i
+      go i low inside true e = is.dirtied i low inside e
       go i low inside false e = is.others i inside (inr e) ∙ held i (omega (arith, low, size)) e
 
-  known_saved : (known new : Known) (was : List ℕ) → length was ≡ 4096 * n → HasBytes known was → TellsFile known (HasUnmarked marks now) → is_some new ≡ is_some known → HasChanged new marks n was (image_bytes now)
+  known_saved : (known new : Known) (was : List ℕ) → length was ≡ 4096 * n → HasBytes known was → TellsFile known (HasClean flags now) → is_some new ≡ is_some known → HasChanged new flags n was (image_bytes now)
       → HasBytes new (image_bytes now)
   known_saved None None was size first held told has = tt
   known_saved None (Some new) was size first held told has = absurd (let no : true ≡ false = told in cc)
   known_saved (Some None) new was size first held told has = absurd first
   known_saved (Some (Some old)) None was size first held told has = tt
   known_saved (Some (Some old)) (Some None) was size first held told has = has
-  known_saved (Some (Some old)) (Some (Some found)) was size first held told has = all_saved was found size (subst (λ (l : List ℕ). HasUnmarked marks now l) first held) has
+  known_saved (Some (Some old)) (Some (Some found)) was size first held told has = all_saved was found size (subst (λ (l : List ℕ). HasClean flags now l) first held) has
 
 -- ---- the whole
 
 -- what a save leaves of a file
-pub saves_words : (marks : List Bool) (now : Image) (old new : View) → length now ≡ 512 * old.blocks → StaysTold old new → new.blocks ≡ old.blocks → (name : List ℕ) (was : Image)
-    → HoldsAs marks old now name was → HoldsChanged marks new name (image_bytes was) (image_bytes now) → Holds new name now
-saves_words marks now old new size told blocks name was held saved = record {
+pub saves_words : (flags : List Bool) (now : Image) (old new : View) → length now ≡ 512 * old.blocks → StaysTold old new → new.blocks ≡ old.blocks → (name : List ℕ) (was : Image)
+    → HoldsAs flags old now name was → HoldsChanged flags new name (image_bytes was) (image_bytes now) → Holds new name now
+saves_words flags now old new size told blocks name was held saved = record {
   attached = saved.attached;
   size = omega (arith, size, blocks);
-  bytes = known_saved marks now new.blocks (omega (arith, size, blocks)) (old.contents name) (new.contents name) (image_bytes was) saved.size held.file.bytes held.fresh (told name (image_bytes was) (holds_bytes old name was held.file)) saved.has;
+  bytes = known_saved flags now new.blocks (omega (arith, size, blocks)) (old.contents name) (new.contents name) (image_bytes was) saved.size held.file.bytes held.fresh (told name (image_bytes was) (holds_bytes old name was held.file)) saved.has;
 }

@@ -3,7 +3,7 @@ pub mod ServingLaws
 pub mod ActingLaws
 pub mod CachingLaws
 pub mod SavingLaws
-pub mod MarkLaws
+pub mod DirtyLaws
 pub mod ChangedLaws
 pub mod BlockLaws
 pub mod TellingLaws
@@ -12,4 +12,4 @@ pub mod AheadLaws
 pub mod Runs
 pub mod OthersLaws
 pub mod ExportedLines
-pub mod StaleLaws
+pub mod LeavesDirtyLaws

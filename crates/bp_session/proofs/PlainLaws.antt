@@ -2,13 +2,13 @@
 use Rattle.std.proofs.Common.{zero, suc, refl, sym, ◌∙◌, ap, arith, ◌≡◌, ℕ, ◌≤◌, ◌<◌, List, [], ◌∷◌, ◌++◌, length, take, Bool, true, false, inl, inr}
 use Rattle.std.proofs.lemmas.List.{length-append}
 use Rattle.pm_epochs.specs.declared.event.Event.{Event}
-use Rattle.pm_epochs.specs.declared.event.Event.TheVariants.{Store, Barrier, Mark}
-use Rattle.pm_epochs.specs.Log.{barriers, marks, up_to_mark}
+use Rattle.pm_epochs.specs.declared.event.Event.TheVariants.{Store, Barrier, CallEnd}
+use Rattle.pm_epochs.specs.Log.{barriers, call_ends, up_to_call_end}
 use Rattle.pm_epochs.specs.Crash.{CrashRight}
-use Rattle.pm_epochs.specs.Replay.{PowerCut, IsRight, kept_calls, marks_of, after_calls}
+use Rattle.pm_epochs.specs.Replay.{PowerCut, IsRight, kept_calls, call_ends_of, after_calls}
 use Rattle.pm_epochs.specs.Log.{words_after}
 use Rattle.pm_epochs.proofs.Deciding.{kept_calls-le}
-use Rattle.pm_epochs.proofs.CrashLaws.{up_to_mark-append, marks-append}
+use Rattle.pm_epochs.proofs.CrashLaws.{up_to_call_end-append, call_ends-append}
 use Rattle.pm_region.specs.Memory.{Memory, crashed, current_words, with_room, drained, room_in, Adds}
 use Rattle.bp_plain.specs.PlainTree.{FileTree, PathMap}
 use Rattle.bp_layout.specs.Same.{Same}
@@ -107,22 +107,22 @@ same_by_stands image tree stands = record {
 
 -- ---- logs and trees after so many calls
 
--- a log that ends with a mark, of more marks than it has but for that one
-up_to_mark_whole : (first added : List Event) (count : ℕ) → marks added ≡ 0 → marks first < count → up_to_mark count (first ++ (added ++ Mark ∷ [])) ≡ first ++ (added ++ Mark ∷ [])
-up_to_mark_whole [] [] zero none more = absurd (omega arith)
-up_to_mark_whole [] [] (suc zero) none more = refl
-up_to_mark_whole [] [] (suc (suc count)) none more = refl
-up_to_mark_whole [] (Store word value ∷ added) zero none more = absurd (omega arith)
-up_to_mark_whole [] (Store word value ∷ added) (suc count) none more = ap (λ es. Store word value ∷ es) (up_to_mark_whole [] added (suc count) none more)
-up_to_mark_whole [] (Barrier ∷ added) zero none more = absurd (omega arith)
-up_to_mark_whole [] (Barrier ∷ added) (suc count) none more = ap (λ es. Barrier ∷ es) (up_to_mark_whole [] added (suc count) none more)
-up_to_mark_whole [] (Mark ∷ added) count none more = absurd (omega arith)
-up_to_mark_whole (Store word value ∷ first) added zero none more = absurd (omega arith)
-up_to_mark_whole (Store word value ∷ first) added (suc count) none more = ap (λ es. Store word value ∷ es) (up_to_mark_whole first added (suc count) none more)
-up_to_mark_whole (Barrier ∷ first) added zero none more = absurd (omega arith)
-up_to_mark_whole (Barrier ∷ first) added (suc count) none more = ap (λ es. Barrier ∷ es) (up_to_mark_whole first added (suc count) none more)
-up_to_mark_whole (Mark ∷ first) added zero none more = absurd (omega arith)
-up_to_mark_whole (Mark ∷ first) added (suc count) none more = ap (λ es. Mark ∷ es) (up_to_mark_whole first added count none (omega arith))
+-- a log that ends with a `CallEnd`, of more of them than it has but for that one
+up_to_call_end_whole : (first added : List Event) (count : ℕ) → call_ends added ≡ 0 → call_ends first < count → up_to_call_end count (first ++ (added ++ CallEnd ∷ [])) ≡ first ++ (added ++ CallEnd ∷ [])
+up_to_call_end_whole [] [] zero none more = absurd (omega arith)
+up_to_call_end_whole [] [] (suc zero) none more = refl
+up_to_call_end_whole [] [] (suc (suc count)) none more = refl
+up_to_call_end_whole [] (Store word value ∷ added) zero none more = absurd (omega arith)
+up_to_call_end_whole [] (Store word value ∷ added) (suc count) none more = ap (λ es. Store word value ∷ es) (up_to_call_end_whole [] added (suc count) none more)
+up_to_call_end_whole [] (Barrier ∷ added) zero none more = absurd (omega arith)
+up_to_call_end_whole [] (Barrier ∷ added) (suc count) none more = ap (λ es. Barrier ∷ es) (up_to_call_end_whole [] added (suc count) none more)
+up_to_call_end_whole [] (CallEnd ∷ added) count none more = absurd (omega arith)
+up_to_call_end_whole (Store word value ∷ first) added zero none more = absurd (omega arith)
+up_to_call_end_whole (Store word value ∷ first) added (suc count) none more = ap (λ es. Store word value ∷ es) (up_to_call_end_whole first added (suc count) none more)
+up_to_call_end_whole (Barrier ∷ first) added zero none more = absurd (omega arith)
+up_to_call_end_whole (Barrier ∷ first) added (suc count) none more = ap (λ es. Barrier ∷ es) (up_to_call_end_whole first added (suc count) none more)
+up_to_call_end_whole (CallEnd ∷ first) added zero none more = absurd (omega arith)
+up_to_call_end_whole (CallEnd ∷ first) added (suc count) none more = ap (λ es. CallEnd ∷ es) (up_to_call_end_whole first added count none (omega arith))
 
 pub latest-append : (certain tree : FileTree) (since : List FileTree) → latest certain (since ++ tree ∷ []) ≡ tree
 latest-append certain tree [] = refl
@@ -151,16 +151,16 @@ nothing_logged base zero = refl
 nothing_logged base (suc count) = refl
 
 -- the calls before the first store did nothing to the words
-nothing_stored : (words : List ℕ) (events : List Event) (count : ℕ) → count ≤ marks_of 0 [] events → words_after words (up_to_mark count events) ≡ words
+nothing_stored : (words : List ℕ) (events : List Event) (count : ℕ) → count ≤ call_ends_of 0 [] events → words_after words (up_to_call_end count events) ≡ words
 nothing_stored words events zero low = refl
 nothing_stored words [] (suc count) low = absurd (omega arith)
 nothing_stored words (Store word value ∷ events) (suc count) low = absurd (omega arith)
 nothing_stored words (Barrier ∷ events) (suc count) low = nothing_stored words events (suc count) low
-nothing_stored words (Mark ∷ events) (suc count) low = nothing_stored words events count (omega arith)
+nothing_stored words (CallEnd ∷ events) (suc count) low = nothing_stored words events count (omega arith)
 
 -- ---- what follows
 
-follows : (memory : Memory) (p : PlainState) → Stands (current_words memory) (tree_now p) → marks memory.events ≡ length p.since
+follows : (memory : Memory) (p : PlainState) → Stands (current_words memory) (tree_now p) → call_ends memory.events ≡ length p.since
     → ((count : ℕ) → Stands (after_calls memory.base memory.events count) (after_crash p count)) → CrashRight SameFiles memory.base memory.events → FollowsPlainState memory p
 follows memory p now calls after right = record {
   now = now;
@@ -178,17 +178,17 @@ follows_fresh memory tree empty stands = follows memory (fresh tree)
     (rw empty (crash_right_none SameFiles memory.base (same_by_stands memory.base tree stands)))
 
 -- one more call
-follows_more : (old new : Memory) (p : PlainState) (added : List Event) (tree : FileTree) → FollowsPlainState old p → marks added ≡ 0 → Adds old new (added ++ Mark ∷ []) → CrashRight SameFiles new.base new.events
+follows_more : (old new : Memory) (p : PlainState) (added : List Event) (tree : FileTree) → FollowsPlainState old p → call_ends added ≡ 0 → Adds old new (added ++ CallEnd ∷ []) → CrashRight SameFiles new.base new.events
     → Stands (current_words new) tree → FollowsPlainState new (with_call p tree)
 follows_more old new p added tree before none adds right stands =
     let base : new.base ≡ old.base = ap (λ (m : Memory). m.base) adds in
-    let events : new.events ≡ old.events ++ (added ++ Mark ∷ []) = ap (λ (m : Memory). m.events) adds in
-    let calls : marks new.events ≡ length (p.since ++ tree ∷ []) = ap marks events ∙ omega (arith, marks-append old.events (added ++ Mark ∷ []), marks-append added (Mark ∷ []), none, before.calls, length-append p.since (tree ∷ [])) in
+    let events : new.events ≡ old.events ++ (added ++ CallEnd ∷ []) = ap (λ (m : Memory). m.events) adds in
+    let calls : call_ends new.events ≡ length (p.since ++ tree ∷ []) = ap call_ends events ∙ omega (arith, call_ends-append old.events (added ++ CallEnd ∷ []), call_ends-append added (CallEnd ∷ []), none, before.calls, length-append p.since (tree ∷ [])) in
     let go : (count : ℕ) → (few : Bool) → nat_le count (length p.since) ≡ few → Stands (after_calls new.base new.events count) (after_crash (with_call p tree) count) = λ count few. elim few as (λ few. nat_le count (length p.since) ≡ few → Stands (after_calls new.base new.events count) (after_crash (with_call p tree) count)) [
       | true ↦ λ e. let low : count ≤ length p.since = leb-true count (length p.since) e in
-          rw (base, events, up_to_mark-append old.events (added ++ Mark ∷ []) count (omega (arith, before.calls, low)), tree_at-few p.certain tree p.since count low) (before.after count)
+          rw (base, events, up_to_call_end-append old.events (added ++ CallEnd ∷ []) count (omega (arith, before.calls, low)), tree_at-few p.certain tree p.since count low) (before.after count)
       | false ↦ λ e. let high : length p.since < count = leb-false count (length p.since) e in
-          rw (base, events, up_to_mark_whole old.events added count none (omega (arith, before.calls, high)), tree_at-all p.certain tree p.since count high) (rw (base, events) at stands)
+          rw (base, events, up_to_call_end_whole old.events added count none (omega (arith, before.calls, high)), tree_at-all p.certain tree p.since count high) (rw (base, events) at stands)
     ] in
     follows new (with_call p tree) (rw (latest-append p.certain tree p.since) stands) calls (λ count. go count (nat_le count (length p.since)) refl) right
 
@@ -221,7 +221,7 @@ crash_follower old p command cut count reply new before does is line = record {
   plain = fresh (after_crash p count);
   line = line _ (record {
     few = omega (arith, kept_calls-le old.memory.events cut, is, before.calls);
-    told = does.told ∙ ap (λ n. kept_of n (marks old.memory.events)) is ∙ ap (λ n. kept_of count n) before.calls;
+    told = does.told ∙ ap (λ n. kept_of n (call_ends old.memory.events)) is ∙ ap (λ n. kept_of count n) before.calls;
     leaves = refl;
   });
   follows = rw (does.done, ← is) (follows_crash old.memory p cut before does.right);
@@ -273,7 +273,7 @@ plain_line old p (file_call call) reply new before line =
         does = step.does;
         goes_on = elim first.is [ inl e ↦ inl (ap (λ q. with_call q step.after) e) | inr e ↦ inr (ap (λ q. with_call q step.after) e) ];
       };
-      follows = follows_more (with_room call_room old.memory) new.memory first.plain line.does.added step.after first.follows line.does.unmarked line.does.adds line.does.safe.right step.stands;
+      follows = follows_more (with_room call_room old.memory) new.memory first.plain line.does.added step.after first.follows line.does.no_call_end line.does.adds line.does.safe.right step.stands;
     }
 plain_line old p sync reply new before line = record {
   plain = fresh (tree_now p);

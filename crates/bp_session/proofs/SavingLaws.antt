@@ -11,7 +11,7 @@ use Rattle.bp_io.specs.Files.{block_bytes, blocks_of, with_blocks, IsMixed, Beco
 use Rattle.bp_io.specs.Views.{Known, View}
 use Rattle.bp_session.proofs.BlockLaws.{length-image_bytes}
 use Rattle.bp_layout.specs.Words.{Image}
-use Rattle.bp_session.specs.Changed.{AreUnmarked, HasChanged, IsChanged, is_marked}
+use Rattle.bp_session.specs.Changed.{AreClean, HasChanged, IsChanged, is_dirty}
 use Rattle.bp_session.specs.Files.{HasBlocksOf, CanSave}
 
 -- ---- bytes before, within and behind those that are written
@@ -96,20 +96,20 @@ module _ (found run second : List ℕ) (i n : ℕ) (low : 4096 * (i + n) ≤ len
       ap length with_is ∙ length-append (take (4096 * i) found) (run ++ drop (4096 * i + length run) found)
       ∙ omega (arith, length_run, length-append run (drop (4096 * i + length run) found), length-take-le (4096 * i) found (omega (arith, fits_run)), length-drop (4096 * i + length run) found, fits_run)
 
--- ---- a file whose marked blocks are written
+-- ---- a file whose dirty blocks are written
 
-module _ (marks : List Bool) (first second : List ℕ) where
-  pub changed_mixed : (found : List ℕ) (n : ℕ) → IsChanged marks n first second found → IsMixed found first second
-  changed_mixed found n is = record { size = is.size; blocks = λ k inside. go k inside (nat_lt k n) refl (is_marked marks k) refl }
+module _ (flags : List Bool) (first second : List ℕ) where
+  pub changed_mixed : (found : List ℕ) (n : ℕ) → IsChanged flags n first second found → IsMixed found first second
+  changed_mixed found n is = record { size = is.size; blocks = λ k inside. go k inside (nat_lt k n) refl (is_dirty flags k) refl }
     where
-      go : (k : ℕ) → 4096 * k < length found → (b : Bool) → nat_lt k n ≡ b → (m : Bool) → is_marked marks k ≡ m → (block_bytes found k ≡ block_bytes first k) ⊎ (block_bytes found k ≡ block_bytes second k)
+      go : (k : ℕ) → 4096 * k < length found → (b : Bool) → nat_lt k n ≡ b → (m : Bool) → is_dirty flags k ≡ m → (block_bytes found k ≡ block_bytes first k) ⊎ (block_bytes found k ≡ block_bytes second k)
       go k inside false e m f = inl (is.others k inside (inl (ltb-false k n e)))
       go k inside true e false f = inl (is.others k inside (inr f))
-      go k inside true e true f = inr (is.marked k (ltb-true k n e) inside f)
+      go k inside true e true f = inr (is.dirtied k (ltb-true k n e) inside f)
 
-  -- a run of marked blocks is written
+  -- a run of dirty blocks is written
   module _ (found run : List ℕ) (i n : ℕ) (low : 4096 * (i + n) ≤ length second) (same : length first ≡ length second) (are : run ≡ blocks_of second i n)
-      (on : (k : ℕ) → k < n → is_marked marks (i + k) ≡ true) (is : IsChanged marks i first second found) where
+      (on : (k : ℕ) → k < n → is_dirty flags (i + k) ≡ true) (is : IsChanged flags i first second found) where
     sized : length found ≡ length second
     sized = is.size ∙ same
 
@@ -119,21 +119,21 @@ module _ (marks : List Bool) (first second : List ℕ) where
     size_with : length (with_blocks i run found) ≡ length found
     size_with = length_with found run second i n inside_found sized are
 
-    run_written : IsChanged marks (i + n) first second (with_blocks i run found)
+    run_written : IsChanged flags (i + n) first second (with_blocks i run found)
     run_written = record {
       size = size_with ∙ is.size;
-      marked = λ k less inside e. at_marked k (nat_lt k i) refl less (rw size_with at inside) e;
+      dirtied = λ k less inside e. at_dirty k (nat_lt k i) refl less (rw size_with at inside) e;
       others = λ k inside other. at_other k (nat_lt k i) refl (nat_lt k (i + n)) refl (rw size_with at inside) other;
     }
       where
-        at_marked : (k : ℕ) (b : Bool) → nat_lt k i ≡ b → k < i + n → 4096 * k < length found → is_marked marks k ≡ true → block_bytes (with_blocks i run found) k ≡ block_bytes second k
-        at_marked k true b less inside e = block_before found run second i n inside_found sized are k (ltb-true k i b) ∙ is.marked k (ltb-true k i b) inside e
-        at_marked k false b less inside e =
+        at_dirty : (k : ℕ) (b : Bool) → nat_lt k i ≡ b → k < i + n → 4096 * k < length found → is_dirty flags k ≡ true → block_bytes (with_blocks i run found) k ≡ block_bytes second k
+        at_dirty k true b less inside e = block_before found run second i n inside_found sized are k (ltb-true k i b) ∙ is.dirtied k (ltb-true k i b) inside e
+        at_dirty k false b less inside e =
             let high = ltb-false k i b in
             let place : i + (k - i) ≡ k = omega (arith, high) in
             ap (λ a. block_bytes (with_blocks i run found) a) (sym place) ∙ block_within found run second i n inside_found sized are (k - i) (omega (arith, high, less)) ∙ ap (λ a. block_bytes second a) place
 
-        at_other : (k : ℕ) (b : Bool) → nat_lt k i ≡ b → (d : Bool) → nat_lt k (i + n) ≡ d → 4096 * k < length found → ((i + n ≤ k) ⊎ (is_marked marks k ≡ false)) → block_bytes (with_blocks i run found) k ≡ block_bytes first k
+        at_other : (k : ℕ) (b : Bool) → nat_lt k i ≡ b → (d : Bool) → nat_lt k (i + n) ≡ d → 4096 * k < length found → ((i + n ≤ k) ⊎ (is_dirty flags k ≡ false)) → block_bytes (with_blocks i run found) k ≡ block_bytes first k
         at_other k true b d f inside other =
             block_before found run second i n inside_found sized are k (ltb-true k i b) ∙ is.others k inside (elim other [ inl high ↦ inl (omega (arith, high)) | inr e ↦ inr e ])
         at_other k false b false f inside other =
@@ -142,10 +142,10 @@ module _ (marks : List Bool) (first second : List ℕ) where
             let high = ltb-false k i b in
             let less = ltb-true k (i + n) f in
             let place : i + (k - i) ≡ k = omega (arith, high) in
-            let marked : is_marked marks k ≡ true = rw place at (on (k - i) (omega (arith, high, less))) in
+            let dirtied : is_dirty flags k ≡ true = rw place at (on (k - i) (omega (arith, high, less))) in
             elim other [
               | inl far ↦ absurd (omega (arith, far, less))
-              | inr off ↦ absurd (let no : true ≡ false = sym marked ∙ off in cc)
+              | inr offset ↦ absurd (let no : true ≡ false = sym dirtied ∙ offset in cc)
             ]
 
 -- each block is that of one of two lists, of which each block is that of the first or of the second
@@ -165,41 +165,41 @@ mixed_then found a b first second mixed one other = record {
 
 -- ---- what is known of a file
 
-module _ (marks : List Bool) (first second : List ℕ) where
-  pub known_stays : (known new : Known) (i : ℕ) → HasChanged known marks i first second → Stays known new → HasChanged new marks i first second
+module _ (flags : List Bool) (first second : List ℕ) where
+  pub known_stays : (known new : Known) (i : ℕ) → HasChanged known flags i first second → Stays known new → HasChanged new flags i first second
   known_stays None new i has stays = rw stays tt
   known_stays (Some known) new i has stays = rw stays has
 
-  pub known_mixed : (known : Known) (i : ℕ) → HasChanged known marks i first second → HasBlocksOf known first second
+  pub known_mixed : (known : Known) (i : ℕ) → HasChanged known flags i first second → HasBlocksOf known first second
   known_mixed None i has = tt
   known_mixed (Some None) i has = absurd has
-  known_mixed (Some (Some found)) i has = changed_mixed marks first second found i has
+  known_mixed (Some (Some found)) i has = changed_mixed flags first second found i has
 
-  module _ (run : List ℕ) (i n : ℕ) (low : 4096 * (i + n) ≤ length second) (same : length first ≡ length second) (are : run ≡ blocks_of second i n) (on : (k : ℕ) → k < n → is_marked marks (i + k) ≡ true) where
-    pub known_written : (known new : Known) → HasChanged known marks i first second → Becomes (with_blocks i run) known new → HasChanged new marks (i + n) first second
+  module _ (run : List ℕ) (i n : ℕ) (low : 4096 * (i + n) ≤ length second) (same : length first ≡ length second) (are : run ≡ blocks_of second i n) (on : (k : ℕ) → k < n → is_dirty flags (i + k) ≡ true) where
+    pub known_written : (known new : Known) → HasChanged known flags i first second → Becomes (with_blocks i run) known new → HasChanged new flags (i + n) first second
     known_written None new has becomes = rw becomes tt
     known_written (Some None) new has becomes = absurd has
-    known_written (Some (Some found)) new has becomes = rw becomes (run_written marks first second found run i n low same are on has)
+    known_written (Some (Some found)) new has becomes = rw becomes (run_written flags first second found run i n low same are on has)
 
     -- it is written partly
-    pub known_partly : (known new : Known) → HasChanged known marks i first second → BecomesMixed (with_blocks i run) known new → HasBlocksOf new first second
+    pub known_partly : (known new : Known) → HasChanged known flags i first second → BecomesMixed (with_blocks i run) known new → HasBlocksOf new first second
     known_partly None new has becomes = rw becomes tt
     known_partly (Some None) new has becomes = absurd has
     known_partly (Some (Some found)) None has becomes = absurd becomes
     known_partly (Some (Some found)) (Some None) has becomes = absurd becomes
     known_partly (Some (Some found)) (Some (Some now)) has becomes =
-        mixed_then now found (with_blocks i run found) first second becomes (changed_mixed marks first second found i has)
-        (changed_mixed marks first second (with_blocks i run found) (i + n) (run_written marks first second found run i n low same are on has))
+        mixed_then now found (with_blocks i run found) first second becomes (changed_mixed flags first second found i has)
+        (changed_mixed flags first second (with_blocks i run found) (i + n) (run_written flags first second found run i n low same are on has))
 
 -- what is told stays told
 pub stays_told : (known new : Known) → Stays known new → is_some new ≡ is_some known
 stays_told None new stays = rw stays refl
 stays_told (Some known) new stays = rw stays refl
 
-pub becomes_told : (known new : Known) (f : List ℕ → List ℕ) (marks : List Bool) (i : ℕ) (first second : List ℕ) → HasChanged known marks i first second → Becomes f known new → is_some new ≡ is_some known
-becomes_told None new f marks i first second has becomes = rw becomes refl
-becomes_told (Some None) new f marks i first second has becomes = absurd has
-becomes_told (Some (Some found)) new f marks i first second has becomes = rw becomes refl
+pub becomes_told : (known new : Known) (f : List ℕ → List ℕ) (flags : List Bool) (i : ℕ) (first second : List ℕ) → HasChanged known flags i first second → Becomes f known new → is_some new ≡ is_some known
+becomes_told None new f flags i first second has becomes = rw becomes refl
+becomes_told (Some None) new f flags i first second has becomes = absurd has
+becomes_told (Some (Some found)) new f flags i first second has becomes = rw becomes refl
 
 -- ---- the attached file
 
@@ -243,7 +243,7 @@ pub on_err : {T E P : Type 0} (r : Result T E) → P → OnErr r P
 on_err (Ok x) p = tt
 on_err (Err e) p = p
 
--- ---- a run of marked blocks is none where no block is marked
-pub unmarked_run : (marks : List Bool) (first run : ℕ) → AreUnmarked marks → first < length marks → (run ≡ 0 → ⊥) → ((k : ℕ) → k < run → is_marked marks (first + k) ≡ true) → ⊥
-unmarked_run marks first zero none inside some on = some refl
-unmarked_run marks first (suc run) none inside some on = let no : true ≡ false = sym (on 0 (omega arith)) ∙ none (first + 0) (omega (arith, inside)) in cc
+-- ---- a run of dirty blocks is none where no block is dirty
+pub clean_run : (flags : List Bool) (first run : ℕ) → AreClean flags → first < length flags → (run ≡ 0 → ⊥) → ((k : ℕ) → k < run → is_dirty flags (first + k) ≡ true) → ⊥
+clean_run flags first zero none inside some on = some refl
+clean_run flags first (suc run) none inside some on = let no : true ≡ false = sym (on 0 (omega arith)) ∙ none (first + 0) (omega (arith, inside)) in cc

@@ -1,7 +1,7 @@
 -- The outcomes of a line, and the effect of a command on a region.
 use Rattle.std.specs.Prelude.{◌≡◌, ◌⊎◌, ℕ, Bool, List, ⊤, false, length, true}
 use Rattle.bp_limits.specs.Limits.{call_room}
-use Rattle.pm_epochs.specs.Log.{marks}
+use Rattle.pm_epochs.specs.Log.{call_ends}
 use Rattle.pm_epochs.specs.Replay.{PowerCut, IsRight, kept_calls}
 use Rattle.pm_region.specs.Memory.{Memory, crashed, current_words, with_room}
 use Rattle.bp_layout.specs.Words.{Image}
@@ -12,7 +12,7 @@ use Rattle.bp_script.specs.Commands.{Command}
 use Rattle.bp_script.specs.Commands.Command.{file_call, sync, space, crash, storm, cache, log, bad_syntax, too_long}
 use Rattle.bp_script.specs.Texts.{LineReply, reply_text}
 use Rattle.bp_script.specs.Texts.LineReply.{answered, synced, space_of, kept_of, log_of, bad_choice, syntax, long}
-use Rattle.bp_session.specs.Changed.{AreMarked, AreUnmarked, MarksDrain}
+use Rattle.bp_session.specs.Changed.{AreDirty, AreClean, CoversDrain}
 use Rattle.bp_session.specs.Session.{SessionLine, State, caches_cut}
 use Rattle.bp_session.specs.declared.outcome.Outcome.{Outcome}
 use Rattle.bp_session.specs.declared.outcome.Outcome.TheVariants.{Answered, Synced, Counted, Kept, Logged, BadChoice, NoMemory, BadSyntax, TooLong}
@@ -72,10 +72,10 @@ KeepsBase Synced old new = ⊤
 KeepsBase (Kept c n) old new = ⊤
 KeepsBase outcome old new = new.base ≡ old.base
 
--- The dirty-block marks after a line with this outcome, before a sync or a crash updates them: the drain of a call
--- adds marks.
+-- The dirty blocks after a line with this outcome, before a sync or a crash updates them: the drain of a call
+-- adds some.
 abbrev pub NotesDrain : Outcome → Memory → List Bool → List Bool → Type 0
-NotesDrain Answered memory before after = MarksDrain memory before after
+NotesDrain Answered memory before after = CoversDrain memory before after
 NotesDrain outcome memory before after = after ≡ before
 
 -- Whether the outcome is that of a crash.
@@ -83,11 +83,11 @@ abbrev pub is_crash : Outcome → Bool
 is_crash (Kept c n) = true
 is_crash outcome = false
 
--- The dirty-block marks after a line with this outcome: all after a crash, none after a sync, and else those before
+-- The dirty blocks after a line with this outcome: all after a crash, none after a sync, and else those before
 -- it, together with those that a call's drain adds.
-pub record LeavesStale (outcome : Outcome) (memory : Memory) (before after : List Bool) : Type 0 where
-  pub crashed : is_crash outcome ≡ true → AreMarked after
-  pub synced : outcome ≡ Synced → AreUnmarked after
+pub record LeavesDirty (outcome : Outcome) (memory : Memory) (before after : List Bool) : Type 0 where
+  pub crashed : is_crash outcome ≡ true → AreDirty after
+  pub synced : outcome ≡ Synced → AreClean after
   pub others : is_crash outcome ≡ false → ¬ (outcome ≡ Synced) → NotesDrain outcome memory before after
 
 -- A command was carried out and has its reply. Only the file is left to be saved, if the outcome is a sync.
@@ -102,7 +102,7 @@ pub record Does (old : Memory) (command : Command) (outcome : Outcome) (answer :
 -- A crash at this crash point: the surviving calls are counted, and the memory is the one that the crash leaves.
 pub record HasCrashed (old : Memory) (cut : PowerCut) (outcome : Outcome) (new : Memory) : Type 0 where
   pub right : IsRight old.events cut
-  pub told : outcome ≡ Kept (kept_calls old.events cut) (marks old.events)
+  pub told : outcome ≡ Kept (kept_calls old.events cut) (call_ends old.events)
   pub left : new ≡ crashed old cut
 
 -- The crash point is not valid for the log, and nothing is done.

@@ -5,7 +5,7 @@ use Rattle.bp_io.specs.Files.{IsMixed, TellsFile, block_bytes}
 use Rattle.bp_io.specs.Views.{HasBytes, Known, View}
 use Rattle.bp_layout.specs.Words.{Image, word}
 use Rattle.bp_layout.specs.Bytes.{image_bytes}
-use Rattle.bp_session.specs.Changed.{is_marked}
+use Rattle.bp_session.specs.Changed.{is_dirty}
 
 -- If its contents are known, the file exists and has this number of bytes.
 abbrev pub HasLength : Known → ℕ → Type 0
@@ -51,15 +51,15 @@ pub record Holds (files : View) (name : List ℕ) (image : Image) : Type 0 where
   pub size : length image ≡ block_words * files.blocks
   pub bytes : HasBytes (files.contents name) (image_bytes image)
 
--- Each block that is not marked is the image's.
-abbrev pub HasUnmarked : List Bool → Image → List ℕ → Type 0
-HasUnmarked marks image bytes = (i : ℕ) → block_size * i < length bytes → is_marked marks i ≡ false →
+-- Each block that is not dirty is the image's.
+abbrev pub HasClean : List Bool → Image → List ℕ → Type 0
+HasClean flags image bytes = (i : ℕ) → block_size * i < length bytes → is_dirty flags i ≡ false →
     block_bytes bytes i ≡ block_bytes (image_bytes image) i
 
--- The file holds these words; if its bytes are known, each block that is not stale has those of the last drain.
-pub record HoldsAs (stale : List Bool) (files : View) (base : Image) (name : List ℕ) (image : Image) : Type 0 where
+-- The file holds these words; if its bytes are known, each block that is not dirty has those of the last drain.
+pub record HoldsAs (dirty : List Bool) (files : View) (base : Image) (name : List ℕ) (image : Image) : Type 0 where
   pub file : Holds files name image
-  pub fresh : TellsFile (files.contents name) (HasUnmarked stale base)
+  pub fresh : TellsFile (files.contents name) (HasClean dirty base)
 
 -- The file is attached, and each of its blocks is that of the first or of the second words.
 pub record HoldsPartly (files : View) (name : List ℕ) (first second : Image) : Type 0 where

@@ -1,6 +1,6 @@
 -- How the words of a region follow an abstract tree: now, after each call, and after a crash at any point.
 use Rattle.std.specs.Prelude.{◌≡◌, ℕ, List, length}
-use Rattle.pm_epochs.specs.Log.{marks}
+use Rattle.pm_epochs.specs.Log.{call_ends}
 use Rattle.pm_epochs.specs.Replay.{PowerCut, IsRight, replay, kept_calls, after_calls}
 use Rattle.pm_region.specs.Memory.{Memory, current_words}
 use Rattle.bp_plain.specs.PlainTree.{FileTree}
@@ -13,7 +13,7 @@ use Rattle.bp_session.specs.PlainSession.{PlainSession, PlainState, after_crash,
 -- the crash keeps.
 pub record FollowsPlainState (memory : Memory) (p : PlainState) : Type 0 where
   pub now : Stands (current_words memory) (tree_now p)
-  pub calls : marks memory.events ≡ length p.since
+  pub calls : call_ends memory.events ≡ length p.since
   pub after : (count : ℕ) → Stands (after_calls memory.base memory.events count) (after_crash p count)
   pub crash : (cut : PowerCut) → IsRight memory.events cut
       → Stands (replay memory.base memory.events cut) (after_crash p (kept_calls memory.events cut))

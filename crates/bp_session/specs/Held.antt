@@ -1,5 +1,5 @@
 -- The effect of serving on the values that a program holds, before and after: the buffers of a line or the work of a
--- run, the marks of the stale blocks, the region, the files and the sink.
+-- run, the dirty blocks, the region, the files and the sink.
 use Rattle.std.specs.Prelude.{ℕ, List, [], ◌∷◌, Bool, Result, Some, take}
 use Rattle.bp_io.specs.Views.{View, SinkView, SourceView}
 use Rattle.bp_script.specs.Commands.{command_of}
@@ -7,22 +7,22 @@ use Rattle.bp_replies.specs.Gathering.{PassesOn, waiting}
 use Rattle.bp_replies.specs.Room.{gathered_size}
 use Rattle.bp_replies.specs.declared.replies.Replies.{Replies}
 use Rattle.bp_session.specs.Acting.{reply_of}
-use Rattle.bp_session.specs.Changed.{stale_in}
+use Rattle.bp_session.specs.Changed.{dirty_in}
 use Rattle.bp_session.specs.Ends.{cause_of}
 use Rattle.bp_session.specs.Gathering.{Clears, LineGathers}
 use Rattle.bp_session.specs.Lines.{commands_from}
-use Rattle.bp_session.specs.Serving.{DoesLine, LineOutcome, Moment, PieceOutcome, ServeOutcome, moment, with_stale}
+use Rattle.bp_session.specs.Serving.{DoesLine, LineOutcome, Moment, PieceOutcome, ServeOutcome, moment, with_dirty}
 use Rattle.bp_session.specs.Work.{answer_in, held_line, held_replies, line_in, read_piece, waiting_in}
 use Rattle.bp_session.specs.declared.broken.Broken.{Broken}
 use Rattle.bp_session.specs.declared.outcome.Outcome.{Outcome}
-use Rattle.bp_session.specs.declared.saving.Stale.{Stale}
+use Rattle.bp_session.specs.declared.saving.DirtyBlocks.{DirtyBlocks}
 use Rattle.bp_session.specs.declared.work.LineBuffers.{LineBuffers}
 use Rattle.bp_session.specs.declared.work.Work.{Work}
 use Rattle.pm_region.specs.Memory.{Memory}
 
--- The state of serving with these stale blocks and this region, seen through the views of the files and the sink.
+-- The state of serving with these dirty blocks and this region, seen through the views of the files and the sink.
 abbrev pub instant : {F K : Type 0} → (F → View) → (K → SinkView) → List Bool → Memory → F → K → Moment
-instant files_of sink_of stale memory files sink = with_stale stale (moment memory (files_of files) (sink_of sink))
+instant files_of sink_of dirty memory files sink = with_dirty dirty (moment memory (files_of files) (sink_of sink))
 
 -- ---- replies that wait
 
@@ -36,16 +36,16 @@ PassesText text replies sink replies_now sink_now =
 -- The line was carried out, with this outcome.
 abbrev pub DoesHeld : {F K : Type 0} → (F → View) → (K → SinkView) → LineBuffers → List Bool → Memory → F → K
     → LineBuffers → List Bool → Memory → F → K → Outcome → Type 0
-DoesHeld files_of sink_of before stale memory files sink after stale_now memory_now files_now sink_now outcome =
-    DoesLine (instant files_of sink_of stale memory files sink) (command_of (line_in before))
-    (reply_of outcome (answer_in after)) (instant files_of sink_of stale_now memory_now files_now sink_now)
+DoesHeld files_of sink_of before dirty memory files sink after dirty_now memory_now files_now sink_now outcome =
+    DoesLine (instant files_of sink_of dirty memory files sink) (command_of (line_in before))
+    (reply_of outcome (answer_in after)) (instant files_of sink_of dirty_now memory_now files_now sink_now)
 
 -- The line was broken off by this cause, while replies waited.
 abbrev pub StopsBy : {F K : Type 0} → (F → View) → (K → SinkView) → LineBuffers → List Bool → Memory → F → K
     → LineBuffers → List Bool → Memory → F → K → Broken → Type 0
-StopsBy files_of sink_of before stale memory files sink after stale_now memory_now files_now sink_now broken =
+StopsBy files_of sink_of before dirty memory files sink after dirty_now memory_now files_now sink_now broken =
     LineGathers (Some broken) (command_of (line_in before)) (waiting_in before) (waiting_in after)
-    (instant files_of sink_of stale memory files sink) (instant files_of sink_of stale_now memory_now files_now sink_now)
+    (instant files_of sink_of dirty memory files sink) (instant files_of sink_of dirty_now memory_now files_now sink_now)
 
 -- After the line, the replies that waited still wait, or a sink took them.
 abbrev pub ClearsHeld : {F K : Type 0} → (F → View) → (K → SinkView) → LineBuffers → F → K → LineBuffers → F → K → Type 0
@@ -58,18 +58,18 @@ ClearsHeld files_of sink_of before files sink after files_now sink_now =
 -- The effect of the line of a run while replies wait.
 abbrev pub GathersHeld : {T F K : Type 0} → Result T Broken → (F → View) → (K → SinkView)
     → Work → List Bool → Memory → F → K → Work → List Bool → Memory → F → K → Type 0
-GathersHeld result files_of sink_of work stale memory files sink work_now stale_now memory_now files_now sink_now =
+GathersHeld result files_of sink_of work dirty memory files sink work_now dirty_now memory_now files_now sink_now =
     LineGathers (cause_of result) (command_of (held_line work)) (held_replies work) (held_replies work_now)
-    (instant files_of sink_of stale memory files sink) (instant files_of sink_of stale_now memory_now files_now sink_now)
+    (instant files_of sink_of dirty memory files sink) (instant files_of sink_of dirty_now memory_now files_now sink_now)
 
 -- The effect of the line of a run whose reply goes to the sink at once.
 abbrev pub ServesAlone : {T F K : Type 0} → Result T Broken → (F → View) → (K → SinkView) → Work
     → List Bool → Memory → F → K → List Bool → Memory → F → K → Type 0
-ServesAlone result files_of sink_of work stale memory files sink stale_now memory_now files_now sink_now =
+ServesAlone result files_of sink_of work dirty memory files sink dirty_now memory_now files_now sink_now =
     LineOutcome (cause_of result) (command_of (held_line work) ∷ [])
-    (instant files_of sink_of stale memory files sink) (instant files_of sink_of stale_now memory_now files_now sink_now)
+    (instant files_of sink_of dirty memory files sink) (instant files_of sink_of dirty_now memory_now files_now sink_now)
 
--- The effect of the line of a run whose reply goes to the sink at once, where any block may be stale.
+-- The effect of the line of a run whose reply goes to the sink at once, where any block may be dirty.
 abbrev pub ServesHeld : {T F K : Type 0} → Result T Broken → (F → View) → (K → SinkView) → Work
     → Memory → F → K → Memory → F → K → Type 0
 ServesHeld result files_of sink_of work memory files sink memory_now files_now sink_now =
@@ -79,9 +79,9 @@ ServesHeld result files_of sink_of work memory files sink memory_now files_now s
 -- The effect of the line of a run that ends the input: it is served unless it is empty.
 abbrev pub EndsHeld : {T F K : Type 0} → Result T Broken → (F → View) → (K → SinkView) → Work
     → List Bool → Memory → F → K → List Bool → Memory → F → K → Type 0
-EndsHeld result files_of sink_of work stale memory files sink stale_now memory_now files_now sink_now =
+EndsHeld result files_of sink_of work dirty memory files sink dirty_now memory_now files_now sink_now =
     LineOutcome (cause_of result) (commands_from (held_line work) [])
-    (instant files_of sink_of stale memory files sink) (instant files_of sink_of stale_now memory_now files_now sink_now)
+    (instant files_of sink_of dirty memory files sink) (instant files_of sink_of dirty_now memory_now files_now sink_now)
 
 -- ---- an input
 
@@ -89,25 +89,25 @@ EndsHeld result files_of sink_of work stale memory files sink stale_now memory_n
 -- wait.
 abbrev pub TakesPiece : {T F K : Type 0} → Result T Broken → ℕ → ℕ → (F → View) → (K → SinkView)
     → Work → List Bool → Memory → F → K → Work → List Bool → Memory → F → K → Type 0
-TakesPiece result most count files_of sink_of work stale memory files sink work_now stale_now memory_now files_now sink_now =
+TakesPiece result most count files_of sink_of work dirty memory files sink work_now dirty_now memory_now files_now sink_now =
     PieceOutcome (cause_of result) most (held_line work) (take count (read_piece work)) (held_line work_now)
-    (instant files_of sink_of stale memory files sink) (instant files_of sink_of stale_now memory_now files_now sink_now)
+    (instant files_of sink_of dirty memory files sink) (instant files_of sink_of dirty_now memory_now files_now sink_now)
 
 -- The effect of serving a source, where replies of at most `most` bytes may wait.
 abbrev pub ServesBy : {T S F K : Type 0} → Result T Broken → ℕ → (S → SourceView) → (F → View) → (K → SinkView)
     → S → List Bool → Memory → F → K → S → List Bool → Memory → F → K → Type 0
-ServesBy result most source_of files_of sink_of source stale memory files sink source_now stale_now memory_now files_now sink_now =
+ServesBy result most source_of files_of sink_of source dirty memory files sink source_now dirty_now memory_now files_now sink_now =
     ServeOutcome (cause_of result) most (source_of source) (source_of source_now)
-    (instant files_of sink_of stale memory files sink) (instant files_of sink_of stale_now memory_now files_now sink_now)
+    (instant files_of sink_of dirty memory files sink) (instant files_of sink_of dirty_now memory_now files_now sink_now)
 
--- The effect of serving a source with gathered replies and the marks of a run.
+-- The effect of serving a source with gathered replies and the dirty blocks of a run.
 abbrev pub ServesGathered : {T S F K : Type 0} → Result T Broken → (S → SourceView) → (F → View) → (K → SinkView)
-    → S → Stale → Memory → F → K → S → Stale → Memory → F → K → Type 0
-ServesGathered result source_of files_of sink_of source stale memory files sink source_now stale_now memory_now files_now sink_now =
+    → S → DirtyBlocks → Memory → F → K → S → DirtyBlocks → Memory → F → K → Type 0
+ServesGathered result source_of files_of sink_of source dirty memory files sink source_now dirty_now memory_now files_now sink_now =
     ServesBy result gathered_size source_of files_of sink_of
-    source (stale_in stale) memory files sink source_now (stale_in stale_now) memory_now files_now sink_now
+    source (dirty_in dirty) memory files sink source_now (dirty_in dirty_now) memory_now files_now sink_now
 
--- The effect of serving a source where each reply goes to the sink at once, and any block may be stale.
+-- The effect of serving a source where each reply goes to the sink at once, and any block may be dirty.
 abbrev pub ServesAtOnce : {T S F K : Type 0} → Result T Broken → (S → SourceView) → (F → View) → (K → SinkView)
     → S → Memory → F → K → S → Memory → F → K → Type 0
 ServesAtOnce result source_of files_of sink_of source memory files sink source_now memory_now files_now sink_now =

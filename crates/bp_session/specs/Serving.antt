@@ -12,7 +12,7 @@ use Rattle.bp_script.specs.Commands.Command.{sync}
 use Rattle.bp_script.specs.Texts.{LineReply, reply_text}
 use Rattle.bp_session.specs.Lines.{commands_from, text_of}
 use Rattle.bp_session.specs.Acting.{state}
-use Rattle.bp_session.specs.Changed.{AreMarked}
+use Rattle.bp_session.specs.Changed.{AreDirty}
 use Rattle.bp_session.specs.Files.{CanSave, HoldsAs, HoldsPartly}
 use Rattle.bp_session.specs.Outside.{counts}
 use Rattle.bp_session.specs.Faults.{IsFirstFault}
@@ -104,20 +104,20 @@ pub record Moment : Type 0 where
   pub files : View
   pub taken : Option (List ℕ)
   pub faults : ℕ
-  pub stale : List Bool
+  pub dirty : List Bool
 
 -- The state of serving in which any block may lack words of the last drain.
 abbrev pub moment : Memory → View → SinkView → Moment
 moment memory files sink =
-    record { memory = memory; files = files; taken = sink.taken; faults = sink.faults; stale = [] }
+    record { memory = memory; files = files; taken = sink.taken; faults = sink.faults; dirty = [] }
 
--- The same state of serving with these stale blocks.
-abbrev pub with_stale : List Bool → Moment → Moment
-with_stale stale now = record now { stale = stale }
+-- The same state of serving with these dirty blocks.
+abbrev pub with_dirty : List Bool → Moment → Moment
+with_dirty dirty now = record now { dirty = dirty }
 
--- The file of this name holds these words; each of its blocks that is not stale has those of the last drain.
+-- The file of this name holds these words; each of its blocks that is not dirty has those of the last drain.
 abbrev pub HoldsAt : Moment → List ℕ → Image → Type 0
-HoldsAt now name image = HoldsAs now.stale now.files now.memory.base name image
+HoldsAt now name image = HoldsAs now.dirty now.files now.memory.base name image
 
 -- A file that holds the words `saved` in the first state of serving holds the words `after` in the second.
 abbrev pub Carries : Moment → Moment → Image → Image → Type 0
@@ -139,7 +139,7 @@ DoesLine old command reply new =
 -- A sync could not save, and any block of the file may lack words.
 pub record FailsLine (old : Moment) (command : Command) (new : Moment) : Type 0 where
   pub fails : (saved : Image) → SyncFails (state old.memory saved) new.memory (CarriesPartly old new saved) command
-  pub lost : AreMarked new.stale
+  pub lost : AreDirty new.dirty
 
 -- The lines that this input ends were answered.
 abbrev pub DoesPart : List ℕ → List ℕ → List ℕ → Moment → Moment → Type 0
@@ -161,7 +161,7 @@ DoesBreakOff most old new commands = (saved : Image) →
 pub record DoesStop (old new : Moment) (commands : List Command) : Type 0 where
   pub stops : (saved : Image) →
       StopsAtSave (state old.memory saved) new.memory (CarriesPartly old new saved) commands old.taken new.taken
-  pub lost : AreMarked new.stale
+  pub lost : AreDirty new.dirty
 
 -- The region keeps its size and the capacity of its log, the same file is attached, and no other file changes. If all
 -- data was flushed before, it is flushed unless a sync failed.

@@ -1,6 +1,6 @@
 -- The effect of a script on a region and a file, and its replies.
 use Rattle.std.specs.Prelude.{◌≡◌, ◌⊎◌, ◌*◌, ℕ, List, [], ◌∷◌, length}
-use Rattle.pm_epochs.specs.Log.{barriers, marks}
+use Rattle.pm_epochs.specs.Log.{barriers, call_ends}
 use Rattle.pm_epochs.specs.Replay.{PowerCut, IsRight, kept_calls}
 use Rattle.pm_region.specs.Memory.{Memory, crashed, current_words, drained}
 use Rattle.bp_replay.specs.Wanted.{cut_for}
@@ -63,7 +63,7 @@ pub record TellsSpace (old : State) (reply : LineReply) (new : State) : Type 0 w
 -- A crash: the reply has the number of calls that survive, and the number of calls of the log.
 pub record Crashes (old : State) (cut : PowerCut) (reply : LineReply) (new : State) : Type 0 where
   pub right : IsRight old.memory.events cut
-  pub told : reply ≡ kept_of (kept_calls old.memory.events cut) (marks old.memory.events)
+  pub told : reply ≡ kept_of (kept_calls old.memory.events cut) (call_ends old.memory.events)
   pub done : new ≡ crashed_state old cut
 
 -- The crash point is not valid for the log, and nothing is done.
@@ -83,7 +83,7 @@ caches_cut memory seed = cache_cut (two_caches (length memory.base)) memory.even
 
 -- The reply with the numbers of events, barriers and calls of the log.
 abbrev pub log_reply : State → LineReply
-log_reply s = log_of (length s.memory.events) (barriers s.memory.events) (marks s.memory.events)
+log_reply s = log_of (length s.memory.events) (barriers s.memory.events) (call_ends s.memory.events)
 
 abbrev pub SessionLine : State → Command → LineReply → State → Type 0
 SessionLine old (file_call call) reply new = AnswersCall old call reply new

@@ -1,17 +1,17 @@
 //! Carrying out one line.
 
 ghost use Rattle.std.specs.Prelude.{◌≡◌, ◌≤◌, [], IfErr, IfOk, OnOk, false, length, true};
-ghost use Rattle.pm_epochs.specs.Log.{barriers, marks};
+ghost use Rattle.pm_epochs.specs.Log.{barriers, call_ends};
 ghost use Rattle.bp_io.specs.Files.{KeepsOthers, StaysAttached};
 ghost use Rattle.bp_limits.specs.Limits.{log_events, max_mask};
 ghost use Rattle.bp_replay.specs.Storm.{storm_cut};
 ghost use Rattle.bp_replay.specs.Wanted.{cut_for, mask_places, wanted_by};
 ghost use Rattle.bp_script.specs.Commands.Command.{sync};
 ghost use Rattle.bp_script.specs.Commands.{command_of};
-ghost use Rattle.bp_session.specs.Acting.{CrashesTo, Does, HasCrashed, LeavesStale, NotesDrain, is_crash};
-ghost use Rattle.bp_session.specs.Changed.{AreMarked};
+ghost use Rattle.bp_session.specs.Acting.{CrashesTo, Does, HasCrashed, LeavesDirty, NotesDrain, is_crash};
+ghost use Rattle.bp_session.specs.Changed.{AreDirty};
 ghost use Rattle.bp_session.specs.Held.{ClearsHeld, DoesHeld, StopsBy};
-ghost use Rattle.bp_session.specs.Saving.{KeepsUnmarked};
+ghost use Rattle.bp_session.specs.Saving.{KeepsClean};
 ghost use Rattle.bp_session.specs.Serving.{CanServe};
 ghost use Rattle.bp_session.specs.declared.broken.Broken.TheVariants as cause;
 ghost use Rattle.bp_session.specs.declared.outcome.Outcome.TheVariants.{Answered, Logged, Synced};
@@ -20,7 +20,7 @@ ghost use Rattle.bp_session.specs.Work.{answer_in, line_in, waiting_in};
 use crate::broken::Broken;
 use crate::caching::crash_by_caches;
 use crate::outcome::Outcome;
-use crate::saving::{mark_drain, mark_each, sync_marked};
+use crate::saving::{dirty_drained, dirty_each, sync_dirty};
 use crate::work::LineBuffers;
 use bp_io::{Failed, Files, Sink};
 use bp_limits::MAX_LINE;
@@ -84,7 +84,7 @@ fn crash_by_storm<R: Region>(
 /// Counts the events, barriers and calls of the log of a region.
 fn count_log<R: Region>(region: &R) -> Outcome
     ensures { result ≡ Logged (length (R.memory region.now).events) (barriers (R.memory region.now).events)
-        (marks (R.memory region.now).events) }
+        (call_ends (R.memory region.now).events) }
 {
     let events = region.event_count();
     let mut barriers: usize = 0;
@@ -93,7 +93,7 @@ fn count_log<R: Region>(region: &R) -> Outcome
         match region.kind(i) {
             EventKind::Store(_) => {}
             EventKind::Barrier => barriers += 1,
-            EventKind::Mark => calls += 1,
+            EventKind::CallEnd => calls += 1,
         }
     }
     Outcome::Logged {
@@ -104,7 +104,7 @@ fn count_log<R: Region>(region: &R) -> Outcome
 }
 
 /// Carries out the line of the buffers, as `act` does, except that a sync is left to be done: at `Outcome::Synced`
-/// nothing is written back yet. The blocks to which a drained log stored are marked.
+/// nothing is written back yet. The blocks to which a drained log stored are dirty.
 // Inlined into its callers, so that an outcome need not go through memory, where it would be read in wider pieces
 // than it was written: the processor stalls then.
 #[inline(always)]
@@ -112,13 +112,13 @@ fn act_but_sync<R: Region>(
     alloc: Global,
     volume: &mut Volume<R>,
     buffers: &mut LineBuffers,
-    stale: &mut [bool],
+    dirty: &mut [bool],
 ) -> Outcome
     requires { volume.old.capacity ≤ log_events }
     ensures does { ¬ (result ≡ Synced) →
         Does volume.old (command_of (line_in buffers.old)) result (answer_in buffers.new) volume.new }
     ensures left { result ≡ Synced → (command_of (line_in buffers.old) ≡ sync) × (volume.new ≡ volume.old) }
-    ensures notes { NotesDrain result volume.old stale.old stale.new }
+    ensures notes { NotesDrain result volume.old dirty.old dirty.new }
     ensures line { line_in buffers.new ≡ line_in buffers.old }
     ensures answer { ¬ (result ≡ Answered) → answer_in buffers.new ≡ answer_in buffers.old }
     ensures waiting { waiting_in buffers.new ≡ waiting_in buffers.old }
@@ -128,7 +128,7 @@ fn act_but_sync<R: Region>(
     }
     match buffers.decoded.line(&buffers.line) {
         Ok(Line::Call(call)) => {
-            mark_drain(volume.region(), stale);
+            dirty_drained(volume.region(), dirty);
             volume.apply(alloc, &call, &mut buffers.reply);
             Outcome::Answered
         }
@@ -185,40 +185,40 @@ fn is_crash(outcome: Outcome) -> bool
     }
 }
 
-/// Marks each block if the region crashed: no log records the words that a crash leaves.
-fn mark_crash(outcome: Outcome, stale: &mut [bool])
-    ensures crashed { is_crash outcome ≡ true → AreMarked stale.new }
-    ensures others { is_crash outcome ≡ false → stale.new ≡ stale.old }
+/// Notes as dirty each block if the region crashed: no log records the words that a crash leaves.
+fn dirty_crash(outcome: Outcome, dirty: &mut [bool])
+    ensures crashed { is_crash outcome ≡ true → AreDirty dirty.new }
+    ensures others { is_crash outcome ≡ false → dirty.new ≡ dirty.old }
 {
     if is_crash(outcome) {
-        mark_each(stale, true);
+        dirty_each(dirty, true);
     }
 }
 
 /// Carries out the line of the buffers. For a sync, the waiting replies go to the sink first. The sync then saves to
-/// the attached file the stale blocks and those to which a store went since the last drain. The sink breaks it off
+/// the attached file the dirty blocks and those to which a store went since the last drain. The sink breaks it off
 /// before a sync is done, or the files as it saves.
 #[inline(always)]
 pub(crate) fn act_and_save<R: Region, K: Sink, F: Files>(
     alloc: Global,
     volume: &mut Volume<R>,
     buffers: &mut LineBuffers,
-    stale: &mut [bool],
+    dirty: &mut [bool],
     out: &mut K,
     files: &mut F,
 ) -> Result<Outcome, Broken>
     requires { CanServe volume.old (F.view files.old) }
     ensures does { IfOk result (DoesHeld F.view K.view
-        buffers.old stale.old volume.old files.old out.old
-        buffers.new stale.new volume.new files.new out.new) }
-    ensures stale { IfOk result (λ outcome. LeavesStale outcome volume.old stale.old stale.new) }
-    ensures kept { KeepsUnmarked stale.old volume.old (F.view files.old) (F.view files.new) }
+        buffers.old dirty.old volume.old files.old out.old
+        buffers.new dirty.new volume.new files.new out.new) }
+    ensures dirty { IfOk result (λ outcome. LeavesDirty outcome volume.old dirty.old dirty.new) }
+    ensures kept { KeepsClean dirty.old volume.old (F.view files.old) (F.view files.new) }
     ensures clears { OnOk result (ClearsHeld F.view K.view
         buffers.old files.old out.old
         buffers.new files.new out.new) }
     ensures stops { IfErr result (StopsBy F.view K.view
-        buffers.old stale.old volume.old files.old out.old
-        buffers.new stale.new volume.new files.new out.new) }
+        buffers.old dirty.old volume.old files.old out.old
+        buffers.new dirty.new volume.new files.new out.new) }
     ensures heard { IfErr result (λ broken. waiting_in buffers.old ≡ [] → broken ≡ cause.Files) }
     ensures synced { OnOk result (command_of (line_in buffers.old) ≡ sync → (F.view files.new).is_flushed ≡ true) }
     ensures flushed { OnOk result ((F.view files.old).is_flushed ≡ true → (F.view files.new).is_flushed ≡ true) }
@@ -230,16 +230,16 @@ pub(crate) fn act_and_save<R: Region, K: Sink, F: Files>(
     ensures attached { StaysAttached (F.view files.old) (F.view files.new) }
     ensures line { line_in buffers.new ≡ line_in buffers.old }
 {
-    match act_but_sync(alloc, volume, buffers, stale) {
+    match act_but_sync(alloc, volume, buffers, dirty) {
         Outcome::Synced => match buffers.replies.hand_over(out) {
-            Ok(()) => match sync_marked(volume, stale, files) {
+            Ok(()) => match sync_dirty(volume, dirty, files) {
                 Ok(()) => Ok(Outcome::Synced),
                 Err(Failed) => Err(Broken::Files),
             },
             Err(Failed) => Err(Broken::Sink),
         },
         outcome => {
-            mark_crash(outcome, stale);
+            dirty_crash(outcome, dirty);
             Ok(outcome)
         }
     }

@@ -17,8 +17,8 @@ ghost use Rattle.bp_session.specs.Work.{held_line, held_replies, read_piece};
 
 use crate::acting::act_and_save;
 use crate::broken::Broken;
-use crate::saving::Stale;
-use crate::telling::tell_by;
+use crate::saving::DirtyBlocks;
+use crate::telling::write_by;
 use crate::work::Work;
 use bp_io::{Failed, Files, Sink, Source};
 use bp_limits::MAX_INPUT;
@@ -34,14 +34,14 @@ fn answer_line<R: Region, K: Sink, F: Files>(
     volume: &mut Volume<R>,
     work: &mut Work,
     most: usize,
-    stale: &mut [bool],
+    dirty: &mut [bool],
     out: &mut K,
     files: &mut F,
 ) -> Result<(), Broken>
     requires { CanServe volume.old (F.view files.old) }
     ensures outcome { GathersHeld result F.view K.view
-        work.old stale.old volume.old files.old out.old
-        work.new stale.new volume.new files.new out.new }
+        work.old dirty.old volume.old files.old out.old
+        work.new dirty.new volume.new files.new out.new }
     ensures few { OnOk result (length (held_replies work.new) ≤ most) }
     ensures synced { held_replies work.old ≡ [] → ¬ (result ≡ Err cause.Files) → command_of (held_line work.old) ≡ sync →
         (F.view files.new).is_flushed ≡ true }
@@ -50,8 +50,8 @@ fn answer_line<R: Region, K: Sink, F: Files>(
     ensures piece { read_piece work.new ≡ read_piece work.old }
 {
     let Work { buffers, .. } = work;
-    let outcome = act_and_save(alloc, volume, buffers, stale, out, files)?;
-    match tell_by(outcome, &buffers.reply, &mut buffers.replies, most, out) {
+    let outcome = act_and_save(alloc, volume, buffers, dirty, out, files)?;
+    match write_by(outcome, &buffers.reply, &mut buffers.replies, most, out) {
         Ok(()) => Ok(()),
         Err(Failed) => Err(Broken::Sink),
     }
@@ -62,21 +62,21 @@ fn answer_alone<R: Region, K: Sink, F: Files>(
     alloc: Global,
     volume: &mut Volume<R>,
     work: &mut Work,
-    stale: &mut [bool],
+    dirty: &mut [bool],
     out: &mut K,
     files: &mut F,
 ) -> Result<(), Broken>
     requires { CanServe volume.old (F.view files.old) }
     ensures outcome { ServesAlone result F.view K.view work.old
-        stale.old volume.old files.old out.old
-        stale.new volume.new files.new out.new }
+        dirty.old volume.old files.old out.old
+        dirty.new volume.new files.new out.new }
     ensures synced { ¬ (result ≡ Err cause.Files) → command_of (held_line work.old) ≡ sync → (F.view files.new).is_flushed ≡ true }
     ensures again { ServesAgain volume.old volume.new (F.view files.new) }
     ensures line { held_line work.new ≡ held_line work.old }
     ensures piece { read_piece work.new ≡ read_piece work.old }
 {
     work.buffers.replies.clear();
-    answer_line(alloc, volume, work, 0, stale, out, files)
+    answer_line(alloc, volume, work, 0, dirty, out, files)
 }
 
 /// Serves the line that the work holds, and passes its reply to the sink. The sink breaks it off if it does not take
@@ -108,20 +108,20 @@ fn end_line<R: Region, K: Sink, F: Files>(
     volume: &mut Volume<R>,
     work: &mut Work,
     most: usize,
-    stale: &mut [bool],
+    dirty: &mut [bool],
     out: &mut K,
     files: &mut F,
 ) -> Result<(), Broken>
     requires { CanServe volume.old (F.view files.old) }
     ensures outcome { GathersHeld result F.view K.view
-        work.old stale.old volume.old files.old out.old
-        work.new stale.new volume.new files.new out.new }
+        work.old dirty.old volume.old files.old out.old
+        work.new dirty.new volume.new files.new out.new }
     ensures few { OnOk result (length (held_replies work.new) ≤ most) }
     ensures ready { CanSave volume.new.base (F.view files.new) }
     ensures line { held_line work.new ≡ [] }
     ensures piece { read_piece work.new ≡ read_piece work.old }
 {
-    let served = answer_line(alloc, volume, work, most, stale, out, files);
+    let served = answer_line(alloc, volume, work, most, dirty, out, files);
     work.buffers.line.clear();
     served
 }
@@ -158,22 +158,22 @@ fn take_piece<R: Region, K: Sink, F: Files>(
     work: &mut Work,
     count: usize,
     most: usize,
-    stale: &mut [bool],
+    dirty: &mut [bool],
     out: &mut K,
     files: &mut F,
 ) -> Result<(), Broken>
     requires serves { CanServe volume.old (F.view files.old) }
     requires inside { count ≤ piece_size }
     ensures outcome { TakesPiece result most count F.view K.view
-        work.old stale.old volume.old files.old out.old
-        work.new stale.new volume.new files.new out.new }
+        work.old dirty.old volume.old files.old out.old
+        work.new dirty.new volume.new files.new out.new }
     ensures again { ServesAgain volume.old volume.new (F.view files.new) }
 {
     let mut at: usize = 0;
     work.buffers.replies.clear();
     while let Some(end) = newline_in(&work.piece, at, count) {
         take_run(work, at, end);
-        end_line(alloc, volume, work, most, stale, out, files)?;
+        end_line(alloc, volume, work, most, dirty, out, files)?;
         at = end + 1;
     }
     take_run(work, at, count);
@@ -188,19 +188,19 @@ fn finish<R: Region, K: Sink, F: Files>(
     alloc: Global,
     volume: &mut Volume<R>,
     work: &mut Work,
-    stale: &mut [bool],
+    dirty: &mut [bool],
     out: &mut K,
     files: &mut F,
 ) -> Result<(), Broken>
     requires { CanServe volume.old (F.view files.old) }
     ensures { EndsHeld result F.view K.view work.old
-        stale.old volume.old files.old out.old
-        stale.new volume.new files.new out.new }
+        dirty.old volume.old files.old out.old
+        dirty.new volume.new files.new out.new }
 {
     if work.buffers.line.is_empty() {
         return Ok(());
     }
-    answer_alone(alloc, volume, work, stale, out, files)
+    answer_alone(alloc, volume, work, dirty, out, files)
 }
 
 /// Reads a piece of the input.
@@ -219,15 +219,15 @@ fn serve_by<R: Region, S: Source, K: Sink, F: Files>(
     volume: &mut Volume<R>,
     work: &mut Work,
     most: usize,
-    stale: &mut [bool],
+    dirty: &mut [bool],
     src: &mut S,
     out: &mut K,
     files: &mut F,
 ) -> Result<(), Broken>
     requires { CanServe volume.old (F.view files.old) }
     ensures outcome { ServesBy result most S.view F.view K.view
-        src.old stale.old volume.old files.old out.old
-        src.new stale.new volume.new files.new out.new }
+        src.old dirty.old volume.old files.old out.old
+        src.new dirty.new volume.new files.new out.new }
     ensures again { ServesAgain volume.old volume.new (F.view files.new) }
 {
     work.buffers.line.clear();
@@ -241,13 +241,13 @@ fn serve_by<R: Region, S: Source, K: Sink, F: Files>(
             break;
         }
         let served = count.min(MAX_INPUT as usize - taken);
-        take_piece(alloc, volume, work, served, most, stale, out, files)?;
+        take_piece(alloc, volume, work, served, most, dirty, out, files)?;
         if served < count {
             return Err(Broken::LongInput);
         }
         taken += count;
     }
-    finish(alloc, volume, work, stale, out, files)
+    finish(alloc, volume, work, dirty, out, files)
 }
 
 /// Answers each line of a source, in whatever pieces it is read, up to its end, or to the first cause that breaks it
@@ -273,31 +273,31 @@ pub fn serve<R: Region, S: Source, K: Sink, F: Files>(
 /// to the sink before the next read, before a sync, and at the end. If the sink failed, the volume may be ahead of
 /// the line whose reply was broken off, by later lines of which none is a sync; no file is ahead.
 ///
-/// A sync writes the stale blocks, which may lack words of the last drain, and those to which a store went since, as
-/// `sync_and_save` does. The caller passes the stale blocks (none, if the file was just read), and gets them at the
+/// A sync writes the dirty blocks, which may lack words of the last drain, and those to which a store went since, as
+/// `sync_and_save` does. The caller passes the dirty blocks (none, if the file was just read), and gets them at the
 /// end.
 pub fn serve_gathered<R: Region, S: Source, K: Sink, F: Files>(
     alloc: Global,
     volume: &mut Volume<R>,
     work: &mut Work,
-    stale: &mut Stale,
+    dirty: &mut DirtyBlocks,
     src: &mut S,
     out: &mut K,
     files: &mut F,
 ) -> Result<(), Broken>
     requires { CanServe volume.old (F.view files.old) }
     ensures outcome { ServesGathered result S.view F.view K.view
-        src.old stale.old volume.old files.old out.old
-        src.new stale.new volume.new files.new out.new }
+        src.old dirty.old volume.old files.old out.old
+        src.new dirty.new volume.new files.new out.new }
     ensures again { ServesAgain volume.old volume.new (F.view files.new) }
 {
-    let count = stale.count.min(stale.marks.len());
+    let count = dirty.count.min(dirty.flags.len());
     serve_by(
         alloc,
         volume,
         work,
         GATHERED,
-        &mut stale.marks[..count],
+        &mut dirty.flags[..count],
         src,
         out,
         files,

@@ -20,7 +20,7 @@ use bp_replies::Replies;
 use bp_script::Said;
 
 /// Adds a line for each name, and the line that ends a listing.
-fn tell_names<K: Sink>(listing: &Listing, replies: &mut Replies, out: &mut K) -> Result<(), Failed>
+fn write_names<K: Sink>(listing: &Listing, replies: &mut Replies, out: &mut K) -> Result<(), Failed>
     ensures all { OnOk result (PassesText (answer_text (names listing.now))
         replies.old (K.view out.old) replies.new (K.view out.new)) }
     ensures some { OnErr result (TakesPart (waiting replies.old ++ answer_text (names listing.now))
@@ -35,7 +35,7 @@ fn tell_names<K: Sink>(listing: &Listing, replies: &mut Replies, out: &mut K) ->
 }
 
 /// Adds the answer of a call.
-fn tell_answer<K: Sink>(reply: &Reply, replies: &mut Replies, out: &mut K) -> Result<(), Failed>
+fn write_answer<K: Sink>(reply: &Reply, replies: &mut Replies, out: &mut K) -> Result<(), Failed>
     ensures all { OnOk result (PassesText (answer_text reply.now.answer)
         replies.old (K.view out.old) replies.new (K.view out.new)) }
     ensures some { OnErr result (TakesPart (waiting replies.old ++ answer_text reply.now.answer)
@@ -43,7 +43,7 @@ fn tell_answer<K: Sink>(reply: &Reply, replies: &mut Replies, out: &mut K) -> Re
     ensures cause { HasCause (K.view out.old).faults (K.view out.new).faults result }
 {
     match reply.answer() {
-        Answer::Names(listing) => tell_names(listing, replies, out),
+        Answer::Names(listing) => write_names(listing, replies, out),
         answer => replies.tell(&Said::Answer(answer), out),
     }
 }
@@ -91,14 +91,14 @@ fn tell<K: Sink>(
     ensures cause { HasCause (K.view out.old).faults (K.view out.new).faults result }
 {
     match outcome {
-        Outcome::Answered => tell_answer(reply, replies, out),
+        Outcome::Answered => write_answer(reply, replies, out),
         other => replies.tell(&said(other), out),
     }
 }
 
 /// Adds the reply for an outcome to the waiting replies, and passes them to the sink if they have more than `most`
 /// bytes. If the sink failed, it took a proper prefix of them all.
-pub(crate) fn tell_by<K: Sink>(
+pub(crate) fn write_by<K: Sink>(
     outcome: Outcome,
     reply: &Reply,
     replies: &mut Replies,

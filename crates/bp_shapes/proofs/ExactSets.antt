@@ -10,16 +10,16 @@ use Rattle.bp_shapes.proofs.ForestLaws.{block-tree}
 clash : (b : Bool) → b ≡ true → b ≡ false → ⊥
 clash b one two = absurd (cc)
 
-module _ (image : Image) (Pointer : Trail → Type 0) (Tree : ℕ → Type 0) (bound : ℕ → ℕ) (kept set : ℕ → Bool) where
+module _ (image : Image) (Pointer : Trail → Type 0) (Tree : ℕ → Type 0) (bound : ℕ → ℕ) (in_snapshot set : ℕ → Bool) where
   pub exact-unheld : ((b : ℕ) → HoldsBlock image Tree bound b → LeadsTo image Pointer b) → ((b : ℕ) → LeadsTo image Pointer b → HoldsBlock image Tree bound b) →
-      IsExactSet image Pointer kept set → AreUnheld image Tree bound kept set
+      IsExactSet image Pointer in_snapshot set → AreUnheld image Tree bound in_snapshot set
   exact-unheld led held exact = record {
     free = λ b is. let range = exact.in_range b is in record { low = range.0; high = range.1; free = λ has. clash (set b) is (exact.live b (led b has)); loose = exact.loose b is };
     all = λ b open_block. exact.dead b open_block.low open_block.high (λ has. open_block.free (held b has)) open_block.loose;
   }
 
   pub unheld-exact : ((b : ℕ) → HoldsBlock image Tree bound b → LeadsTo image Pointer b) → ((b : ℕ) → LeadsTo image Pointer b → HoldsBlock image Tree bound b) →
-      AreUnheld image Tree bound kept set → IsExactSet image Pointer kept set
+      AreUnheld image Tree bound in_snapshot set → IsExactSet image Pointer in_snapshot set
   unheld-exact led held unheld = record {
     live = λ b has. go b (set b) refl has;
     dead = λ b low high none loose. unheld.all b (record { low = low; high = high; free = λ has. none (led b has); loose = loose });
@@ -54,5 +54,5 @@ module _ (image : Image) (bound : ℕ → ℕ) (forest : IsForest image bound) w
     not_null = has.has.not_null;
   }
 
-  pub unheld_exact : (kept set : ℕ → Bool) → AreUnheld image (IsReached image) bound kept set → IsExactSet image (IsTreePointer image bound) kept set
-  unheld_exact kept set unheld = unheld-exact image (IsTreePointer image bound) (IsReached image) bound kept set held_led led_held unheld
+  pub unheld_exact : (in_snapshot set : ℕ → Bool) → AreUnheld image (IsReached image) bound in_snapshot set → IsExactSet image (IsTreePointer image bound) in_snapshot set
+  unheld_exact in_snapshot set unheld = unheld-exact image (IsTreePointer image bound) (IsReached image) bound in_snapshot set held_led led_held unheld

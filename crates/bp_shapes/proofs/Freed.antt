@@ -160,13 +160,13 @@ remove_frees old wf i s j place can last stands =
 -- ---- the set of free blocks
 
 -- it gets just the blocks that are gone
-pub freed_blocks : (old new : Image) → IsWellFormed old → length new ≡ length old → (Gone : ℕ → Type 0) → FreesBlocks old new Gone → (kept free after : ℕ → Bool) → AreFreeBlocks old kept free →
-    ((b : ℕ) → after b ≡ true → (free b ≡ true) ⊎ (Gone b × (kept b ≡ false))) → ((b : ℕ) → free b ≡ true → after b ≡ true) → ((b : ℕ) → Gone b → kept b ≡ false → after b ≡ true) → AreFreeBlocks new kept after
-freed_blocks old new wf whole Gone frees kept free after are only still given = record { free = λ b is. free_now b (only b is); all = λ b open_block. all_now b open_block (after b) refl }
+pub freed_blocks : (old new : Image) → IsWellFormed old → length new ≡ length old → (Gone : ℕ → Type 0) → FreesBlocks old new Gone → (in_snapshot free after : ℕ → Bool) → AreFreeBlocks old in_snapshot free →
+    ((b : ℕ) → after b ≡ true → (free b ≡ true) ⊎ (Gone b × (in_snapshot b ≡ false))) → ((b : ℕ) → free b ≡ true → after b ≡ true) → ((b : ℕ) → Gone b → in_snapshot b ≡ false → after b ≡ true) → AreFreeBlocks new in_snapshot after
+freed_blocks old new wf whole Gone frees in_snapshot free after are only still given = record { free = λ b is. free_now b (only b is); all = λ b open_block. all_now b open_block (after b) refl }
   where
-    free_now : (b : ℕ) → (free b ≡ true) ⊎ (Gone b × (kept b ≡ false)) → IsFreeBlock new kept b
+    free_now : (b : ℕ) → (free b ≡ true) ⊎ (Gone b × (in_snapshot b ≡ false)) → IsFreeBlock new in_snapshot b
     free_now b (inl was) =
-        let open_block : IsFreeBlock old kept b = are.free b was in
+        let open_block : IsFreeBlock old in_snapshot b = are.free b was in
         record { low = open_block.low; high = rw whole open_block.high; free = λ live. open_block.free (frees.back b live); loose = open_block.loose }
     free_now b (inr (gone, loose)) =
         let live : IsLiveBlock old b = frees.were b gone in
@@ -178,11 +178,11 @@ freed_blocks old new wf whole Gone frees kept free after are only still given = 
           loose = loose;
         }
 
-    all_now : (b : ℕ) → IsFreeBlock new kept b → (is : Bool) → after b ≡ is → after b ≡ true
+    all_now : (b : ℕ) → IsFreeBlock new in_snapshot b → (is : Bool) → after b ≡ is → after b ≡ true
     all_now b open_block true e = e
     all_now b open_block false e =
         let not_gone : Gone b → ⊥ = λ gone. clash (sym e ∙ given b gone open_block.loose) in
-        let was : IsFreeBlock old kept b = record { low = open_block.low; high = rw whole at open_block.high; free = λ live. open_block.free (frees.stay b live not_gone); loose = open_block.loose } in
+        let was : IsFreeBlock old in_snapshot b = record { low = open_block.low; high = rw whole at open_block.high; free = λ live. open_block.free (frees.stay b live not_gone); loose = open_block.loose } in
         still b (are.all b was)
       where
         clash : ◌≡◌ {A = Bool} false true → ⊥

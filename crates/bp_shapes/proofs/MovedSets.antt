@@ -21,7 +21,7 @@ use Rattle.bp_shapes.proofs.Freed.{free_inodes_but}
 
 -- ---- what is reached is the same
 
-module _ (old new : Image) (bound : ℕ → ℕ) (kept : ℕ → Bool) (whole : length new ≡ length old) (inode_bytes : size_of new 0 ≡ size_of old 0)
+module _ (old new : Image) (bound : ℕ → ℕ) (in_snapshot : ℕ → Bool) (whole : length new ≡ length old) (inode_bytes : size_of new 0 ≡ size_of old 0)
     (sizes : (t : ℕ) → IsReached old t → size_of new t ≡ bound t)
     (back : (t : ℕ) → IsReached new t → IsReached old t) (on : (t : ℕ) → IsReached old t → IsReached new t) where
   held : (b : ℕ) → IsLiveBlock new b → HoldsBlock new (IsReached old) bound b
@@ -39,8 +39,8 @@ module _ (old new : Image) (bound : ℕ → ℕ) (kept : ℕ → Bool) (whole : 
   }
 
   -- a set of the blocks that the trees of the old image don't have, under the sizes that they got, is one of the free blocks
-  pub same_reach_exact : (before blocks inodes : Set) → AreExactFor old (IsReached old) bound kept before inodes → length blocks ≡ length before →
-      AreUnheld new (IsReached old) bound kept (has blocks) → AreExact new kept blocks inodes
+  pub same_reach_exact : (before blocks inodes : Set) → AreExactFor old (IsReached old) bound in_snapshot before inodes → length blocks ≡ length before →
+      AreUnheld new (IsReached old) bound in_snapshot (has blocks) → AreExact new in_snapshot blocks inodes
   same_reach_exact before blocks inodes exact room unheld = record {
     block_room = rw whole (room ∙ exact.block_room);
     inode_room = rw whole exact.inode_room;
@@ -57,17 +57,17 @@ module _ (old new : Image) (bound : ℕ → ℕ) (kept : ℕ → Bool) (whole : 
 
 -- a name came to another directory, into an entry that was empty or into one behind the last
 pub carried_exact : (old new : Image) (wf : IsWellFormed old) (i s k r j : ℕ) (carries : CarriesEntry old new i s k r j) → (IsAtOrBelow old j k → ⊥) →
-    (bound : ℕ → ℕ) (kept : ℕ → Bool) → ((t : ℕ) → IsReached old t → size_of new t ≡ bound t) → (before blocks inodes : Set) → AreExactFor old (IsReached old) bound kept before inodes →
-    length blocks ≡ length before → AreUnheld new (IsReached old) bound kept (has blocks) → AreExact new kept blocks inodes
-carried_exact old new wf i s k r j carries outside bound kept sizes =
-    same_reach_exact old new bound kept carries.trees.whole (carry.inode_bytes old new wf i s k r j carries) sizes
+    (bound : ℕ → ℕ) (in_snapshot : ℕ → Bool) → ((t : ℕ) → IsReached old t → size_of new t ≡ bound t) → (before blocks inodes : Set) → AreExactFor old (IsReached old) bound in_snapshot before inodes →
+    length blocks ≡ length before → AreUnheld new (IsReached old) bound in_snapshot (has blocks) → AreExact new in_snapshot blocks inodes
+carried_exact old new wf i s k r j carries outside bound in_snapshot sizes =
+    same_reach_exact old new bound in_snapshot carries.trees.whole (carry.inode_bytes old new wf i s k r j carries) sizes
     (carry.reached_back old new wf i s k r j carries) (carried_on old new i s k r j carries outside)
 
 -- an entry is spelled anew
-pub respelled_exact : (old new : Image) (wf : IsWellFormed old) (i s j : ℕ) → RespellsEntry old new i s j → (kept : ℕ → Bool) (before blocks inodes : Set) → AreExact old kept before inodes →
-    length blocks ≡ length before → AreUnheld new (IsReached old) (size_of old) kept (has blocks) → AreExact new kept blocks inodes
-respelled_exact old new wf i s j spells kept =
-    same_reach_exact old new (size_of old) kept spells.trees.whole (spells.size 0 (reached-in_file old wf 0 inode_file)) (λ t reached. spells.size t (reached-in_file old wf t reached))
+pub respelled_exact : (old new : Image) (wf : IsWellFormed old) (i s j : ℕ) → RespellsEntry old new i s j → (in_snapshot : ℕ → Bool) (before blocks inodes : Set) → AreExact old in_snapshot before inodes →
+    length blocks ≡ length before → AreUnheld new (IsReached old) (size_of old) in_snapshot (has blocks) → AreExact new in_snapshot blocks inodes
+respelled_exact old new wf i s j spells in_snapshot =
+    same_reach_exact old new (size_of old) in_snapshot spells.trees.whole (spells.size 0 (reached-in_file old wf 0 inode_file)) (λ t reached. spells.size t (reached-in_file old wf t reached))
     (respell.reached_back old new wf i s j spells) (respelled_on old new wf i s j spells)
 
 -- ---- an inode is replaced
@@ -105,15 +105,15 @@ module _ (old new : Image) (wf : IsWellFormed old) (i s k r j : ℕ) (can : CanM
       })
 
   -- Where the set has the blocks that the trees of the old image don't have, those of the inode's tree come to it.
-  pub replaced_blocks : IsLastName old k r gone → (kept free after : ℕ → Bool) → AreUnheld new (IsReached old) (size_of old) kept free →
-      ((b : ℕ) → after b ≡ true → (free b ≡ true) ⊎ (HasBlock new (root_of new gone) (size_of new gone) b × (kept b ≡ false))) → ((b : ℕ) → free b ≡ true → after b ≡ true) →
-      ((b : ℕ) → HasBlock new (root_of new gone) (size_of new gone) b → kept b ≡ false → after b ≡ true) → AreFreeBlocks new kept after
-  replaced_blocks last kept free after unheld only still given = record { free = λ b is. free_now b (only b is); all = λ b open_block. all_now b open_block (after b) refl }
+  pub replaced_blocks : IsLastName old k r gone → (in_snapshot free after : ℕ → Bool) → AreUnheld new (IsReached old) (size_of old) in_snapshot free →
+      ((b : ℕ) → after b ≡ true → (free b ≡ true) ⊎ (HasBlock new (root_of new gone) (size_of new gone) b × (in_snapshot b ≡ false))) → ((b : ℕ) → free b ≡ true → after b ≡ true) →
+      ((b : ℕ) → HasBlock new (root_of new gone) (size_of new gone) b → in_snapshot b ≡ false → after b ≡ true) → AreFreeBlocks new in_snapshot after
+  replaced_blocks last in_snapshot free after unheld only still given = record { free = λ b is. free_now b (only b is); all = λ b open_block. all_now b open_block (after b) refl }
     where
       sized : (image : Image) (root t b : ℕ) → IsReached old t → HasBlock image root (size_of new t) b → HasBlock image root (size_of old t) b
       sized image root t b reached has = subst (λ z. HasBlock image root z b) (sizes t reached) has
 
-      free_now : (b : ℕ) → (free b ≡ true) ⊎ (HasBlock new (root_of new gone) (size_of new gone) b × (kept b ≡ false)) → IsFreeBlock new kept b
+      free_now : (b : ℕ) → (free b ≡ true) ⊎ (HasBlock new (root_of new gone) (size_of new gone) b × (in_snapshot b ≡ false)) → IsFreeBlock new in_snapshot b
       free_now b (inl is) =
           let was = unheld.free b is in
           record {
@@ -131,7 +131,7 @@ module _ (old new : Image) (wf : IsWellFormed old) (i s k r j : ℕ) (can : CanM
             loose = loose;
           }
 
-      all_now : (b : ℕ) → IsFreeBlock new kept b → (is : Bool) → after b ≡ is → after b ≡ true
+      all_now : (b : ℕ) → IsFreeBlock new in_snapshot b → (is : Bool) → after b ≡ is → after b ≡ true
       all_now b open_block true e = e
       all_now b open_block false e = still b (unheld.all b (record { low = open_block.low; high = open_block.high; free = λ one. unheld_now one (cases_eq one.tree gone); loose = open_block.loose }))
         where

@@ -268,7 +268,7 @@ module _ (old : Image) (wf : IsWellFormed old) (t d k place block : ℕ) (hang :
   hung_reshapes = record {
     reached = hang.reached;
     whole = length-set old place (4096 * block);
-    marked = low_words 0 (omega arith);
+    has_magic = low_words 0 (omega arith);
     counted = low_words 1 (omega arith);
     inode_bytes = low_words 3 (omega arith);
     top = λ some. low_words 2 (omega arith);

@@ -21,7 +21,7 @@ use Rattle.bp_changes.proofs.SameMeaning.{same-by_meaning}
 pub record Reshapes (old new : Image) (t root : ℕ) : Type 0 where
   pub reached : IsReached old t
   pub whole : length new ≡ length old
-  pub marked : word new super_magic ≡ word old super_magic
+  pub has_magic : word new super_magic ≡ word old super_magic
   pub counted : word new super_blocks ≡ word old super_blocks
   pub inode_bytes : word new super_size ≡ word old super_size
   pub top : t ≢ 0 → word new super_root ≡ word old super_root
@@ -142,14 +142,14 @@ module _ (old new : Image) (wf : IsWellFormed old) (t root : ℕ) (reshapes : Re
 
   low-same : (u : ℕ) → IsReached old u → 0 < size_of new u → height_of (root_of new u) ≤ greatest_height (version_of new)
   low-same u reached = by_tree (λ r s. 0 < s → height_of r ≤ greatest_height (version_of new)) u reached
-      (λ e. low_stays old new reshapes.marked root root (size_of old t) (λ _. refl) reshapes.low)
-      (λ other. low_stays old new reshapes.marked (root_of old u) (root_of old u) (size_of old u) (λ _. refl) (wf.low u reached))
+      (λ e. low_stays old new reshapes.has_magic root root (size_of old t) (λ _. refl) reshapes.low)
+      (λ other. low_stays old new reshapes.has_magic (root_of old u) (root_of old u) (size_of old u) (λ _. refl) (wf.low u reached))
 
   pub reshaped_meaning : SameMeaning old new
   reshaped_meaning = record {
     trees = record {
       whole = reshapes.whole;
-      marked = reshapes.marked;
+      has_magic = reshapes.has_magic;
       counted = reshapes.counted;
       low = low-same;
       sound = sound-same;

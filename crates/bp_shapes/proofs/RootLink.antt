@@ -108,7 +108,7 @@ module _ (old : Image) (wf : IsWellFormed old) (t place other : ℕ) (reached : 
   root_reshapes = record {
     reached = reached;
     whole = length-set old place other;
-    marked = low_words 0 (omega arith) (inr (λ e. omega (arith, e)));
+    has_magic = low_words 0 (omega arith) (inr (λ e. omega (arith, e)));
     counted = low_words 1 (omega arith) (inr (λ e. omega (arith, e)));
     inode_bytes = low_words 3 (omega arith) (inr (λ e. omega (arith, e)));
     top = λ inode. low_words 2 (omega arith) (inl inode);

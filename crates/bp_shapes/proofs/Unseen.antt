@@ -29,9 +29,9 @@ live_leads old bound forest sizes b one = record {
   not_null = one.has.not_null;
 }
 
-pub same_unseen : (old : Image) (bound : ℕ → ℕ) (kept free : ℕ → Bool) → IsWellFormed old → IsForest old bound → ((t : ℕ) → IsReached old t → size_of old t ≤ bound t) →
-    IsExactSet old (IsTreePointer old bound) kept free → (image : Image) → length image ≡ length old → ((place : ℕ) → free (place / 512) ≡ false → word image place ≡ word old place) → Same image old
-same_unseen old bound kept free wf forest sizes exact image size others =
+pub same_unseen : (old : Image) (bound : ℕ → ℕ) (in_snapshot free : ℕ → Bool) → IsWellFormed old → IsForest old bound → ((t : ℕ) → IsReached old t → size_of old t ≤ bound t) →
+    IsExactSet old (IsTreePointer old bound) in_snapshot free → (image : Image) → length image ≡ length old → ((place : ℕ) → free (place / 512) ≡ false → word image place ≡ word old place) → Same image old
+same_unseen old bound in_snapshot free wf forest sizes exact image size others =
     let same : Same old image = same-by_agreement old image wf (record { whole = size; each = λ place. each place (free (place / 512)) refl }) in
     same_symmetric old image same
   where

@@ -40,9 +40,9 @@ pub record IsTreePointer (image : Image) (bound : ℕ → ℕ) (p : Trail) : Typ
   pub live : IsLivePointer (root_of image tree) (bound tree) depth index
   pub named : tree_trail (height_of (word image super_root)) tree depth index ≡ p
 
--- the set has exactly the blocks to which no pointer of these trails leads and that are not kept
-pub record IsExactSet (image : Image) (Pointer : Trail → Type 0) (kept free : ℕ → Bool) : Type 0 where
+-- the set has exactly the blocks to which no pointer of these trails leads and that are not in the snapshot
+pub record IsExactSet (image : Image) (Pointer : Trail → Type 0) (in_snapshot free : ℕ → Bool) : Type 0 where
   pub live : (b : ℕ) → LeadsTo image Pointer b → free b ≡ false
-  pub dead : (b : ℕ) → 1 ≤ b → b < block_count image → (LeadsTo image Pointer b → ⊥) → kept b ≡ false → free b ≡ true
+  pub dead : (b : ℕ) → 1 ≤ b → b < block_count image → (LeadsTo image Pointer b → ⊥) → in_snapshot b ≡ false → free b ≡ true
   pub in_range : (b : ℕ) → free b ≡ true → (1 ≤ b) × (b < block_count image)
-  pub loose : (b : ℕ) → free b ≡ true → kept b ≡ false
+  pub loose : (b : ℕ) → free b ≡ true → in_snapshot b ≡ false

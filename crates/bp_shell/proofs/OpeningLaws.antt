@@ -10,7 +10,7 @@ use Rattle.bp_session.proofs.SavingLaws.{stays_attached, still_attached}
 use Rattle.bp_layout.specs.Bytes.{image_bytes}
 use Rattle.bp_free.specs.Set.{Set, has, members}
 use Rattle.bp_layout.specs.Free.{AreFreeBlocks, numbers_below}
-use Rattle.bp_layout.specs.Trees.{AreFrozen}
+use Rattle.bp_layout.specs.Trees.{AreInSnapshot}
 use Rattle.bp_layout.specs.Whole.{HasSpace}
 use Rattle.bp_layout.specs.Checks.{number_of}
 use Rattle.bp_layout.specs.Words.{Image, block_count}
@@ -181,9 +181,9 @@ pub if_memory : (stop : Stop) → stop ≡ Memory → stop ≡ Outside → ⊥
 if_memory stop is e = let no : ◌≡◌ {A = Stop} Memory Outside = sym is ∙ e in cc
 
 -- the blocks of a set of a scan, counted
-pub counted : (image : Image) (frozen set : Set) (count : ℕ) → AreFrozen image (has frozen) → AreFreeBlocks image (has frozen) (has set) → length set ≡ block_count image → count ≡ length (members set) → HasSpace image count
-counted image frozen set count kept are size is = record {
-  kept = has frozen;
+pub counted : (image : Image) (snapshot_blocks set : Set) (count : ℕ) → AreInSnapshot image (has snapshot_blocks) → AreFreeBlocks image (has snapshot_blocks) (has set) → length set ≡ block_count image → count ≡ length (members set) → HasSpace image count
+counted image snapshot_blocks set count kept are size is = record {
+  in_snapshot = has snapshot_blocks;
   are = kept;
   free = record {
     set = has set;

@@ -109,7 +109,7 @@ module _ (before after : Outside) (untouched : IsUntouched before after) (flushe
 pub read_now : (now : Moment) (name : List ℕ) (image : Image) → now.memory ≡ (start image).memory → Holds now.files name image → HoldsAt now name image
 read_now now name image same file =
     let base : now.memory.base ≡ image = ap (λ (m : Memory). m.base) same in
-    subst (λ (words : Image). HoldsAs now.stale now.files words name image) (sym base) (holds_drained now.stale now.files image name file)
+    subst (λ (words : Image). HoldsAs now.dirty now.files words name image) (sym base) (holds_drained now.dirty now.files image name file)
 
 -- the outside at a moment, with what is told of the files by another
 abbrev outside_at : SourceView → Moment → View → List ℕ → Outside

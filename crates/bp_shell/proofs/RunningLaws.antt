@@ -149,9 +149,9 @@ pub not_refused : (image : Image) (notice : Notice) → AreWordsOf64Bits image �
 not_refused image line words well (by_length {len = len} has wrong) =
     let size : len ≡ 4096 * (length image / 512) = omega (arith, has, length-image_bytes image, well.0.first.formatted.sized.whole) in
     wrong (size ∙ sym (wanted_whole (length image / 512) well.0.first.formatted.sized.at_least well.1) ∙ ap (wanted_length 65536) (sym size))
-not_refused image line words well (not_formatted {image = other} has wrong) = let same = image_once image other words has.has.words has.has.bytes in wrong (version_of other) (rw (← same) well.0.first.formatted.marked)
-not_refused image line words well (by_count {image = other} has marked wrong) = let same = image_once image other words has.has.words has.has.bytes in wrong (rw (← same) well.0.first.formatted.counted)
-not_refused image line words well (damaged {image = other} {check = check} {place = place} has marked counted wrong) =
+not_refused image line words well (not_formatted {image = other} has wrong) = let same = image_once image other words has.has.words has.has.bytes in wrong (version_of other) (rw (← same) well.0.first.formatted.has_magic)
+not_refused image line words well (by_count {image = other} has has_magic wrong) = let same = image_once image other words has.has.words has.has.bytes in wrong (rw (← same) well.0.first.formatted.counted)
+not_refused image line words well (damaged {image = other} {check = check} {place = place} has has_magic counted wrong) =
     let same = image_once image other words has.has.words has.has.bytes in
     none_fails_whole image well.0 check place (rw same wrong)
 

@@ -3,7 +3,7 @@ use Rattle.std.specs.Prelude.{◌≡◌, ◌*◌, ℕ, List, length}
 use Rattle.bp_free.specs.Set.{Set, has}
 use Rattle.bp_layout.specs.Free.{AreFreeBlocks}
 use Rattle.bp_layout.specs.Names.{AreCounts}
-use Rattle.bp_layout.specs.Trees.{AreFrozen}
+use Rattle.bp_layout.specs.Trees.{AreInSnapshot}
 use Rattle.bp_layout.specs.Whole.{IsFileSystem}
 use Rattle.bp_layout.specs.Words.{Image, block_count}
 use Rattle.bp_limits.specs.Limits.{block_inodes}
@@ -12,10 +12,10 @@ use Rattle.bp_scan.specs.declared.totals.Totals.{Totals}
 
 -- The image is a file system. A scan found the blocks of its snapshot, the blocks that are in neither tree, the
 -- number of links of each inode in the first tree, and the totals.
-pub record ScanFinds (image : Image) (kept blocks : Set) (counts : List ℕ) (totals : Totals) : Type 0 where
+pub record ScanFinds (image : Image) (snapshot blocks : Set) (counts : List ℕ) (totals : Totals) : Type 0 where
   pub whole : IsFileSystem image
-  pub frozen : AreFrozen image (has kept)
-  pub free : AreFreeBlocks image (has kept) (has blocks)
+  pub snapshot_blocks : AreInSnapshot image (has snapshot)
+  pub free : AreFreeBlocks image (has snapshot) (has blocks)
   pub block_room : length blocks ≡ block_count image
   pub named : AreCounts image counts
   pub inode_room : length counts ≡ block_inodes * block_count image

@@ -13,7 +13,7 @@ ghost use Rattle.bp_shell.specs.declared.stop.Stop.TheVariants.{Memory, Refused}
 ghost use Rattle.std.specs.Prelude.{◌≡◌, ◌⊎◌, [], IfErr, IfOk, OnOk};
 
 use crate::opening::load_file;
-use crate::printing::{print, tell_stop};
+use crate::printing::{print, report_stop};
 use crate::scanning::scan_image;
 use crate::status::Status;
 use crate::stop::Stop;
@@ -38,7 +38,7 @@ fn survey(alloc: Global, region: &RawRegion) -> Result<Notice, Stop>
         dirs: found.totals.dirs,
         bytes: found.totals.bytes,
         live: found.totals.live,
-        free: found.sets.blocks.count(),
+        free: found.sets.free_blocks.count(),
     })
 }
 
@@ -69,7 +69,7 @@ pub(crate) fn check_file<K: Sink, F: Files>(
 {
     let notice = match examine(alloc, name, files) {
         Ok(notice) => notice,
-        Err(stop) => return tell_stop(stop, out),
+        Err(stop) => return report_stop(stop, out),
     };
     match print(&notice, out) {
         Ok(()) => Status::Done,

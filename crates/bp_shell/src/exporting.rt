@@ -12,7 +12,7 @@ ghost use Rattle.bp_shell.specs.Stops.{HasStopCause, IsReason};
 ghost use Rattle.std.specs.Prelude.{◌*◌, ◌≡◌, [], IfErr, IfOk, length};
 
 use crate::opening::load_file;
-use crate::printing::{tell_notice, tell_stop};
+use crate::printing::{report_notice, report_stop};
 use crate::scanning::{Scanned, scan_image};
 use crate::status::Status;
 use crate::stop::Stop;
@@ -25,7 +25,7 @@ use std::alloc::Global;
 
 /// Prints the script that makes the tree of a file system, if calls can spell its paths. `counts` has the number of
 /// links of each inode.
-fn tell_tree<K: Sink>(alloc: Global, region: &RawRegion, counts: &Counts, out: &mut K) -> Status
+fn report_tree<K: Sink>(alloc: Global, region: &RawRegion, counts: &Counts, out: &mut K) -> Status
     requires fresh { region.now.events ≡ [] }
     requires whole { IsFileSystem region.now.base }
     requires counts { AreCounts region.now.base counts.now }
@@ -37,7 +37,7 @@ fn tell_tree<K: Sink>(alloc: Global, region: &RawRegion, counts: &Counts, out: &
         Err(Fault::Memory) => Status::Memory,
         Err(Fault::Sink) => Status::SinkFailed,
         Err(Fault::Deep) => {
-            tell_notice(&Notice::Deep, out);
+            report_notice(&Notice::Deep, out);
             Status::Deep
         }
     }
@@ -48,7 +48,7 @@ fn examine<F: Files>(alloc: Global, name: &str, files: &mut F) -> Result<(RawReg
     ensures holds { IfOk result (λ found. HoldsFileSystem ((F.view files.old).contents name.now) found.0.base) }
     ensures fresh { IfOk result (λ found. found.0.events ≡ []) }
     ensures scanned { IfOk result
-        (λ found. ScanFinds found.0.base found.1.sets.frozen found.1.sets.blocks found.1.sets.counts found.1.totals) }
+        (λ found. ScanFinds found.0.base found.1.sets.snapshot_blocks found.1.sets.free_blocks found.1.sets.link_counts found.1.totals) }
     ensures reason { IfErr result (IsReason ((F.view files.old).contents name.now)) }
     ensures cause { HasStopCause (F.view files.old).faults (F.view files.new).faults result }
     ensures reads { OnlyReads name.now (F.view files.old) (F.view files.new) }
@@ -74,7 +74,7 @@ pub(crate) fn export_file<K: Sink, F: Files>(
     ensures reads { OnlyReads name.now (F.view files.old) (F.view files.new) }
 {
     match examine(alloc, name, files) {
-        Ok((region, scanned)) => tell_tree(alloc, &region, &scanned.sets.counts, out),
-        Err(stop) => tell_stop(stop, out),
+        Ok((region, scanned)) => report_tree(alloc, &region, &scanned.sets.link_counts, out),
+        Err(stop) => report_stop(stop, out),
     }
 }

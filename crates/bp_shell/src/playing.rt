@@ -9,7 +9,7 @@ ghost use Rattle.bp_shell.specs.Stops.{HasStopCause, IsReason};
 ghost use Rattle.std.specs.Prelude.{◌≡◌, ◌≤◌, ◌++◌, ℕ, IfErr, IfOk, OnOk};
 
 use crate::opening::open_to_read;
-use crate::printing::tell_stop;
+use crate::printing::report_stop;
 use crate::status::Status;
 use crate::stop::Stop;
 use bp_io::{Failed, Files, Sink};
@@ -97,7 +97,7 @@ fn text_of(alloc: Global, count: u32, played: &Played) -> Result<String, AllocEr
 }
 
 /// Plays over a volume, and returns the five lines that report it.
-fn tell_play<R: Region>(
+fn report_play<R: Region>(
     alloc: Global,
     volume: &mut Volume<R>,
     seed: u64,
@@ -136,7 +136,7 @@ fn perform<F: Files>(
     ensures flushed { (F.view files.new).is_flushed ≡ (F.view files.old).is_flushed }
 {
     let mut volume = open_to_read(alloc, name, files)?;
-    tell_play(alloc, &mut volume, seed, count)
+    report_play(alloc, &mut volume, seed, count)
 }
 
 /// Plays `count` operations over the file of a name, which is only read: changes are made in memory, and dropped. The
@@ -158,7 +158,7 @@ pub(crate) fn play_file<K: Sink, F: Files>(
 {
     let text = match perform(alloc, name, seed, count, files) {
         Ok(text) => text,
-        Err(stop) => return tell_stop(stop, out),
+        Err(stop) => return report_stop(stop, out),
     };
     match send(out, text.as_bytes()) {
         Ok(()) => Status::Done,

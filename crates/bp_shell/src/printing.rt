@@ -26,7 +26,7 @@ pub(crate) fn print<K: Sink>(notice: &Notice, out: &mut K) -> Result<(), Failed>
 }
 
 /// Prints a line as far as the sink takes it.
-pub(crate) fn tell_notice<K: Sink>(notice: &Notice, out: &mut K)
+pub(crate) fn report_notice<K: Sink>(notice: &Notice, out: &mut K)
     ensures { Prints (notice_text notice.now) (K.view out.old).taken (K.view out.new).taken
         (K.view out.old).faults (K.view out.new).faults }
 {
@@ -34,17 +34,17 @@ pub(crate) fn tell_notice<K: Sink>(notice: &Notice, out: &mut K)
 }
 
 /// Prints the line of a reason, if the reason has one, and returns the status of that reason.
-pub(crate) fn tell_stop<K: Sink>(stop: Stop, out: &mut K) -> Status
+pub(crate) fn report_stop<K: Sink>(stop: Stop, out: &mut K) -> Status
     ensures { TellsStop stop result (K.view out.old).taken (K.view out.new).taken (K.view out.old).faults (K.view out.new).faults }
 {
     match stop {
         Stop::Missing => {
-            tell_notice(&Notice::NoFile, out);
+            report_notice(&Notice::NoFile, out);
             Status::Missing
         }
         Stop::Outside => Status::FilesFailed,
         Stop::Refused(notice) => {
-            tell_notice(&notice, out);
+            report_notice(&notice, out);
             Status::Refused
         }
         Stop::Memory => Status::Memory,

@@ -16,14 +16,14 @@ use crate::exporting::export_file;
 use crate::formatting::format_file;
 use crate::opening::open;
 use crate::playing::play_file;
-use crate::printing::{tell_notice, tell_stop};
+use crate::printing::{report_notice, report_stop};
 use crate::status::Status;
 use bp_command::laws::{plain_words_are_taken, words_ask_for_one_program};
 use bp_command::{Program, WordsFault, read_words};
 use bp_io::{Failed, Files, Sink, Source};
 use bp_limits::BLOCK_WORDS;
 use bp_script::Notice;
-use bp_session::saving::{Stale, sync_and_save};
+use bp_session::saving::{DirtyBlocks, sync_and_save};
 use bp_session::{Work, serve_gathered};
 use bp_volume::Volume;
 use pm_region::Region;
@@ -47,11 +47,11 @@ fn serve_and_save<R: Region, S: Source, K: Sink, F: Files>(
     ensures attached { StaysAttached (F.view files.old) (F.view files.new) }
     ensures others { KeepsOthers (F.view files.old) (F.view files.new) }
 {
-    let mut stale = Stale::none((volume.region().words() / BLOCK_WORDS) as u32);
-    if let Err(broken) = serve_gathered(alloc, volume, work, &mut stale, source, out, files) {
+    let mut dirty = DirtyBlocks::none((volume.region().words() / BLOCK_WORDS) as u32);
+    if let Err(broken) = serve_gathered(alloc, volume, work, &mut dirty, source, out, files) {
         return Status::from(broken);
     }
-    match sync_and_save(volume, &mut stale, files) {
+    match sync_and_save(volume, &mut dirty, files) {
         Ok(()) => Status::Done,
         Err(Failed) => Status::FilesFailed,
     }
@@ -94,7 +94,7 @@ fn run_file<S: Source, K: Sink, F: Files>(
 {
     match open(alloc, name, files) {
         Ok(mut volume) => run_over(alloc, &mut volume, source, out, files),
-        Err(stop) => tell_stop(stop, out),
+        Err(stop) => report_stop(stop, out),
     }
 }
 
@@ -162,7 +162,7 @@ pub fn run<S: Source, K: Sink, F: Files>(
     match read_words(alloc, words) {
         Ok(program) => run_program(alloc, &program, source, out, files),
         Err(WordsFault::Usage(_)) => {
-            tell_notice(&Notice::Usage, out);
+            report_notice(&Notice::Usage, out);
             Status::Usage
         }
         Err(WordsFault::Memory) => Status::Memory,

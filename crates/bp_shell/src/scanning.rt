@@ -33,25 +33,32 @@ pub(crate) struct Scanned {
 fn scan_with(region: &RawRegion, sets: &mut Sets) -> Result<Totals, Stop>
     requires fresh { region.now.events ≡ [] }
     requires sized { IsSized region.now.base }
-    requires blocks { length sets.old.blocks ≡ block_count region.now.base }
-    requires inodes { length sets.old.inodes ≡ block_inodes * block_count region.now.base }
-    requires counts { length sets.old.counts ≡ block_inodes * block_count region.now.base }
-    requires frozen { length sets.old.frozen ≡ block_count region.now.base }
+    requires blocks { length sets.old.free_blocks ≡ block_count region.now.base }
+    requires inodes { length sets.old.free_inodes ≡ block_inodes * block_count region.now.base }
+    requires counts { length sets.old.link_counts ≡ block_inodes * block_count region.now.base }
+    requires snapshot_blocks { length sets.old.snapshot_blocks ≡ block_count region.now.base }
     requires pending { sets.old.pending ≡ block_inodes * block_count region.now.base }
     ensures found { IfOk result
-        (λ totals. ScanFinds region.now.base sets.new.frozen sets.new.blocks sets.new.counts totals) }
+        (λ totals. ScanFinds region.now.base sets.new.snapshot_blocks sets.new.free_blocks sets.new.link_counts totals) }
     ensures refused { IfErr result (λ stop. (known : Known) (notice : Notice) → HasImage known region.now.base →
         stop ≡ Refused notice → RefusesFile known notice) }
     ensures kinds { IfErr result (λ stop. ((notice : Notice) × (stop ≡ Refused notice)) ⊎ (stop ≡ Memory)) }
 {
     let Sets {
-        blocks,
-        inodes,
-        counts,
-        frozen,
+        free_blocks,
+        free_inodes,
+        link_counts,
+        snapshot_blocks,
         pending,
     } = sets;
-    match scan_whole(region, blocks, inodes, frozen, pending, counts) {
+    match scan_whole(
+        region,
+        free_blocks,
+        free_inodes,
+        snapshot_blocks,
+        pending,
+        link_counts,
+    ) {
         Ok(totals) => Ok(totals),
         Err(fault) => Err(stop_of(fault)),
     }
@@ -67,7 +74,7 @@ pub(crate) fn scan_image(alloc: Global, region: &RawRegion) -> Result<Scanned, S
     requires fresh { region.now.events ≡ [] }
     requires sized { IsSized region.now.base }
     ensures found { IfOk result
-        (λ found. ScanFinds region.now.base found.sets.frozen found.sets.blocks found.sets.counts found.totals) }
+        (λ found. ScanFinds region.now.base found.sets.snapshot_blocks found.sets.free_blocks found.sets.link_counts found.totals) }
     ensures refused { IfErr result (λ stop. (known : Known) (notice : Notice) → HasImage known region.now.base →
         stop ≡ Refused notice → RefusesFile known notice) }
     ensures kinds { IfErr result (λ stop. ((notice : Notice) × (stop ≡ Refused notice)) ⊎ (stop ≡ Memory)) }

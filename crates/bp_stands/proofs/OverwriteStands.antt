@@ -34,21 +34,21 @@ use Rattle.bp_stands.proofs.WrittenBytes.{in_bytes, in_front_had, in_rest, writt
 -- ---- one byte
 
 module _ (patch : Patch) (i o had : ℕ) where
-  pub byte_inside : patch.inode ≡ i → patch.off ≤ o → o < patch.off + length patch.bytes → patched_by patch i o had ≡ slice_index patch.bytes (o - patch.off)
-  byte_inside same low high = rw (same, are_one-self i) (over_there patch.off patch.bytes o had low high)
+  pub byte_inside : patch.inode ≡ i → patch.offset ≤ o → o < patch.offset + length patch.bytes → patched_by patch i o had ≡ slice_index patch.bytes (o - patch.offset)
+  byte_inside same low high = rw (same, are_one-self i) (over_there patch.offset patch.bytes o had low high)
 
   pub byte_elsewhere : patch.inode ≢ i → patched_by patch i o had ≡ had
   byte_elsewhere apart = rw (ne_eqb patch.inode i apart) refl
 
-  either : (b : Bool) → byte_over patch.off patch.bytes o had ≡ had → cond b (byte_over patch.off patch.bytes o had) had ≡ had
+  either : (b : Bool) → byte_over patch.offset patch.bytes o had ≡ had → cond b (byte_over patch.offset patch.bytes o had) had ≡ had
   either true same = same
   either false same = refl
 
-  pub byte_before : o < patch.off → patched_by patch i o had ≡ had
-  byte_before before = either (patch.inode == i) (over_before patch.off patch.bytes o had before)
+  pub byte_before : o < patch.offset → patched_by patch i o had ≡ had
+  byte_before before = either (patch.inode == i) (over_before patch.offset patch.bytes o had before)
 
-  pub byte_past : patch.off + length patch.bytes ≤ o → patched_by patch i o had ≡ had
-  byte_past past = either (patch.inode == i) (over_past patch.off patch.bytes o had past)
+  pub byte_past : patch.offset + length patch.bytes ≤ o → patched_by patch i o had ≡ had
+  byte_past past = either (patch.inode == i) (over_past patch.offset patch.bytes o had past)
 
 -- ---- one piece
 
@@ -75,13 +75,13 @@ module _ (image : Image) (bytes : ℕ → ℕ → ℕ) (patch : Patch) where
   nothing_shows map empty was = record { shows = λ q. was.shows q ∙ go (lookup image q); one = was.one }
     where
       stays : (u o : ℕ) → more_bytes u o ≡ bytes u o
-      stays u o = elim (cases_lt o patch.off) [ inl before ↦ byte_before patch u o (bytes u o) before | inr from ↦ byte_past patch u o (bytes u o) (omega (arith, empty, from)) ]
+      stays u o = elim (cases_lt o patch.offset) [ inl before ↦ byte_before patch u o (bytes u o) before | inr from ↦ byte_past patch u o (bytes u o) (omega (arith, empty, from)) ]
 
       go : (found : Option ℕ) → option_map (node_with image bytes) found ≡ option_map (node_with image more_bytes) found
       go None = refl
       go (Some u) = ap Some (node_stays u (λ o low. stays u o))
 
-  module _ (path : Path) (here : lookup image path ≡ Some patch.inode) (is_file : kind_of image patch.inode ≡ 1) (within : patch.off + length patch.bytes ≤ size_of image patch.inode) where
+  module _ (path : Path) (here : lookup image path ≡ Some patch.inode) (is_file : kind_of image patch.inode ≡ 1) (within : patch.offset + length patch.bytes ≤ size_of image patch.inode) where
     abbrev had : List ℕ
     had = map (bytes patch.inode) (range_with_len 0 (size_of image patch.inode))
 
@@ -91,40 +91,40 @@ module _ (image : Image) (bytes : ℕ → ℕ → ℕ) (patch : Patch) where
     had_byte : (o : ℕ) → o < size_of image patch.inode → get_or had o 0 ≡ bytes patch.inode o
     had_byte o low = get_or-map-range_with_len (bytes patch.inode) 0 (size_of image patch.inode) o o 0 low (omega arith)
 
-    whole : length (written had patch.off patch.bytes) ≡ size_of image patch.inode
-    whole = omega (arith, written_length had patch.off patch.bytes, had_length, within)
+    whole : length (written had patch.offset patch.bytes) ≡ size_of image patch.inode
+    whole = omega (arith, written_length had patch.offset patch.bytes, had_length, within)
 
-    byte_is : (o : ℕ) → o < size_of image patch.inode → more_bytes patch.inode o ≡ get_or (written had patch.off patch.bytes) o 0
-    byte_is o low = go (cases_lt o patch.off) (cases_lt o (patch.off + length patch.bytes))
+    byte_is : (o : ℕ) → o < size_of image patch.inode → more_bytes patch.inode o ≡ get_or (written had patch.offset patch.bytes) o 0
+    byte_is o low = go (cases_lt o patch.offset) (cases_lt o (patch.offset + length patch.bytes))
       where
-        go : (o < patch.off) ⊎ (patch.off ≤ o) → (o < patch.off + length patch.bytes) ⊎ (patch.off + length patch.bytes ≤ o) → more_bytes patch.inode o ≡ get_or (written had patch.off patch.bytes) o 0
+        go : (o < patch.offset) ⊎ (patch.offset ≤ o) → (o < patch.offset + length patch.bytes) ⊎ (patch.offset + length patch.bytes ≤ o) → more_bytes patch.inode o ≡ get_or (written had patch.offset patch.bytes) o 0
         go (inl before) _ =
             byte_before patch patch.inode o (bytes patch.inode o) before
-            ∙ sym (in_front_had had patch.off patch.bytes o before (omega (arith, low, had_length)) ∙ had_byte o low)
-        go (inr from) (inl inside) = byte_inside patch patch.inode o (bytes patch.inode o) refl from inside ∙ sym (in_bytes had patch.off patch.bytes o from inside)
-        go (inr from) (inr past) = byte_past patch patch.inode o (bytes patch.inode o) past ∙ sym (in_rest had patch.off patch.bytes o past ∙ had_byte o low)
+            ∙ sym (in_front_had had patch.offset patch.bytes o before (omega (arith, low, had_length)) ∙ had_byte o low)
+        go (inr from) (inl inside) = byte_inside patch patch.inode o (bytes patch.inode o) refl from inside ∙ sym (in_bytes had patch.offset patch.bytes o from inside)
+        go (inr from) (inr past) = byte_past patch patch.inode o (bytes patch.inode o) past ∙ sym (in_rest had patch.offset patch.bytes o past ∙ had_byte o low)
 
-    content_is : written had patch.off patch.bytes ≡ map (more_bytes patch.inode) (range_with_len 0 (size_of image patch.inode))
+    content_is : written had patch.offset patch.bytes ≡ map (more_bytes patch.inode) (range_with_len 0 (size_of image patch.inode))
     content_is =
         sym (ap (λ n. map (more_bytes patch.inode) (range_with_len 0 n)) (sym whole)
-        ∙ map-tells (more_bytes patch.inode) (written had patch.off patch.bytes) (λ o low. byte_is o (omega (arith, low, whole))))
+        ∙ map-tells (more_bytes patch.inode) (written had patch.offset patch.bytes) (λ o low. byte_is o (omega (arith, low, whole))))
 
-    node_is : node_with image more_bytes patch.inode ≡ file (written had patch.off patch.bytes)
+    node_is : node_with image more_bytes patch.inode ≡ file (written had patch.offset patch.bytes)
     node_is = rw is_file (ap file (sym content_is))
 
-    patch_shows : (map : PathMap) → ShowsWith image bytes map → ShowsWith image more_bytes (plain.with_written map path patch.off patch.bytes)
+    patch_shows : (map : PathMap) → ShowsWith image bytes map → ShowsWith image more_bytes (plain.with_written map path patch.offset patch.bytes)
     patch_shows map was = record { shows = λ q. by_inode q (finds (lookup image q) patch.inode); one = was.one }
       where
         there : bytes_at map.nodes path ≡ had
         there = ap plain.bytes_in (was.shows path) ∙ rw here (rw is_file refl)
 
         by_inode : (q : Path) → (lookup image q ≡ Some patch.inode) ⊎ (lookup image q ≡ Some patch.inode → ⊥) →
-            get (plain.with_written map path patch.off patch.bytes).nodes q ≡ option_map (node_with image more_bytes) (lookup image q)
+            get (plain.with_written map path patch.offset patch.bytes).nodes q ≡ option_map (node_with image more_bytes) (lookup image q)
         by_inode q (inl found) =
-            content_here image patch.inode is_file path here map was.one (written (bytes_at map.nodes path) patch.off patch.bytes) q found
-            ∙ ap (λ content. Some (file (written content patch.off patch.bytes))) there ∙ sym (rw found (ap Some node_is))
+            content_here image patch.inode is_file path here map was.one (written (bytes_at map.nodes path) patch.offset patch.bytes) q found
+            ∙ ap (λ content. Some (file (written content patch.offset patch.bytes))) there ∙ sym (rw found (ap Some node_is))
         by_inode q (inr apart) =
-            content_elsewhere image patch.inode is_file path here map was.one (written (bytes_at map.nodes path) patch.off patch.bytes) q apart
+            content_elsewhere image patch.inode is_file path here map was.one (written (bytes_at map.nodes path) patch.offset patch.bytes) q apart
             ∙ was.shows q ∙ other (lookup image q) refl
           where
             other : (found : Option ℕ) → lookup image q ≡ found → option_map (node_with image bytes) found ≡ option_map (node_with image more_bytes) found

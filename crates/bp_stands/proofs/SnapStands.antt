@@ -15,7 +15,7 @@ use Rattle.bp_plain.specs.PlainTree.{FileTree, PathMap}
 use Rattle.bp_plain.specs.Stands.{Shows, Stands}
 use Rattle.bp_layout.specs.Formatted.{version_of}
 use Rattle.bp_limits.specs.declared.version.Version.TheVariants.{Two}
-use Rattle.bp_limits.specs.Limits.{super_second_size, version_at}
+use Rattle.bp_limits.specs.Limits.{super_snapshot_size, version_at}
 use Rattle.bp_limits.specs.CallLimits.{is_two}
 
 -- no live word stands in the superblock behind the four words of the first tree
@@ -88,7 +88,7 @@ module _ (old : Image) (long : 6 ≤ length old) (wf : IsWellFormed old) where
 
 module _ (old : Image) (long : 6 ≤ length old) (wf : IsWellFormed old) where
   abbrev unsnapped : Image
-  unsnapped = set old super_second_size 0
+  unsnapped = set old super_snapshot_size 0
 
   -- the first tree means what it meant
   pub unsnapped_same : Same old unsnapped

@@ -6,7 +6,7 @@ use Rattle.bp_layout.specs.Format.{upgraded}
 use Rattle.bp_layout.specs.Formatted.{version_of}
 use Rattle.bp_layout.specs.Trees.{has_snapshot}
 use Rattle.bp_layout.specs.WellFormed.{IsWellFormed}
-use Rattle.bp_layout.proofs.NoSecond.{first_has_none}
+use Rattle.bp_layout.proofs.NoSnapshot.{first_has_none}
 use Rattle.bp_layout.proofs.Upgrade.{upgraded_alone, upgraded_one, upgraded_shown, upgraded_version, upgraded_well_formed}
 use Rattle.bp_plain.specs.PlainTree.{FileTree, PathMap}
 use Rattle.bp_plain.specs.Stands.{ShowsSnapshot, Stands}

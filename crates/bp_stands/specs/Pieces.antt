@@ -9,7 +9,7 @@ use Rattle.bp_plain.specs.Calls.{Piece}
 
 -- the bytes of a piece as a patch of its file
 abbrev pub patch_of : Piece → ℕ → Patch
-patch_of piece i = record { inode = i; off = piece.off; bytes = piece.bytes }
+patch_of piece i = record { inode = i; offset = piece.offset; bytes = piece.bytes }
 
 -- the piece's path leads to this file, and its bytes end within the file's size
 pub record PieceFinds (image : Image) (piece : Piece) (i : ℕ) : Type 0 where
@@ -17,7 +17,7 @@ pub record PieceFinds (image : Image) (piece : Piece) (i : ℕ) : Type 0 where
   pub parsed : parse piece.path ≡ Some path
   pub inode : lookup image path ≡ Some i
   pub is_file : IsFile image i
-  pub within : piece.off + length piece.bytes ≤ size_of image i
+  pub within : piece.offset + length piece.bytes ≤ size_of image i
 
 -- each piece with its file
 pub data ArePatches (image : Image) : List Piece → List Patch → Type 0 where

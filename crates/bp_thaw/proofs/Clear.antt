@@ -1,4 +1,5 @@
--- The trails of what is found; and once those blocks are copied, no pointer on the ways leads to a kept block.
+-- The trails of what is found; and once those blocks are copied, no pointer on the ways leads to a block of the
+-- snapshot.
 use Rattle.std.proofs.Common.{◌≡◌, ◌⊎◌, ℕ, zero, suc, ◌-◌, ◌<◌, ◌≤◌, List, [], ◌∷◌, Bool, true, false, not, ◌==◌, map, take, length, filter, refl, sym, ◌∙◌, ap, subst, arith, inl, inr}
 use Rattle.std.specs.List.{list_any}
 use Rattle.std.proofs.lemmas.Bool.{eqb-true}
@@ -8,7 +9,7 @@ use Rattle.bp_layout.specs.Members.{AreApart, Has}
 use Rattle.bp_layout.specs.Need.{prefixes_from}
 use Rattle.bp_layout.specs.Nodes.{is_present}
 use Rattle.bp_layout.specs.Reached.IsReached.{inode_file}
-use Rattle.bp_layout.specs.Thaw.{fronts_of, is_front, is_kept_at, is_there_now, thawed_on}
+use Rattle.bp_layout.specs.Thaw.{fronts_of, is_front, is_in_snapshot_at, is_there_now, thawed_on}
 use Rattle.bp_layout.specs.WellFormed.{IsWellFormed}
 use Rattle.bp_layout.specs.WordPaths.{WordPath, address, tree_path}
 use Rattle.bp_layout.specs.Words.{Image, height_of}
@@ -19,10 +20,10 @@ use Rattle.bp_changes.proofs.SameMeaning.{well_formed-same}
 use Rattle.bp_shapes.specs.Trail.{Trail, block_on, place_on, trail_of}
 use Rattle.bp_shapes.specs.Forest.{IsTreePointer}
 use Rattle.bp_thaw.specs.Fronts.{IsPointerPath, IsWayIn, path_trail}
-use Rattle.bp_thaw.specs.Steps.{AreKept, IsKept}
+use Rattle.bp_thaw.specs.Steps.{AreInSnapshot, IsInSnapshot}
 use Rattle.bp_thaw.proofs.Found.{AreFound, IsFrontAmong, all_apart, any_some, are_found, filter_none, found_is, gone, mapped_range, path_of, some_any, take_front, there_of}
 use Rattle.bp_thaw.proofs.FindSteps.{take-trail, there_above}
-use Rattle.bp_thaw.proofs.PointerPaths.{address_is, front_path, kept_is, paths_apart, there_is, there_pointer}
+use Rattle.bp_thaw.proofs.PointerPaths.{address_is, front_path, in_snapshot_is, paths_apart, there_is, there_pointer}
 
 abbrev pub trails_of : List WordPath → List Trail
 trails_of paths = map path_trail paths
@@ -42,15 +43,15 @@ map_places image [] each = refl
 map_places image (f ∷ paths) each =
     ap (λ a. a ∷ map (address image) paths) (each f (inl refl)) ∙ ap (λ rest. place_on image (path_trail f) ∷ rest) (map_places image paths (λ g later. each g (inr later)))
 
-module _ (image : Image) (wf : IsWellFormed image) (kept : ℕ → Bool) where
-  gone_has : (earlier ws : List WordPath) (w : WordPath) → Has earlier w ⊎ Has ws w → Has (gone image wf kept earlier ws) w
+module _ (image : Image) (wf : IsWellFormed image) (in_snapshot : ℕ → Bool) where
+  gone_has : (earlier ws : List WordPath) (w : WordPath) → Has earlier w ⊎ Has ws w → Has (gone image wf in_snapshot earlier ws) w
   gone_has earlier [] w (inl has) = has
   gone_has earlier [] w (inr none) = absurd none
   gone_has earlier (v ∷ ws) w (inl has) = gone_has (v ∷ earlier) ws w (inl (inr has))
   gone_has earlier (v ∷ ws) w (inr (inl e)) = gone_has (v ∷ earlier) ws w (inl (inl e))
   gone_has earlier (v ∷ ws) w (inr (inr later)) = gone_has (v ∷ earlier) ws w (inr later)
 
-  fronts_has : (earlier ws : List WordPath) (f : WordPath) → Has (fronts_of earlier ws) f → IsFrontAmong image wf kept ws f
+  fronts_has : (earlier ws : List WordPath) (f : WordPath) → Has (fronts_of earlier ws) f → IsFrontAmong image wf in_snapshot ws f
   fronts_has earlier [] f has = absurd has
   fronts_has earlier (w ∷ ws) f has = elim (has-either (filter (λ front. not (list_any (is_front front) earlier)) (prefixes_from 0 w)) (fronts_of (w ∷ earlier) ws) f has) [
     | inl here ↦
@@ -63,42 +64,42 @@ module _ (image : Image) (wf : IsWellFormed image) (kept : ℕ → Bool) where
   ]
 
   module _ (ws : List WordPath) (ways : (w : WordPath) → Has ws w → IsWayIn image w) where
-    all_of : AreFound image wf kept (gone image wf kept [] ws) (thawed_on image kept ws)
-    all_of = are_found image wf kept ws ways
+    all_of : AreFound image wf in_snapshot (gone image wf in_snapshot [] ws) (thawed_on image in_snapshot ws)
+    all_of = are_found image wf in_snapshot ws ways
 
-    pointer_path : (f : WordPath) → Has (thawed_on image kept ws) f → IsPointerPath image f
-    pointer_path f has = path_of image wf kept (gone image wf kept [] ws) all_of.ways f (all_of.fronts f has)
+    pointer_path : (f : WordPath) → Has (thawed_on image in_snapshot ws) f → IsPointerPath image f
+    pointer_path f has = path_of image wf in_snapshot (gone image wf in_snapshot [] ws) all_of.ways f (all_of.fronts f has)
 
-    there_found : (f : WordPath) → Has (thawed_on image kept ws) f → is_there_now image f ≡ true
-    there_found f has = there_of image wf kept f (all_of.kept_there f has)
+    there_found : (f : WordPath) → Has (thawed_on image in_snapshot ws) f → is_there_now image f ≡ true
+    there_found f has = there_of image wf in_snapshot f (all_of.in_snapshot_there f has)
 
     -- a kept front is among what is found
-    kept_found : (f : WordPath) → IsFrontAmong image wf kept (gone image wf kept [] ws) f → is_kept_at image kept f ≡ true → Has (thawed_on image kept ws) f
-    kept_found f front is =
-        let of : IsPointerPath image f = path_of image wf kept (gone image wf kept [] ws) all_of.ways f front in
+    in_snapshot_found : (f : WordPath) → IsFrontAmong image wf in_snapshot (gone image wf in_snapshot [] ws) f → is_in_snapshot_at image in_snapshot f ≡ true → Has (thawed_on image in_snapshot ws) f
+    in_snapshot_found f front is =
+        let of : IsPointerPath image f = path_of image wf in_snapshot (gone image wf in_snapshot [] ws) all_of.ways f front in
         let begins : is_front f front.way ≡ true = subst (λ g. is_front g front.way ≡ true) (sym front.is) (take_front front.way front.count front.less) in
-        let other = some_any (λ g. address image g == address image f) (thawed_on image kept ws) (all_of.same f of is ∙ any_some (is_front f) (gone image wf kept [] ws) front.way front.has begins) in
-        subst (Has (thawed_on image kept ws))
-        (paths_apart image wf other.0 f (pointer_path other.0 other.1) of (there_found other.0 other.1) (there_of image wf kept f is) (eqb-true (address image other.0) (address image f) other.2)) other.1
+        let other = some_any (λ g. address image g == address image f) (thawed_on image in_snapshot ws) (all_of.same f of is ∙ any_some (is_front f) (gone image wf in_snapshot [] ws) front.way front.has begins) in
+        subst (Has (thawed_on image in_snapshot ws))
+        (paths_apart image wf other.0 f (pointer_path other.0 other.1) of (there_found other.0 other.1) (there_of image wf in_snapshot f is) (eqb-true (address image other.0) (address image f) other.2)) other.1
 
-    pub trails_kept : AreKept image kept (trails_of (thawed_on image kept ws))
-    trails_kept = record { each = each; above = above }
+    pub trails_in_snapshot : AreInSnapshot image in_snapshot (trails_of (thawed_on image in_snapshot ws))
+    trails_in_snapshot = record { each = each; above = above }
       where
-        each : (p : Trail) → Has (trails_of (thawed_on image kept ws)) p → IsKept image kept p
+        each : (p : Trail) → Has (trails_of (thawed_on image in_snapshot ws)) p → IsInSnapshot image in_snapshot p
         each p has =
-            let f = has-trail (thawed_on image kept ws) p has in
+            let f = has-trail (thawed_on image in_snapshot ws) p has in
             let of = pointer_path f.0 f.1 in
             let there = there_found f.0 f.1 in
             let one = there_pointer image wf f.0 of there in
-            subst (IsKept image kept) f.2 (record { pointer = one.0; present = one.1; is_kept = sym (kept_is image wf f.0 of there kept) ∙ all_of.kept_there f.0 f.1 })
+            subst (IsInSnapshot image in_snapshot) f.2 (record { pointer = one.0; present = one.1; is_in_snapshot = sym (in_snapshot_is image wf f.0 of there in_snapshot) ∙ all_of.in_snapshot_there f.0 f.1 })
 
         below : (w : WordPath) (n slot : ℕ) (p : Trail) → trail_of w n ≡ slot ∷ p → (m : ℕ) × (n ≡ suc m) × (trail_of w m ≡ p)
         below w zero slot p e = absurd (cc)
         below w (suc m) slot p e = (m, refl, cc)
 
-        above : (slot : ℕ) (p : Trail) → Has (trails_of (thawed_on image kept ws)) (slot ∷ p) → kept (block_on image p) ≡ true → Has (trails_of (thawed_on image kept ws)) p
+        above : (slot : ℕ) (p : Trail) → Has (trails_of (thawed_on image in_snapshot ws)) (slot ∷ p) → in_snapshot (block_on image p) ≡ true → Has (trails_of (thawed_on image in_snapshot ws)) p
         above slot p has is =
-            let f = has-trail (thawed_on image kept ws) (slot ∷ p) has in
+            let f = has-trail (thawed_on image in_snapshot ws) (slot ∷ p) has in
             let front = all_of.fronts f.0 f.1 in
             let way : IsWayIn image front.way = all_of.ways front.way front.has in
             let up = below front.way front.count slot p (sym (take-trail image wf front.way way front.count (omega (arith, front.less))) ∙ ap path_trail (sym front.is) ∙ f.2) in
@@ -107,23 +108,23 @@ module _ (image : Image) (wf : IsWellFormed image) (kept : ℕ → Bool) where
             let trail : path_trail (take m front.way) ≡ p = take-trail image wf front.way way m (omega (arith, less)) ∙ up.2 in
             let here : is_there_now image (take front.count front.way) ≡ true = subst (λ g. is_there_now image g ≡ true) front.is (there_found f.0 f.1) in
             let there : is_there_now image (take m front.way) ≡ true = there_above image wf front.way way front.count m (omega (arith, up.1)) front.less here in
-            let kept_there : is_kept_at image kept (take m front.way) ≡ true = kept_is image wf (take m front.way) (front_path image wf front.way m way less) there kept ∙ ap (λ t. kept (block_on image t)) trail ∙ is in
-            subst (Has (trails_of (thawed_on image kept ws))) trail
-            (trail-has (thawed_on image kept ws) (take m front.way) (kept_found (take m front.way) (record { way = front.way; count = m; has = front.has; less = less; is = refl }) kept_there))
+            let in_snapshot_there : is_in_snapshot_at image in_snapshot (take m front.way) ≡ true = in_snapshot_is image wf (take m front.way) (front_path image wf front.way m way less) there in_snapshot ∙ ap (λ t. in_snapshot (block_on image t)) trail ∙ is in
+            subst (Has (trails_of (thawed_on image in_snapshot ws))) trail
+            (trail-has (thawed_on image in_snapshot ws) (take m front.way) (in_snapshot_found (take m front.way) (record { way = front.way; count = m; has = front.has; less = less; is = refl }) in_snapshot_there))
 
-    pub trails_number : length (trails_of (thawed_on image kept ws)) ≡ length (thawed_on image kept ws)
-    trails_number = length-map (thawed_on image kept ws) path_trail
+    pub trails_number : length (trails_of (thawed_on image in_snapshot ws)) ≡ length (thawed_on image in_snapshot ws)
+    trails_number = length-map (thawed_on image in_snapshot ws) path_trail
 
-    pub places_are : map (address image) (thawed_on image kept ws) ≡ map (place_on image) (trails_of (thawed_on image kept ws))
-    places_are = map_places image (thawed_on image kept ws) (λ f has. address_is image wf f (pointer_path f has) (there_found f has))
+    pub places_are : map (address image) (thawed_on image in_snapshot ws) ≡ map (place_on image) (trails_of (thawed_on image in_snapshot ws))
+    places_are = map_places image (thawed_on image in_snapshot ws) (λ f has. address_is image wf f (pointer_path f has) (there_found f has))
 
-    pub places_once : AreApart (map (address image) (thawed_on image kept ws))
-    places_once = subst (λ fs. AreApart (map (address image) fs)) (found_is image wf kept ws ways) (all_apart image kept [] ws tt)
+    pub places_once : AreApart (map (address image) (thawed_on image in_snapshot ws))
+    places_once = subst (λ fs. AreApart (map (address image) fs)) (found_is image wf in_snapshot ws ways) (all_apart image in_snapshot [] ws tt)
 
     -- ---- afterwards
 
-    module _ (new : Image) (shape : SameShape image new) (copied : (p : Trail) → Has (trails_of (thawed_on image kept ws)) p → kept (block_on new p) ≡ false)
-        (uncopied : (p : Trail) → IsTreePointer image (size_of image) p → kept (block_on image p) ≡ false → block_on new p ≡ block_on image p) where
+    module _ (new : Image) (shape : SameShape image new) (copied : (p : Trail) → Has (trails_of (thawed_on image in_snapshot ws)) p → in_snapshot (block_on new p) ≡ false)
+        (uncopied : (p : Trail) → IsTreePointer image (size_of image) p → in_snapshot (block_on image p) ≡ false → block_on new p ≡ block_on image p) where
       wf_new : IsWellFormed new
       wf_new = well_formed-same image new wf shape.meaning
 
@@ -148,32 +149,32 @@ module _ (image : Image) (wf : IsWellFormed image) (kept : ℕ → Bool) where
       clash : (b : Bool) → b ≡ true → b ≡ false → ⊥
       clash b one two = absurd (cc)
 
-      loose : (f : WordPath) → IsFrontAmong image wf kept (gone image wf kept [] ws) f → (x : Bool) → is_kept_at new kept f ≡ x → is_kept_at new kept f ≡ false
+      loose : (f : WordPath) → IsFrontAmong image wf in_snapshot (gone image wf in_snapshot [] ws) f → (x : Bool) → is_in_snapshot_at new in_snapshot f ≡ x → is_in_snapshot_at new in_snapshot f ≡ false
       loose f front false e = e
-      loose f front true e = absurd (impossible (kept (block_on image (path_trail f))) refl)
+      loose f front true e = absurd (impossible (in_snapshot (block_on image (path_trail f))) refl)
         where
           of : IsPointerPath image f
-          of = path_of image wf kept (gone image wf kept [] ws) all_of.ways f front
+          of = path_of image wf in_snapshot (gone image wf in_snapshot [] ws) all_of.ways f front
 
           there_new : is_there_now new f ≡ true
-          there_new = there_of new wf_new kept f e
+          there_new = there_of new wf_new in_snapshot f e
 
           there_old : is_there_now image f ≡ true
           there_old = sym (there_same f of) ∙ there_new
 
-          kept_new : kept (block_on new (path_trail f)) ≡ true
-          kept_new = sym (kept_is new wf_new f (new_path f of) there_new kept) ∙ e
+          in_snapshot_new : in_snapshot (block_on new (path_trail f)) ≡ true
+          in_snapshot_new = sym (in_snapshot_is new wf_new f (new_path f of) there_new in_snapshot) ∙ e
 
-          impossible : (y : Bool) → kept (block_on image (path_trail f)) ≡ y → ⊥
+          impossible : (y : Bool) → in_snapshot (block_on image (path_trail f)) ≡ y → ⊥
           impossible true is =
-              clash (kept (block_on new (path_trail f))) kept_new
-              (copied (path_trail f) (trail-has (thawed_on image kept ws) f (kept_found f front (kept_is image wf f of there_old kept ∙ is))))
+              clash (in_snapshot (block_on new (path_trail f))) in_snapshot_new
+              (copied (path_trail f) (trail-has (thawed_on image in_snapshot ws) f (in_snapshot_found f front (in_snapshot_is image wf f of there_old in_snapshot ∙ is))))
           impossible false is =
-              clash (kept (block_on new (path_trail f))) kept_new
-              (ap kept (uncopied (path_trail f) (there_pointer image wf f of there_old).0 is) ∙ is)
+              clash (in_snapshot (block_on new (path_trail f))) in_snapshot_new
+              (ap in_snapshot (uncopied (path_trail f) (there_pointer image wf f of there_old).0 is) ∙ is)
 
-      pub clear : thawed_on new kept ws ≡ []
-      clear = filter_none (is_kept_at new kept) (fronts_of [] ws) (λ f has. loose f (among f (fronts_has [] ws f has)) (is_kept_at new kept f) refl)
+      pub clear : thawed_on new in_snapshot ws ≡ []
+      clear = filter_none (is_in_snapshot_at new in_snapshot) (fronts_of [] ws) (λ f has. loose f (among f (fronts_has [] ws f has)) (is_in_snapshot_at new in_snapshot f) refl)
         where
-          among : (f : WordPath) → IsFrontAmong image wf kept ws f → IsFrontAmong image wf kept (gone image wf kept [] ws) f
+          among : (f : WordPath) → IsFrontAmong image wf in_snapshot ws f → IsFrontAmong image wf in_snapshot (gone image wf in_snapshot [] ws) f
           among f front = record { way = front.way; count = front.count; has = gone_has [] ws front.way (inr front.has); less = front.less; is = front.is }

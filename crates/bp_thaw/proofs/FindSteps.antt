@@ -4,7 +4,7 @@ use Rattle.std.specs.List.{list_any, slice_index}
 use Rattle.std.proofs.lemmas.Bool.{cases_eq}
 use Rattle.std.proofs.lemmas.List.{length-take-le, take-append-drop, take_more}
 use Rattle.bp_limits.specs.Limits.{max_blocks}
-use Rattle.bp_layout.specs.Thaw.{is_kept_at, is_there_now}
+use Rattle.bp_layout.specs.Thaw.{is_in_snapshot_at, is_there_now}
 use Rattle.bp_layout.specs.WellFormed.{IsWellFormed}
 use Rattle.bp_layout.specs.WordPaths.{WordPath, address, digits, inode_path, tree_path}
 use Rattle.bp_layout.specs.Words.{Image, block_count, block_of, height_of, word}
@@ -24,37 +24,37 @@ pub any-map : (image : Image) (found : List WordPath) (place : ℕ) → list_any
 any-map image [] place = refl
 any-map image (f ∷ found) place = ap (λ b. (address image f == place) || b) (any-map image found place)
 
-pub found_in-more : (image : Image) (kept : ℕ → Bool) (found ws : List WordPath) (w : WordPath) → found_in image kept found (ws ++ w ∷ []) ≡ found_on image kept (found_in image kept found ws) w (length w)
-found_in-more image kept found [] w = refl
-found_in-more image kept found (v ∷ ws) w = found_in-more image kept (found_on image kept found v (length v)) ws w
+pub found_in-more : (image : Image) (in_snapshot : ℕ → Bool) (found ws : List WordPath) (w : WordPath) → found_in image in_snapshot found (ws ++ w ∷ []) ≡ found_on image in_snapshot (found_in image in_snapshot found ws) w (length w)
+found_in-more image in_snapshot found [] w = refl
+found_in-more image in_snapshot found (v ∷ ws) w = found_in-more image in_snapshot (found_on image in_snapshot found v (length v)) ws w
 
-module _ (image : Image) (kept : ℕ → Bool) (found : List WordPath) (w : WordPath) (d : ℕ) where
-  pub found-passes : is_kept_at image kept (take d w) ≡ false → found_on image kept found w (d + 1) ≡ found_on image kept found w d
-  found-passes e = let next : d + 1 ≡ suc d = omega arith in ap (found_on image kept found w) next ∙ rw e refl
+module _ (image : Image) (in_snapshot : ℕ → Bool) (found : List WordPath) (w : WordPath) (d : ℕ) where
+  pub found-passes : is_in_snapshot_at image in_snapshot (take d w) ≡ false → found_on image in_snapshot found w (d + 1) ≡ found_on image in_snapshot found w d
+  found-passes e = let next : d + 1 ≡ suc d = omega arith in ap (found_on image in_snapshot found w) next ∙ rw e refl
 
-  pub found-old : is_kept_at image kept (take d w) ≡ true → is_found image (found_on image kept found w d) (take d w) ≡ true → found_on image kept found w (d + 1) ≡ found_on image kept found w d
-  found-old e f = let next : d + 1 ≡ suc d = omega arith in ap (found_on image kept found w) next ∙ rw (e, f) refl
+  pub found-old : is_in_snapshot_at image in_snapshot (take d w) ≡ true → is_found image (found_on image in_snapshot found w d) (take d w) ≡ true → found_on image in_snapshot found w (d + 1) ≡ found_on image in_snapshot found w d
+  found-old e f = let next : d + 1 ≡ suc d = omega arith in ap (found_on image in_snapshot found w) next ∙ rw (e, f) refl
 
-  pub found-new : is_kept_at image kept (take d w) ≡ true → is_found image (found_on image kept found w d) (take d w) ≡ false → found_on image kept found w (d + 1) ≡ found_on image kept found w d ++ take d w ∷ []
-  found-new e f = let next : d + 1 ≡ suc d = omega arith in ap (found_on image kept found w) next ∙ rw (e, f) refl
+  pub found-new : is_in_snapshot_at image in_snapshot (take d w) ≡ true → is_found image (found_on image in_snapshot found w d) (take d w) ≡ false → found_on image in_snapshot found w (d + 1) ≡ found_on image in_snapshot found w d ++ take d w ∷ []
+  found-new e f = let next : d + 1 ≡ suc d = omega arith in ap (found_on image in_snapshot found w) next ∙ rw (e, f) refl
 
 -- a place is added, but where it is there
-pub add_step : (image : Image) (kept : ℕ → Bool) (found : List WordPath) (w : WordPath) (d : ℕ) (places new : List ℕ) (place : ℕ) → places ≡ map (address image) (found_on image kept found w d) → place ≡ address image (take d w) →
-    is_kept_at image kept (take d w) ≡ true → (list_any (λ other. other == place) places ≡ true → new ≡ places) → (list_any (λ other. other == place) places ≡ false → new ≡ places ++ place ∷ []) →
-    new ≡ map (address image) (found_on image kept found w (d + 1))
-add_step image kept found w d places new place are here is old more = go (is_found image (found_on image kept found w d) (take d w)) refl
+pub add_step : (image : Image) (in_snapshot : ℕ → Bool) (found : List WordPath) (w : WordPath) (d : ℕ) (places new : List ℕ) (place : ℕ) → places ≡ map (address image) (found_on image in_snapshot found w d) → place ≡ address image (take d w) →
+    is_in_snapshot_at image in_snapshot (take d w) ≡ true → (list_any (λ other. other == place) places ≡ true → new ≡ places) → (list_any (λ other. other == place) places ≡ false → new ≡ places ++ place ∷ []) →
+    new ≡ map (address image) (found_on image in_snapshot found w (d + 1))
+add_step image in_snapshot found w d places new place are here is old more = go (is_found image (found_on image in_snapshot found w d) (take d w)) refl
   where
-    flag : list_any (λ other. other == place) places ≡ is_found image (found_on image kept found w d) (take d w)
+    flag : list_any (λ other. other == place) places ≡ is_found image (found_on image in_snapshot found w d) (take d w)
     flag =
         ap (λ p. list_any (λ other. other == p) places) here
         ∙ ap (list_any (λ other. other == address image (take d w))) are
-        ∙ any-map image (found_on image kept found w d) (address image (take d w))
+        ∙ any-map image (found_on image in_snapshot found w d) (address image (take d w))
 
-    go : (x : Bool) → is_found image (found_on image kept found w d) (take d w) ≡ x → new ≡ map (address image) (found_on image kept found w (d + 1))
-    go true e = old (flag ∙ e) ∙ are ∙ ap (map (address image)) (sym (found-old image kept found w d is e))
+    go : (x : Bool) → is_found image (found_on image in_snapshot found w d) (take d w) ≡ x → new ≡ map (address image) (found_on image in_snapshot found w (d + 1))
+    go true e = old (flag ∙ e) ∙ are ∙ ap (map (address image)) (sym (found-old image in_snapshot found w d is e))
     go false e =
-        more (flag ∙ e) ∙ ap (λ xs. xs ++ place ∷ []) are ∙ ap (λ p. map (address image) (found_on image kept found w d) ++ p ∷ []) here
-        ∙ sym (map-more (address image) (found_on image kept found w d) (take d w)) ∙ ap (map (address image)) (sym (found-new image kept found w d is e))
+        more (flag ∙ e) ∙ ap (λ xs. xs ++ place ∷ []) are ∙ ap (λ p. map (address image) (found_on image in_snapshot found w d) ++ p ∷ []) here
+        ∙ sym (map-more (address image) (found_on image in_snapshot found w d) (take d w)) ∙ ap (map (address image)) (sym (found-new image in_snapshot found w d is e))
 
 -- slots are low
 low_append : (xs ys : List ℕ) → ((n : ℕ) → get_or xs n 0 < 512) → ((n : ℕ) → get_or ys n 0 < 512) → (n : ℕ) → get_or (xs ++ ys) n 0 < 512
@@ -79,7 +79,7 @@ low_slot image w way n = subst (λ p. get_or p n 0 < 512) (sym way.is) (low_path
 
 -- a pointer of a way, the block to which it leads, and the place of the next one
 pub record IsOnWay (image : Image) (w : WordPath) (d block : ℕ) : Type 0 where
-  pub kept : (kept : ℕ → Bool) → is_kept_at image kept (take d w) ≡ kept block
+  pub kept : (in_snapshot : ℕ → Bool) → is_in_snapshot_at image in_snapshot (take d w) ≡ in_snapshot block
   pub inside : block < block_count image
   pub fits : block < max_blocks
   pub slot : get_or w d 0 < 512
@@ -118,16 +118,16 @@ module _ (image : Image) (wf : IsWellFormed image) (w : WordPath) (way : IsWayIn
       (subst (IsTreePointer image (size_of image)) back (pointer_fronts image (size_of image) (wf_forest image wf) w n d low one))
       (subst (λ t. block_on image t ≢ 0) back (blocks_up n d low some))
 
-  not_kept : (kept : ℕ → Bool) (f : WordPath) → is_there_now image f ≡ false → is_kept_at image kept f ≡ false
-  not_kept kept f none = rw none refl
+  not_in_snapshot : (in_snapshot : ℕ → Bool) (f : WordPath) → is_there_now image f ≡ false → is_in_snapshot_at image in_snapshot f ≡ false
+  not_in_snapshot in_snapshot f none = rw none refl
 
   -- nothing is found below what is not there
-  pub found-ends : (kept : ℕ → Bool) (found : List WordPath) (d n : ℕ) → d < length w → is_there_now image (take d w) ≡ false → n + d ≤ length w → found_on image kept found w (n + d) ≡ found_on image kept found w d
-  found-ends kept found d zero low none fits = let same : 0 + d ≡ d = omega arith in ap (found_on image kept found w) same
-  found-ends kept found d (suc n) low none fits =
+  pub found-ends : (in_snapshot : ℕ → Bool) (found : List WordPath) (d n : ℕ) → d < length w → is_there_now image (take d w) ≡ false → n + d ≤ length w → found_on image in_snapshot found w (n + d) ≡ found_on image in_snapshot found w d
+  found-ends in_snapshot found d zero low none fits = let same : 0 + d ≡ d = omega arith in ap (found_on image in_snapshot found w) same
+  found-ends in_snapshot found d (suc n) low none fits =
       let gone : is_there_now image (take (n + d) w) ≡ false = go (is_there_now image (take (n + d) w)) refl in
       let next : suc n + d ≡ suc (n + d) = omega arith in
-      ap (found_on image kept found w) next ∙ rw (not_kept kept (take (n + d) w) gone) (found-ends kept found d n low none (omega (arith, fits)))
+      ap (found_on image in_snapshot found w) next ∙ rw (not_in_snapshot in_snapshot (take (n + d) w) gone) (found-ends in_snapshot found d n low none (omega (arith, fits)))
     where
       go : (x : Bool) → is_there_now image (take (n + d) w) ≡ x → is_there_now image (take (n + d) w) ≡ false
       go false e = e

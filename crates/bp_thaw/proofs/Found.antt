@@ -1,4 +1,4 @@
--- What is found on the ways are just the kept blocks on them.
+-- What is found on the ways are just the blocks of the snapshot on them.
 use Rattle.std.proofs.Common.{◌≡◌, ℕ, zero, suc, ◌+◌, ◌-◌, ◌<◌, ◌≤◌, List, [], ◌∷◌, ◌++◌, map, filter, length, take, Bool, true, false, not, ◌&&◌, ◌||◌, ◌==◌, refl, sym, ◌∙◌, ap, ap₂, subst, arith, inl, inr, true≢false, append_assoc}
 use Rattle.std.specs.Prelude.{nat_lt}
 use Rattle.std.specs.List.{list_any, range_with_len}
@@ -11,7 +11,7 @@ use Rattle.std.proofs.lemmas.List.FromFn.{map-range_with_len_more}
 use Rattle.std.proofs.lemmas.Slice.Eq.{bytes_eq-Decides}
 use Rattle.bp_layout.specs.Members.{AreApart, Has}
 use Rattle.bp_layout.specs.Need.{prefixes_from}
-use Rattle.bp_layout.specs.Thaw.{fronts_of, is_front, is_kept_at, is_there_now, thawed_on}
+use Rattle.bp_layout.specs.Thaw.{fronts_of, is_front, is_in_snapshot_at, is_there_now, thawed_on}
 use Rattle.bp_layout.specs.WellFormed.{IsWellFormed}
 use Rattle.bp_layout.specs.WordPaths.{WordPath, address}
 use Rattle.bp_layout.specs.Words.{Image}
@@ -80,28 +80,28 @@ not_found image (g ∷ found) f none (inr later) = not_found image found f (go (
     go true e = absurd (true≢false (sym (or_left (address image g == address image f) (is_found image found f) e) ∙ none))
     go false e = rw e at none
 
-pub found_apart : (image : Image) (kept : ℕ → Bool) (found : List WordPath) (w : WordPath) (d : ℕ) → AreApart (map (address image) found) → AreApart (map (address image) (found_on image kept found w d))
-found_apart image kept found w zero apart = apart
-found_apart image kept found w (suc d) apart =
-    go (is_kept_at image kept (take d w)) refl (is_found image (found_on image kept found w d) (take d w)) refl (found_apart image kept found w d apart)
+pub found_apart : (image : Image) (in_snapshot : ℕ → Bool) (found : List WordPath) (w : WordPath) (d : ℕ) → AreApart (map (address image) found) → AreApart (map (address image) (found_on image in_snapshot found w d))
+found_apart image in_snapshot found w zero apart = apart
+found_apart image in_snapshot found w (suc d) apart =
+    go (is_in_snapshot_at image in_snapshot (take d w)) refl (is_found image (found_on image in_snapshot found w d) (take d w)) refl (found_apart image in_snapshot found w d apart)
   where
-    go : (x : Bool) → is_kept_at image kept (take d w) ≡ x → (y : Bool) → is_found image (found_on image kept found w d) (take d w) ≡ y → AreApart (map (address image) (found_on image kept found w d)) →
-        AreApart (map (address image) (found_on image kept found w (suc d)))
+    go : (x : Bool) → is_in_snapshot_at image in_snapshot (take d w) ≡ x → (y : Bool) → is_found image (found_on image in_snapshot found w d) (take d w) ≡ y → AreApart (map (address image) (found_on image in_snapshot found w d)) →
+        AreApart (map (address image) (found_on image in_snapshot found w (suc d)))
     go false e y f rest = rw e rest
     go true e true f rest = rw (e, f) rest
     go true e false f rest =
         rw (e, f)
-        (subst AreApart (sym (map-more (address image) (found_on image kept found w d) (take d w)))
-        (apart-append (map (address image) (found_on image kept found w d)) (address image (take d w) ∷ []) rest (tt, tt)
-        (λ x early late. elim late [ inl same ↦ not_found image (found_on image kept found w d) (take d w) f (subst (Has (map (address image) (found_on image kept found w d))) (sym same) early) | inr none ↦ absurd none ])))
+        (subst AreApart (sym (map-more (address image) (found_on image in_snapshot found w d) (take d w)))
+        (apart-append (map (address image) (found_on image in_snapshot found w d)) (address image (take d w) ∷ []) rest (tt, tt)
+        (λ x early late. elim late [ inl same ↦ not_found image (found_on image in_snapshot found w d) (take d w) f (subst (Has (map (address image) (found_on image in_snapshot found w d))) (sym same) early) | inr none ↦ absurd none ])))
 
-pub all_apart : (image : Image) (kept : ℕ → Bool) (found ws : List WordPath) → AreApart (map (address image) found) → AreApart (map (address image) (found_in image kept found ws))
-all_apart image kept found [] apart = apart
-all_apart image kept found (w ∷ ws) apart = all_apart image kept (found_on image kept found w (length w)) ws (found_apart image kept found w (length w) apart)
+pub all_apart : (image : Image) (in_snapshot : ℕ → Bool) (found ws : List WordPath) → AreApart (map (address image) found) → AreApart (map (address image) (found_in image in_snapshot found ws))
+all_apart image in_snapshot found [] apart = apart
+all_apart image in_snapshot found (w ∷ ws) apart = all_apart image in_snapshot (found_on image in_snapshot found w (length w)) ws (found_apart image in_snapshot found w (length w) apart)
 
 -- ---- what is found
 
-module _ (image : Image) (wf : IsWellFormed image) (kept : ℕ → Bool) where
+module _ (image : Image) (wf : IsWellFormed image) (in_snapshot : ℕ → Bool) where
   -- a front of one of these paths
   pub record IsFrontAmong (paths : List WordPath) (f : WordPath) : Type 0 where
     pub way : WordPath
@@ -113,11 +113,11 @@ module _ (image : Image) (wf : IsWellFormed image) (kept : ℕ → Bool) where
   -- found so far, on these paths
   pub record AreFound (earlier found : List WordPath) : Type 0 where
     pub ways : (w : WordPath) → Has earlier w → IsWayIn image w
-    pub kept_there : (f : WordPath) → Has found f → is_kept_at image kept f ≡ true
+    pub in_snapshot_there : (f : WordPath) → Has found f → is_in_snapshot_at image in_snapshot f ≡ true
     pub fronts : (f : WordPath) → Has found f → IsFrontAmong earlier f
-    pub same : (f : WordPath) → IsPointerPath image f → is_kept_at image kept f ≡ true → is_found image found f ≡ list_any (is_front f) earlier
+    pub same : (f : WordPath) → IsPointerPath image f → is_in_snapshot_at image in_snapshot f ≡ true → is_found image found f ≡ list_any (is_front f) earlier
 
-  pub there_of : (f : WordPath) → is_kept_at image kept f ≡ true → is_there_now image f ≡ true
+  pub there_of : (f : WordPath) → is_in_snapshot_at image in_snapshot f ≡ true → is_there_now image f ≡ true
   there_of f is = (and_true _ _ is).0
 
   pub path_of : (earlier : List WordPath) → ((w : WordPath) → Has earlier w → IsWayIn image w) → (f : WordPath) → IsFrontAmong earlier f → IsPointerPath image f
@@ -127,92 +127,92 @@ module _ (image : Image) (wf : IsWellFormed image) (kept : ℕ → Bool) where
   new_to earlier f = not (list_any (is_front f) earlier)
 
   abbrev rest_of : List WordPath → WordPath → ℕ → List WordPath
-  rest_of earlier w d = filter (is_kept_at image kept) (filter (new_to earlier) (map (λ n. take n w) (range_with_len 0 d)))
+  rest_of earlier w d = filter (is_in_snapshot_at image in_snapshot) (filter (new_to earlier) (map (λ n. take n w) (range_with_len 0 d)))
 
   -- a member of these
   record IsRest (earlier : List WordPath) (w : WordPath) (d : ℕ) (f : WordPath) : Type 0 where
     pub count : ℕ
     pub less : count < d
     pub is : f ≡ take count w
-    pub kept_there : is_kept_at image kept f ≡ true
+    pub in_snapshot_there : is_in_snapshot_at image in_snapshot f ≡ true
 
   rest_has : (earlier : List WordPath) (w : WordPath) (d : ℕ) (f : WordPath) → Has (rest_of earlier w d) f → IsRest earlier w d f
   rest_has earlier w d f has =
-      let one = filter-has (is_kept_at image kept) (filter (new_to earlier) (map (λ n. take n w) (range_with_len 0 d))) f has in
+      let one = filter-has (is_in_snapshot_at image in_snapshot) (filter (new_to earlier) (map (λ n. take n w) (range_with_len 0 d))) f has in
       let two = filter-has (new_to earlier) (map (λ n. take n w) (range_with_len 0 d)) f one.0 in
       let three = mapped_range (λ n. take n w) 0 d f two.0 in
-      record { count = three.0; less = omega (arith, three.1); is = three.2; kept_there = one.1 }
+      record { count = three.0; less = omega (arith, three.1); is = three.2; in_snapshot_there = one.1 }
 
-  has_rest : (earlier : List WordPath) (w : WordPath) (d n : ℕ) → n < d → is_kept_at image kept (take n w) ≡ true → list_any (is_front (take n w)) earlier ≡ false → Has (rest_of earlier w d) (take n w)
+  has_rest : (earlier : List WordPath) (w : WordPath) (d n : ℕ) → n < d → is_in_snapshot_at image in_snapshot (take n w) ≡ true → list_any (is_front (take n w)) earlier ≡ false → Has (rest_of earlier w d) (take n w)
   has_rest earlier w d n low is none =
-      has-filter (is_kept_at image kept) (filter (new_to earlier) (map (λ n. take n w) (range_with_len 0 d))) (take n w)
+      has-filter (is_in_snapshot_at image in_snapshot) (filter (new_to earlier) (map (λ n. take n w) (range_with_len 0 d))) (take n w)
       (has-filter (new_to earlier) (map (λ n. take n w) (range_with_len 0 d)) (take n w) (has-map (λ n. take n w) (range_with_len 0 d) n (has-range 0 d n (omega arith) (omega (arith, low)))) (rw none refl)) is
 
-  rest_more : (earlier : List WordPath) (w : WordPath) (d : ℕ) → rest_of earlier w (suc d) ≡ rest_of earlier w d ++ filter (is_kept_at image kept) (filter (new_to earlier) (take d w ∷ []))
+  rest_more : (earlier : List WordPath) (w : WordPath) (d : ℕ) → rest_of earlier w (suc d) ≡ rest_of earlier w d ++ filter (is_in_snapshot_at image in_snapshot) (filter (new_to earlier) (take d w ∷ []))
   rest_more earlier w d =
       let next : suc d ≡ d + 1 = omega arith in
       ap (λ n. rest_of earlier w n) next
-      ∙ ap (λ xs. filter (is_kept_at image kept) (filter (new_to earlier) xs)) (map-range_with_len_more (λ n. take n w) 0 d d (omega arith))
-      ∙ ap (filter (is_kept_at image kept)) (filter-append (new_to earlier) (map (λ n. take n w) (range_with_len 0 d)) (take d w ∷ []))
-      ∙ filter-append (is_kept_at image kept) (filter (new_to earlier) (map (λ n. take n w) (range_with_len 0 d))) (filter (new_to earlier) (take d w ∷ []))
+      ∙ ap (λ xs. filter (is_in_snapshot_at image in_snapshot) (filter (new_to earlier) xs)) (map-range_with_len_more (λ n. take n w) 0 d d (omega arith))
+      ∙ ap (filter (is_in_snapshot_at image in_snapshot)) (filter-append (new_to earlier) (map (λ n. take n w) (range_with_len 0 d)) (take d w ∷ []))
+      ∙ filter-append (is_in_snapshot_at image in_snapshot) (filter (new_to earlier) (map (λ n. take n w) (range_with_len 0 d))) (filter (new_to earlier) (take d w ∷ []))
 
   -- no place of a pointer higher up is that of one below it
-  rest_apart : (earlier : List WordPath) (w : WordPath) → IsWayIn image w → (d : ℕ) → d < length w → is_kept_at image kept (take d w) ≡ true → is_found image (rest_of earlier w d) (take d w) ≡ false
+  rest_apart : (earlier : List WordPath) (w : WordPath) → IsWayIn image w → (d : ℕ) → d < length w → is_in_snapshot_at image in_snapshot (take d w) ≡ true → is_found image (rest_of earlier w d) (take d w) ≡ false
   rest_apart earlier w way d low is = any_none _ (rest_of earlier w d) (λ g has. ne_eqb (address image g) (address image (take d w)) (apart g (rest_has earlier w d g has)))
     where
       apart : (g : WordPath) → IsRest earlier w d g → address image g ≡ address image (take d w) → ⊥
       apart g rest e =
           let of : IsPointerPath image g = subst (IsPointerPath image) (sym rest.is) (front_path image wf w rest.count way (omega (arith, rest.less, low))) in
-          let same : g ≡ take d w = paths_apart image wf g (take d w) of (front_path image wf w d way low) (there_of g rest.kept_there) (there_of (take d w) is) e in
+          let same : g ≡ take d w = paths_apart image wf g (take d w) of (front_path image wf w d way low) (there_of g rest.in_snapshot_there) (there_of (take d w) is) e in
           let one : length (take rest.count w) ≡ rest.count = length-take-le rest.count w (omega (arith, rest.less, low)) in
           let two : length (take d w) ≡ d = length-take-le d w (omega (arith, low)) in
           let lengths : rest.count ≡ d = sym one ∙ ap (λ (p : WordPath). length p) (sym rest.is ∙ same) ∙ two in
           omega (arith, lengths, rest.less)
 
   module _ (earlier found : List WordPath) (so_far : AreFound earlier found) (w : WordPath) (way : IsWayIn image w) where
-    on_is : (d : ℕ) → d ≤ length w → found_on image kept found w d ≡ found ++ rest_of earlier w d
+    on_is : (d : ℕ) → d ≤ length w → found_on image in_snapshot found w d ≡ found ++ rest_of earlier w d
     on_is zero low = sym (append_nil found)
       where
         append_nil : (xs : List WordPath) → xs ++ [] ≡ xs
         append_nil [] = refl
         append_nil (x ∷ xs) = ap (λ more. x ∷ more) (append_nil xs)
-    on_is (suc d) low = go (is_kept_at image kept (take d w)) refl (list_any (is_front (take d w)) earlier) refl (on_is d (omega (arith, low)))
+    on_is (suc d) low = go (is_in_snapshot_at image in_snapshot (take d w)) refl (list_any (is_front (take d w)) earlier) refl (on_is d (omega (arith, low)))
       where
         append_nil : (xs : List WordPath) → xs ++ [] ≡ xs
         append_nil [] = refl
         append_nil (x ∷ xs) = ap (λ more. x ∷ more) (append_nil xs)
 
-        last : List WordPath → found ++ rest_of earlier w (suc d) ≡ (found ++ rest_of earlier w d) ++ filter (is_kept_at image kept) (filter (new_to earlier) (take d w ∷ []))
-        last _ = ap (λ xs. found ++ xs) (rest_more earlier w d) ∙ sym (append_assoc found (rest_of earlier w d) (filter (is_kept_at image kept) (filter (new_to earlier) (take d w ∷ []))))
+        last : List WordPath → found ++ rest_of earlier w (suc d) ≡ (found ++ rest_of earlier w d) ++ filter (is_in_snapshot_at image in_snapshot) (filter (new_to earlier) (take d w ∷ []))
+        last _ = ap (λ xs. found ++ xs) (rest_more earlier w d) ∙ sym (append_assoc found (rest_of earlier w d) (filter (is_in_snapshot_at image in_snapshot) (filter (new_to earlier) (take d w ∷ []))))
 
-        is_old : is_kept_at image kept (take d w) ≡ true → is_found image (found ++ rest_of earlier w d) (take d w) ≡ list_any (is_front (take d w)) earlier
+        is_old : is_in_snapshot_at image in_snapshot (take d w) ≡ true → is_found image (found ++ rest_of earlier w d) (take d w) ≡ list_any (is_front (take d w)) earlier
         is_old is =
             list_any-append (λ other. address image other == address image (take d w)) found (rest_of earlier w d)
             ∙ ap₂ (λ a b. a || b) (so_far.same (take d w) (front_path image wf w d way (omega (arith, low))) is) (rest_apart earlier w way d (omega (arith, low)) is)
             ∙ or_false (list_any (is_front (take d w)) earlier)
 
-        none_kept_here : (y : Bool) → list_any (is_front (take d w)) earlier ≡ y → is_kept_at image kept (take d w) ≡ false → filter (is_kept_at image kept) (filter (new_to earlier) (take d w ∷ [])) ≡ []
-        none_kept_here true f e = rw f refl
-        none_kept_here false f e = rw (f, e) refl
+        none_in_snapshot_here : (y : Bool) → list_any (is_front (take d w)) earlier ≡ y → is_in_snapshot_at image in_snapshot (take d w) ≡ false → filter (is_in_snapshot_at image in_snapshot) (filter (new_to earlier) (take d w ∷ [])) ≡ []
+        none_in_snapshot_here true f e = rw f refl
+        none_in_snapshot_here false f e = rw (f, e) refl
 
-        go : (x : Bool) → is_kept_at image kept (take d w) ≡ x → (y : Bool) → list_any (is_front (take d w)) earlier ≡ y → found_on image kept found w d ≡ found ++ rest_of earlier w d →
-            found_on image kept found w (suc d) ≡ found ++ rest_of earlier w (suc d)
-        go false e y f rest = rw e (rest ∙ sym (append_nil (found ++ rest_of earlier w d)) ∙ ap (λ xs. (found ++ rest_of earlier w d) ++ xs) (sym (none_kept_here y f e)) ∙ sym (last []))
+        go : (x : Bool) → is_in_snapshot_at image in_snapshot (take d w) ≡ x → (y : Bool) → list_any (is_front (take d w)) earlier ≡ y → found_on image in_snapshot found w d ≡ found ++ rest_of earlier w d →
+            found_on image in_snapshot found w (suc d) ≡ found ++ rest_of earlier w (suc d)
+        go false e y f rest = rw e (rest ∙ sym (append_nil (found ++ rest_of earlier w d)) ∙ ap (λ xs. (found ++ rest_of earlier w d) ++ xs) (sym (none_in_snapshot_here y f e)) ∙ sym (last []))
         go true e true f rest =
-            let old : is_found image (found_on image kept found w d) (take d w) ≡ true = ap (λ xs. is_found image xs (take d w)) rest ∙ is_old e ∙ f in
-            let nothing : filter (is_kept_at image kept) (filter (new_to earlier) (take d w ∷ [])) ≡ [] = rw f refl in
+            let old : is_found image (found_on image in_snapshot found w d) (take d w) ≡ true = ap (λ xs. is_found image xs (take d w)) rest ∙ is_old e ∙ f in
+            let nothing : filter (is_in_snapshot_at image in_snapshot) (filter (new_to earlier) (take d w ∷ [])) ≡ [] = rw f refl in
             rw (e, old) (rest ∙ sym (append_nil (found ++ rest_of earlier w d)) ∙ ap (λ xs. (found ++ rest_of earlier w d) ++ xs) (sym nothing) ∙ sym (last []))
         go true e false f rest =
-            let new : is_found image (found_on image kept found w d) (take d w) ≡ false = ap (λ xs. is_found image xs (take d w)) rest ∙ is_old e ∙ f in
-            let one : filter (is_kept_at image kept) (filter (new_to earlier) (take d w ∷ [])) ≡ take d w ∷ [] = rw (f, e) refl in
+            let new : is_found image (found_on image in_snapshot found w d) (take d w) ≡ false = ap (λ xs. is_found image xs (take d w)) rest ∙ is_old e ∙ f in
+            let one : filter (is_in_snapshot_at image in_snapshot) (filter (new_to earlier) (take d w ∷ [])) ≡ take d w ∷ [] = rw (f, e) refl in
             rw (e, new) (ap (λ xs. xs ++ take d w ∷ []) rest ∙ ap (λ xs. (found ++ rest_of earlier w d) ++ xs) (sym one) ∙ sym (last []))
 
     ways_now : (v : WordPath) → Has (w ∷ earlier) v → IsWayIn image v
     ways_now v (inl e) = subst (IsWayIn image) e way
     ways_now v (inr later) = so_far.ways v later
 
-    kept_now : (f : WordPath) → Has (found ++ rest_of earlier w (length w)) f → is_kept_at image kept f ≡ true
-    kept_now f has = elim (has-either found (rest_of earlier w (length w)) f has) [ inl early ↦ so_far.kept_there f early | inr late ↦ (rest_has earlier w (length w) f late).kept_there ]
+    in_snapshot_now : (f : WordPath) → Has (found ++ rest_of earlier w (length w)) f → is_in_snapshot_at image in_snapshot f ≡ true
+    in_snapshot_now f has = elim (has-either found (rest_of earlier w (length w)) f has) [ inl early ↦ so_far.in_snapshot_there f early | inr late ↦ (rest_has earlier w (length w) f late).in_snapshot_there ]
 
     fronts_now : (f : WordPath) → Has (found ++ rest_of earlier w (length w)) f → IsFrontAmong (w ∷ earlier) f
     fronts_now f has = elim (has-either found (rest_of earlier w (length w)) f has) [
@@ -220,22 +220,22 @@ module _ (image : Image) (wf : IsWellFormed image) (kept : ℕ → Bool) where
       | inr late ↦ let rest = rest_has earlier w (length w) f late in record { way = w; count = rest.count; has = inl refl; less = rest.less; is = rest.is }
     ]
 
-    rest_same : (f : WordPath) → IsPointerPath image f → is_kept_at image kept f ≡ true → list_any (is_front f) earlier ≡ false → (x : Bool) → is_front f w ≡ x → is_found image (rest_of earlier w (length w)) f ≡ x
+    rest_same : (f : WordPath) → IsPointerPath image f → is_in_snapshot_at image in_snapshot f ≡ true → list_any (is_front f) earlier ≡ false → (x : Bool) → is_front f w ≡ x → is_found image (rest_of earlier w (length w)) f ≡ x
     rest_same f of is none true e =
         let front = front_take f w e in
         let here : Has (rest_of earlier w (length w)) f =
         subst (Has (rest_of earlier w (length w))) (sym front.1)
-        (has_rest earlier w (length w) (length f) front.0 (subst (λ g. is_kept_at image kept g ≡ true) front.1 is) (subst (λ g. list_any (is_front g) earlier ≡ false) front.1 none)) in
+        (has_rest earlier w (length w) (length f) front.0 (subst (λ g. is_in_snapshot_at image in_snapshot g ≡ true) front.1 is) (subst (λ g. list_any (is_front g) earlier ≡ false) front.1 none)) in
         any_some (λ other. address image other == address image f) (rest_of earlier w (length w)) f here (eq-eqb (address image f) (address image f) refl)
     rest_same f of is none false e = any_none (λ other. address image other == address image f) (rest_of earlier w (length w)) (λ g has. ne_eqb (address image g) (address image f) (apart g (rest_has earlier w (length w) g has)))
       where
         apart : (g : WordPath) → IsRest earlier w (length w) g → address image g ≡ address image f → ⊥
         apart g rest same =
             let gof : IsPointerPath image g = subst (IsPointerPath image) (sym rest.is) (front_path image wf w rest.count way rest.less) in
-            let equal : g ≡ f = paths_apart image wf g f gof of (there_of g rest.kept_there) (there_of f is) same in
+            let equal : g ≡ f = paths_apart image wf g f gof of (there_of g rest.in_snapshot_there) (there_of f is) same in
             true≢false (sym (take_front w rest.count rest.less) ∙ ap (λ p. is_front p w) (sym rest.is ∙ equal) ∙ e)
 
-    same_now : (f : WordPath) → IsPointerPath image f → is_kept_at image kept f ≡ true → is_found image (found ++ rest_of earlier w (length w)) f ≡ list_any (is_front f) (w ∷ earlier)
+    same_now : (f : WordPath) → IsPointerPath image f → is_in_snapshot_at image in_snapshot f ≡ true → is_found image (found ++ rest_of earlier w (length w)) f ≡ list_any (is_front f) (w ∷ earlier)
     same_now f of is =
         list_any-append (λ other. address image other == address image f) found (rest_of earlier w (length w))
         ∙ ap (λ b. b || is_found image (rest_of earlier w (length w)) f) (so_far.same f of is)
@@ -246,7 +246,7 @@ module _ (image : Image) (wf : IsWellFormed image) (kept : ℕ → Bool) where
         go false e = rw e (rest_same f of is e (is_front f w) refl ∙ sym (or_false (is_front f w)))
 
     found_now : AreFound (w ∷ earlier) (found ++ rest_of earlier w (length w))
-    found_now = record { ways = ways_now; kept_there = kept_now; fronts = fronts_now; same = same_now }
+    found_now = record { ways = ways_now; in_snapshot_there = in_snapshot_now; fronts = fronts_now; same = same_now }
 
   -- the paths in the order in which they were gone
   abbrev pub gone : List WordPath → List WordPath → List WordPath
@@ -254,7 +254,7 @@ module _ (image : Image) (wf : IsWellFormed image) (kept : ℕ → Bool) where
   gone earlier (w ∷ ws) = gone (w ∷ earlier) ws
 
   pub all_found : (earlier found ws : List WordPath) → AreFound earlier found → ((w : WordPath) → Has ws w → IsWayIn image w) →
-      (found_in image kept found ws ≡ found ++ filter (is_kept_at image kept) (fronts_of earlier ws)) × AreFound (gone earlier ws) (found_in image kept found ws)
+      (found_in image in_snapshot found ws ≡ found ++ filter (is_in_snapshot_at image in_snapshot) (fronts_of earlier ws)) × AreFound (gone earlier ws) (found_in image in_snapshot found ws)
   all_found earlier found [] so_far ways = (sym (append_nil found), so_far)
     where
       append_nil : (xs : List WordPath) → xs ++ [] ≡ xs
@@ -262,28 +262,28 @@ module _ (image : Image) (wf : IsWellFormed image) (kept : ℕ → Bool) where
       append_nil (x ∷ xs) = ap (λ more. x ∷ more) (append_nil xs)
   all_found earlier found (w ∷ ws) so_far ways = go (all_found (w ∷ earlier) (found ++ rest_of earlier w (length w)) ws (found_now earlier found so_far w (ways w (inl refl))) (λ v later. ways v (inr later)))
     where
-      here : found_on image kept found w (length w) ≡ found ++ rest_of earlier w (length w)
+      here : found_on image in_snapshot found w (length w) ≡ found ++ rest_of earlier w (length w)
       here = on_is earlier found so_far w (ways w (inl refl)) (length w) (omega arith)
 
-      whole : rest_of earlier w (length w) ≡ filter (is_kept_at image kept) (filter (new_to earlier) (prefixes_from 0 w))
-      whole = let all : length w ≡ length w - 0 = omega arith in ap (λ n. filter (is_kept_at image kept) (filter (new_to earlier) (map (λ n. take n w) (range_with_len 0 n)))) all
+      whole : rest_of earlier w (length w) ≡ filter (is_in_snapshot_at image in_snapshot) (filter (new_to earlier) (prefixes_from 0 w))
+      whole = let all : length w ≡ length w - 0 = omega arith in ap (λ n. filter (is_in_snapshot_at image in_snapshot) (filter (new_to earlier) (map (λ n. take n w) (range_with_len 0 n)))) all
 
-      join : (found ++ rest_of earlier w (length w)) ++ filter (is_kept_at image kept) (fronts_of (w ∷ earlier) ws) ≡ found ++ filter (is_kept_at image kept) (fronts_of earlier (w ∷ ws))
+      join : (found ++ rest_of earlier w (length w)) ++ filter (is_in_snapshot_at image in_snapshot) (fronts_of (w ∷ earlier) ws) ≡ found ++ filter (is_in_snapshot_at image in_snapshot) (fronts_of earlier (w ∷ ws))
       join =
-          append_assoc found (rest_of earlier w (length w)) (filter (is_kept_at image kept) (fronts_of (w ∷ earlier) ws))
-          ∙ ap (λ xs. found ++ xs) (ap (λ xs. xs ++ filter (is_kept_at image kept) (fronts_of (w ∷ earlier) ws)) whole
-          ∙ sym (filter-append (is_kept_at image kept) (filter (new_to earlier) (prefixes_from 0 w)) (fronts_of (w ∷ earlier) ws)))
+          append_assoc found (rest_of earlier w (length w)) (filter (is_in_snapshot_at image in_snapshot) (fronts_of (w ∷ earlier) ws))
+          ∙ ap (λ xs. found ++ xs) (ap (λ xs. xs ++ filter (is_in_snapshot_at image in_snapshot) (fronts_of (w ∷ earlier) ws)) whole
+          ∙ sym (filter-append (is_in_snapshot_at image in_snapshot) (filter (new_to earlier) (prefixes_from 0 w)) (fronts_of (w ∷ earlier) ws)))
 
-      go : (found_in image kept (found ++ rest_of earlier w (length w)) ws ≡ (found ++ rest_of earlier w (length w)) ++ filter (is_kept_at image kept) (fronts_of (w ∷ earlier) ws))
-          × AreFound (gone (w ∷ earlier) ws) (found_in image kept (found ++ rest_of earlier w (length w)) ws) →
-          (found_in image kept found (w ∷ ws) ≡ found ++ filter (is_kept_at image kept) (fronts_of earlier (w ∷ ws))) × AreFound (gone earlier (w ∷ ws)) (found_in image kept found (w ∷ ws))
-      go rest = (ap (λ xs. found_in image kept xs ws) here ∙ rest.0 ∙ join, subst (λ xs. AreFound (gone (w ∷ earlier) ws) (found_in image kept xs ws)) (sym here) rest.1)
+      go : (found_in image in_snapshot (found ++ rest_of earlier w (length w)) ws ≡ (found ++ rest_of earlier w (length w)) ++ filter (is_in_snapshot_at image in_snapshot) (fronts_of (w ∷ earlier) ws))
+          × AreFound (gone (w ∷ earlier) ws) (found_in image in_snapshot (found ++ rest_of earlier w (length w)) ws) →
+          (found_in image in_snapshot found (w ∷ ws) ≡ found ++ filter (is_in_snapshot_at image in_snapshot) (fronts_of earlier (w ∷ ws))) × AreFound (gone earlier (w ∷ ws)) (found_in image in_snapshot found (w ∷ ws))
+      go rest = (ap (λ xs. found_in image in_snapshot xs ws) here ∙ rest.0 ∙ join, subst (λ xs. AreFound (gone (w ∷ earlier) ws) (found_in image in_snapshot xs ws)) (sym here) rest.1)
 
   found_nothing : AreFound [] []
-  found_nothing = record { ways = λ w none. absurd none; kept_there = λ f none. absurd none; fronts = λ f none. absurd none; same = λ f of is. refl }
+  found_nothing = record { ways = λ w none. absurd none; in_snapshot_there = λ f none. absurd none; fronts = λ f none. absurd none; same = λ f of is. refl }
 
-  pub found_is : (ws : List WordPath) → ((w : WordPath) → Has ws w → IsWayIn image w) → found_in image kept [] ws ≡ thawed_on image kept ws
+  pub found_is : (ws : List WordPath) → ((w : WordPath) → Has ws w → IsWayIn image w) → found_in image in_snapshot [] ws ≡ thawed_on image in_snapshot ws
   found_is ws ways = (all_found [] [] ws found_nothing ways).0
 
-  pub are_found : (ws : List WordPath) → ((w : WordPath) → Has ws w → IsWayIn image w) → AreFound (gone [] ws) (thawed_on image kept ws)
+  pub are_found : (ws : List WordPath) → ((w : WordPath) → Has ws w → IsWayIn image w) → AreFound (gone [] ws) (thawed_on image in_snapshot ws)
   are_found ws ways = subst (AreFound (gone [] ws)) (found_is ws ways) (all_found [] [] ws found_nothing ways).1

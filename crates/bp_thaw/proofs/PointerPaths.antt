@@ -12,7 +12,7 @@ use Rattle.bp_layout.specs.Need.{path_number, pointed}
 use Rattle.bp_layout.specs.Nodes.{TreeNode, is_present}
 use Rattle.bp_layout.specs.Reached.{IsReached}
 use Rattle.bp_layout.specs.Reached.IsReached.{inode_file}
-use Rattle.bp_layout.specs.Thaw.{heights_now, is_kept_at, is_there_now}
+use Rattle.bp_layout.specs.Thaw.{heights_now, is_in_snapshot_at, is_there_now}
 use Rattle.bp_layout.specs.Tree.{IsLivePointer, node, span}
 use Rattle.bp_layout.specs.WellFormed.{IsWellFormed}
 use Rattle.bp_layout.specs.WordPaths.{WordPath, address, digits, inode_path, tree_path}
@@ -257,8 +257,8 @@ module _ (image : Image) (wf : IsWellFormed image) where
       pub block_at : block_of (word image (address image path)) ≡ block_on image (path_trail path)
       block_at = ap (λ p. block_of (word image p)) address_is ∙ ap block_of (word-at_place image (path_trail path) (there_pointer there).1)
 
-      pub kept_is : (kept : ℕ → Bool) → is_kept_at image kept path ≡ kept (block_on image (path_trail path))
-      kept_is kept = rw there (ap kept block_at)
+      pub in_snapshot_is : (in_snapshot : ℕ → Bool) → is_in_snapshot_at image in_snapshot path ≡ in_snapshot (block_on image (path_trail path))
+      in_snapshot_is in_snapshot = rw there (ap in_snapshot block_at)
 
   -- no two have one place
   pub paths_apart : (p q : WordPath) → IsPointerPath image p → IsPointerPath image q → is_there_now image p ≡ true → is_there_now image q ≡ true → address image p ≡ address image q → p ≡ q

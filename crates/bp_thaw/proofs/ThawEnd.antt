@@ -44,7 +44,7 @@ use Rattle.bp_cow.proofs.CommitLaws.{has_led, led_has}
 use Rattle.bp_thaw.proofs.Linked.{thawed_words, words_now}
 use Rattle.bp_thaw.specs.Copies.{AreMarks, Copies, HasCopies, IsMark, Marks, blocks_of, placed_copies, copy_on, is_copied, links_among, places_of, source_of, turned_word}
 use Rattle.bp_thaw.specs.Thaws.{Thaws}
-use Rattle.bp_thaw.specs.Steps.{AreKept, FillsCopies, InBlocks, TakesAll}
+use Rattle.bp_thaw.specs.Steps.{AreInSnapshot, FillsCopies, InBlocks, TakesAll}
 use Rattle.bp_thaw.proofs.Marks.{are_copies, block_above, copy_on-has, has-copy_on, placed, places_apart, word-at_place}
 use Rattle.bp_thaw.proofs.Filled.{filled_thawing, nothing_stored, outside}
 use Rattle.bp_thaw.proofs.MarkAll.{block-marked, copies_marked, mark-from, mark_all, number-marked, once_by, trail-marked}
@@ -74,8 +74,8 @@ links_may P image every (c ∷ copies) each = go (is_copied image every (c.0 / 5
     go true is rest = rw is rest
     go false is rest = rw is (each c (inl refl) is, rest)
 
-module _ (kept : ℕ → Bool) (first : Memory) (before after : Set) (wf : IsWellFormed (current_words first)) (free : AreFreeBlocks (current_words first) kept (has before))
-    (trails : List Trail) (found : AreKept (current_words first) kept trails) (copies : Copies) (at : places_of copies ≡ map (place_on (current_words first)) trails) (apart : AreApart (places_of copies))
+module _ (in_snapshot : ℕ → Bool) (first : Memory) (before after : Set) (wf : IsWellFormed (current_words first)) (free : AreFreeBlocks (current_words first) in_snapshot (has before))
+    (trails : List Trail) (found : AreInSnapshot (current_words first) in_snapshot trails) (copies : Copies) (at : places_of copies ≡ map (place_on (current_words first)) trails) (apart : AreApart (places_of copies))
     (takes : TakesAll before after (blocks_of copies)) where
   abbrev old : Image
   old = current_words first
@@ -95,8 +95,8 @@ module _ (kept : ℕ → Bool) (first : Memory) (before after : Set) (wf : IsWel
   some : 0 < block_count old
   some = let least = wf.formatted.sized.at_least in omega (arith, least)
 
-  exact : IsExactSet old Pointer kept (has before)
-  exact = unheld_exact old (size_of old) forest kept (has before) free
+  exact : IsExactSet old Pointer in_snapshot (has before)
+  exact = unheld_exact old (size_of old) forest in_snapshot (has before) free
 
   abbrev marks : Marks
   marks = mark_all trails copies
@@ -193,7 +193,7 @@ module _ (kept : ℕ → Bool) (first : Memory) (before after : Set) (wf : IsWel
 
     unseen : (image : Image) → EachMay (AnyAt (InBlocks (blocks_of copies))) old image → Same old image
     unseen image each =
-        same_symmetric image old (same_unseen old (size_of old) kept (has before) wf forest (λ t r. le_of_eq refl) exact image each.size
+        same_symmetric image old (same_unseen old (size_of old) in_snapshot (has before) wf forest (λ t r. le_of_eq refl) exact image each.size
         (λ place used. beside_copies image each place (λ inside. bool_clash (has before (place / 512)) (takes.were (place / 512) inside) used)))
 
     -- ---- whichever pointers are stored
@@ -227,7 +227,7 @@ module _ (kept : ℕ → Bool) (first : Memory) (before after : Set) (wf : IsWel
     abbrev links : List (ℕ × ℕ)
     links = links_among (current_words mid) copies copies
 
-    open_link : (c : ℕ × ℕ) → Has copies c → is_copied (current_words mid) copies (c.0 / 512) ≡ false → IsOpen old kept (blocks_of copies) c.0
+    open_link : (c : ℕ × ℕ) → Has copies c → is_copied (current_words mid) copies (c.0 / 512) ≡ false → IsOpen old in_snapshot (blocks_of copies) c.0
     open_link c here none = go which.0 which.1 (ap (λ (x : ℕ × ℕ). x.0) which.2)
       where
         which : (m : Trail × ℕ) × Has marks m × (c ≡ (place_on old m.0, m.1))
@@ -236,7 +236,7 @@ module _ (kept : ℕ → Bool) (first : Memory) (before after : Set) (wf : IsWel
         live : (p : Trail) → Pointer p → block_on old p ≢ 0 → IsLiveBlock old (block_on old p)
         live p pointer present = led_held old (size_of old) forest (block_on old p) (record { trail = p; pointer = pointer; named = refl; not_null = present })
 
-        loose : (slot : ℕ) (p : Trail) → Has trails (slot ∷ p) → c.0 / 512 ≡ block_on old p → (x : Bool) → kept (block_on old p) ≡ x → kept (block_on old p) ≡ false
+        loose : (slot : ℕ) (p : Trail) → Has trails (slot ∷ p) → c.0 / 512 ≡ block_on old p → (x : Bool) → in_snapshot (block_on old p) ≡ x → in_snapshot (block_on old p) ≡ false
         loose slot p has block false is = is
         loose slot p has block true is =
             let above = trail-marked old trails copies at p (found.above slot p has is) in
@@ -245,14 +245,14 @@ module _ (kept : ℕ → Bool) (first : Memory) (before after : Set) (wf : IsWel
             ap block_of (word_mid old (current_words mid) Pointer are bones some marks all has_words (p, above.0) above.1) ∙ sym block in
             absurd (true≢false (sym (any_source (current_words mid) copies (place_on old p, above.0) (c.0 / 512) copy source) ∙ none))
 
-        go : (m : Trail × ℕ) → Has marks m → c.0 ≡ place_on old m.0 → IsOpen old kept (blocks_of copies) c.0
+        go : (m : Trail × ℕ) → Has marks m → c.0 ≡ place_on old m.0 → IsOpen old in_snapshot (blocks_of copies) c.0
         go ([], d) mark e = at_root e
         go (slot ∷ p, d) mark e =
             let is = is_mark (slot ∷ p, d) mark in
             let low : slot < 512 = are.slots slot p is.pointer in
             let block : c.0 / 512 ≡ block_on old p = omega (arith, e, low) in
             in_live (subst (IsLiveBlock old) (sym block) (live p (are.above slot p is.pointer) (block_above old slot p is.present)))
-            (ap kept block ∙ loose slot p (mark-from trails copies (slot ∷ p, d) mark).0 block (kept (block_on old p)) refl)
+            (ap in_snapshot block ∙ loose slot p (mark-from trails copies (slot ∷ p, d) mark).0 block (in_snapshot (block_on old p)) refl)
 
     module _ (last : Memory) (adds : Adds mid last (Barrier ∷ links_of links ++ Barrier ∷ [])) where
       abbrev new : Image
@@ -284,7 +284,7 @@ module _ (kept : ℕ → Bool) (first : Memory) (before after : Set) (wf : IsWel
       abbrev added : List Event
       added = (fills.part.added ++ Barrier ∷ []) ++ (links_of links ++ Barrier ∷ [])
 
-      taking : AddsTaking kept (blocks_of copies) 2 (513 * length (blocks_of copies)) first last
+      taking : AddsTaking in_snapshot (blocks_of copies) 2 (513 * length (blocks_of copies)) first last
       taking = record {
         part = record {
           added = added;
@@ -300,14 +300,14 @@ module _ (kept : ℕ → Bool) (first : Memory) (before after : Set) (wf : IsWel
         };
         takes = record {
           once = takes.once;
-          free = each-of (IsFreeBlock old kept) (blocks_of copies) (λ b here. free.free b (takes.were b here));
+          free = each-of (IsFreeBlock old in_snapshot) (blocks_of copies) (λ b here. free.free b (takes.were b here));
           stored = each-as (λ b. StoresTo (InBlock b) fills.part.added) (λ b. StoresTo (InBlock b) added)
               (λ b one. StoresTo-front (InBlock b) (fills.part.added ++ Barrier ∷ []) (links_of links ++ Barrier ∷ []) (StoresTo-front (InBlock b) fills.part.added (Barrier ∷ []) one)) (blocks_of copies) fills.stored;
-          only = StoresMay-append (AnyAt (IsOpen old kept (blocks_of copies))) (fills.part.added ++ Barrier ∷ []) (links_of links ++ Barrier ∷ [])
-              (StoresMay-append (AnyAt (IsOpen old kept (blocks_of copies))) fills.part.added (Barrier ∷ [])
-              (StoresMay-weaker (AnyAt (InBlocks (blocks_of copies))) (AnyAt (IsOpen old kept (blocks_of copies))) (λ place value inside. in_taken inside) fills.part.added fills.part.may) tt)
-              (StoresMay-append (AnyAt (IsOpen old kept (blocks_of copies))) (links_of links) (Barrier ∷ [])
-              (links_may (IsOpen old kept (blocks_of copies)) (current_words mid) copies copies open_link) tt);
+          only = StoresMay-append (AnyAt (IsOpen old in_snapshot (blocks_of copies))) (fills.part.added ++ Barrier ∷ []) (links_of links ++ Barrier ∷ [])
+              (StoresMay-append (AnyAt (IsOpen old in_snapshot (blocks_of copies))) fills.part.added (Barrier ∷ [])
+              (StoresMay-weaker (AnyAt (InBlocks (blocks_of copies))) (AnyAt (IsOpen old in_snapshot (blocks_of copies))) (λ place value inside. in_taken inside) fills.part.added fills.part.may) tt)
+              (StoresMay-append (AnyAt (IsOpen old in_snapshot (blocks_of copies))) (links_of links) (Barrier ∷ [])
+              (links_may (IsOpen old in_snapshot (blocks_of copies)) (current_words mid) copies copies open_link) tt);
         };
       }
 
@@ -332,21 +332,21 @@ module _ (kept : ℕ → Bool) (first : Memory) (before after : Set) (wf : IsWel
           let now = words_now old new Pointer (copy_on marks) all_are are bones (are_copies old Pointer are bones marks all) thawing p (is_mark (p, c) (has-copy_on marks p c e)).pointer in
           ap block_of (rw (turned-all p c e, e) at now) ∙ block_pointing (word_on old p) c
 
-      pub kept-block : (p : Trail) → Pointer p → (turned p → ⊥) → block_on new p ≡ block_on old p
-      kept-block p pointer none = ap block_of (stage.kept p pointer none)
+      pub in_snapshot-block : (p : Trail) → Pointer p → (turned p → ⊥) → block_on new p ≡ block_on old p
+      in_snapshot-block p pointer none = ap block_of (stage.kept p pointer none)
 
-      -- a copy is not kept, and where a block is not kept it has none
-      pub copied_loose : (p : Trail) → Has trails p → kept (block_on new p) ≡ false
+      -- a copy is not in the snapshot, and where a block is not in the snapshot it has none
+      pub copied_loose : (p : Trail) → Has trails p → in_snapshot (block_on new p) ≡ false
       copied_loose p has =
           let mark = trail-marked old trails copies at p has in
           let copy : copy_on marks p ≡ Some mark.0 = copy_on-has marks (p, mark.0) (λ n there e. one_trail n (p, mark.0) there mark.1 e) mark.1 in
-          ap kept (turned-block p mark.0 copy) ∙ (free.free mark.0 (takes.were mark.0 (in_blocks (p, mark.0) mark.1))).loose
+          ap in_snapshot (turned-block p mark.0 copy) ∙ (free.free mark.0 (takes.were mark.0 (in_blocks (p, mark.0) mark.1))).loose
 
-      pub loose_same : (p : Trail) → Pointer p → kept (block_on old p) ≡ false → block_on new p ≡ block_on old p
-      loose_same p pointer loose = kept-block p pointer (λ is.
+      pub loose_same : (p : Trail) → Pointer p → in_snapshot (block_on old p) ≡ false → block_on new p ≡ block_on old p
+      loose_same p pointer loose = in_snapshot-block p pointer (λ is.
           let copy = turned-copy all_are p is in
           let has = (mark-from trails copies (p, copy.0) (has-copy_on marks p copy.0 copy.1)).0 in
-          bool_clash (kept (block_on old p)) (found.each p has).is_kept loose)
+          bool_clash (in_snapshot (block_on old p)) (found.each p has).is_in_snapshot loose)
 
       job : IsCommitted old new Pointer (IsTreeWord old (size_of old)) turned (after_commit old empty_job)
       job = as_job old new wf turned stage (turned-present all_are)
@@ -379,28 +379,28 @@ module _ (kept : ℕ → Bool) (first : Memory) (before after : Set) (wf : IsWel
             | inl is ↦
                 let copy = turned-copy all_are led.trail is in
                 inr (subst (Has (blocks_of copies)) (sym (turned-block led.trail copy.0 copy.1) ∙ led.named) (in_blocks (led.trail, copy.0) (has-copy_on marks led.trail copy.0 copy.1)))
-            | inr none ↦ inl (led_held old (size_of old) forest b (record { trail = led.trail; pointer = led.pointer; named = sym (kept-block led.trail led.pointer none) ∙ led.named; not_null = led.not_null }))
+            | inr none ↦ inl (led_held old (size_of old) forest b (record { trail = led.trail; pointer = led.pointer; named = sym (in_snapshot-block led.trail led.pointer none) ∙ led.named; not_null = led.not_null }))
           ]
 
-      stay : (b : ℕ) → IsLiveBlock old b → IsLiveBlock new b ⊎ (kept b ≡ true)
+      stay : (b : ℕ) → IsLiveBlock old b → IsLiveBlock new b ⊎ (in_snapshot b ≡ true)
       stay b one = go (held_led old (size_of old) forest b one)
         where
-          go : LeadsTo old Pointer b → IsLiveBlock new b ⊎ (kept b ≡ true)
+          go : LeadsTo old Pointer b → IsLiveBlock new b ⊎ (in_snapshot b ≡ true)
           go led = elim (stage.decide led.trail) [
             | inl is ↦
                 let copy = turned-copy all_are led.trail is in
                 let has = (mark-from trails copies (led.trail, copy.0) (has-copy_on marks led.trail copy.0 copy.1)).0 in
-                inr (ap kept (sym led.named) ∙ (found.each led.trail has).is_kept)
-            | inr none ↦ inl (led_live b (record { trail = led.trail; pointer = led.pointer; named = kept-block led.trail led.pointer none ∙ led.named; not_null = led.not_null }))
+                inr (ap in_snapshot (sym led.named) ∙ (found.each led.trail has).is_in_snapshot)
+            | inr none ↦ inl (led_live b (record { trail = led.trail; pointer = led.pointer; named = in_snapshot-block led.trail led.pointer none ∙ led.named; not_null = led.not_null }))
           ]
 
-      still_free : AreFreeBlocks new kept (has after)
+      still_free : AreFreeBlocks new in_snapshot (has after)
       still_free = record { free = unheld; all = every }
         where
           not_taken : (b : ℕ) → has after b ≡ true → Has (blocks_of copies) b → ⊥
           not_taken b is here = bool_clash (has after b) is (takes.gone b here)
 
-          unheld : (b : ℕ) → has after b ≡ true → IsFreeBlock new kept b
+          unheld : (b : ℕ) → has after b ≡ true → IsFreeBlock new in_snapshot b
           unheld b is =
               let was : has before b ≡ true = sym (takes.others b (not_taken b is)) ∙ is in
               let one = free.free b was in
@@ -411,17 +411,17 @@ module _ (kept : ℕ → Bool) (first : Memory) (before after : Set) (wf : IsWel
                 loose = one.loose;
               }
 
-          every : (b : ℕ) → IsFreeBlock new kept b → has after b ≡ true
+          every : (b : ℕ) → IsFreeBlock new in_snapshot b → has after b ≡ true
           every b one =
               takes.others b (λ taken. one.free (used b taken))
               ∙ free.all b (record {
                 low = one.low;
                 high = subst (λ n. b < n / 512) stage.whole one.high;
-                free = λ held. elim (stay b held) [ inl now ↦ one.free now | inr is ↦ bool_clash (kept b) is one.loose ];
+                free = λ held. elim (stay b held) [ inl now ↦ one.free now | inr is ↦ bool_clash (in_snapshot b) is one.loose ];
                 loose = one.loose;
               })
 
-      pub thaws : (paths : List WordPath) → length trails ≡ length (thawed_on old kept paths) → thawed_on new kept paths ≡ [] → Thaws kept paths first last before after
+      pub thaws : (paths : List WordPath) → length trails ≡ length (thawed_on old in_snapshot paths) → thawed_on new in_snapshot paths ≡ [] → Thaws in_snapshot paths first last before after
       thaws paths number clear = record {
         taken = blocks_of copies;
         adds = taking;

@@ -25,9 +25,9 @@ use Rattle.bp_cow.specs.Counting.{IsTreeWord}
 use Rattle.bp_thaw.specs.Copies.{Copies, blocks_of, is_copied, links_among, places_of}
 use Rattle.bp_layout.specs.Thaw.{thawed_on}
 use Rattle.bp_thaw.specs.Fronts.{places_found}
-use Rattle.bp_thaw.specs.Steps.{AreKept, ArePlacesOf, CanFillCopies, FillsCopies, InBlocks, TakesAll}
+use Rattle.bp_thaw.specs.Steps.{AreInSnapshot, ArePlacesOf, CanFillCopies, FillsCopies, InBlocks, TakesAll}
 use Rattle.bp_thaw.specs.Thaws.{CanThaw, Thaws}
-use Rattle.bp_thaw.proofs.Clear.{clear, places_are, places_once, trails_kept, trails_number, trails_of}
+use Rattle.bp_thaw.proofs.Clear.{clear, places_are, places_once, trails_in_snapshot, trails_number, trails_of}
 use Rattle.bp_thaw.proofs.Found.{found_is}
 use Rattle.bp_thaw.proofs.ThawEnd.{copied_loose, copy-place, copy-source, has_words, links_few, loose_same, shape, thaws}
 use Rattle.bp_thaw.proofs.Told.{shape_stays}
@@ -44,9 +44,9 @@ links_places image every (c ∷ copies) pair has = go (is_copied image every (c.
       | inr later ↦ let found = rest later in (found.0, inr found.1, found.2)
     ]
 
--- ---- nothing is kept on the ways
+-- ---- nothing is in the snapshot on the ways
 
-module _ (kept : ℕ → Bool) (paths : List WordPath) (memory : Memory) (blocks : Set) (can : CanThaw kept paths memory blocks) where
+module _ (in_snapshot : ℕ → Bool) (paths : List WordPath) (memory : Memory) (blocks : Set) (can : CanThaw in_snapshot paths memory blocks) where
   abbrev image : Image
   image = current_words memory
 
@@ -63,7 +63,7 @@ module _ (kept : ℕ → Bool) (paths : List WordPath) (memory : Memory) (blocks
     pointers = λ p none. absurd none;
   }
 
-  pub thaws_nothing : thawed_on image kept paths ≡ [] → Thaws kept paths memory memory blocks blocks
+  pub thaws_nothing : thawed_on image in_snapshot paths ≡ [] → Thaws in_snapshot paths memory memory blocks blocks
   thaws_nothing none = record {
     taken = [];
     adds = record {
@@ -74,7 +74,7 @@ module _ (kept : ℕ → Bool) (paths : List WordPath) (memory : Memory) (blocks
         closed = tt;
         piece = IsPiece-more 0 0 2 0 [] (omega arith) (omega arith) IsPiece-none;
       };
-      takes = takes_none image kept;
+      takes = takes_none image in_snapshot;
     };
     number = sym (ap length none);
     from = tt;
@@ -88,20 +88,20 @@ module _ (kept : ℕ → Bool) (paths : List WordPath) (memory : Memory) (blocks
 
 -- ---- some are
 
-module _ (kept : ℕ → Bool) (paths : List WordPath) (first : Memory) (before : Set) (can : CanThaw kept paths first before) (places : List ℕ)
-    (found : places ≡ places_found (current_words first) kept paths) where
+module _ (in_snapshot : ℕ → Bool) (paths : List WordPath) (first : Memory) (before : Set) (can : CanThaw in_snapshot paths first before) (places : List ℕ)
+    (found : places ≡ places_found (current_words first) in_snapshot paths) where
   abbrev thawed : List WordPath
-  thawed = thawed_on (current_words first) kept paths
+  thawed = thawed_on (current_words first) in_snapshot paths
 
   -- the places that are found are those of the pointers that are thawed
   found_thawed : places ≡ map (address (current_words first)) thawed
-  found_thawed = found ∙ ap (map (address (current_words first))) (found_is (current_words first) can.well_formed kept paths can.ways)
+  found_thawed = found ∙ ap (map (address (current_words first))) (found_is (current_words first) can.well_formed in_snapshot paths can.ways)
 
   number_found : length places ≡ length thawed
   number_found = ap length found_thawed ∙ length-map thawed (address (current_words first))
 
   -- none is found, so none is thawed
-  pub none_found : length places ≡ 0 → thawed_on (current_words first) kept paths ≡ []
+  pub none_found : length places ≡ 0 → thawed_on (current_words first) in_snapshot paths ≡ []
   none_found none = nil_from_length thawed (sym number_found ∙ none)
 
   -- there is a free block for each
@@ -109,46 +109,46 @@ module _ (kept : ℕ → Bool) (paths : List WordPath) (first : Memory) (before 
   enough = rw number_found can.enough
 
 -- a block is taken for each pointer that is thawed
-pub record IsCopying (kept : ℕ → Bool) (paths : List WordPath) (first : Memory) (before after : Set) (places : List ℕ) (copies : Copies) : Type 0 where
-  pub can : CanThaw kept paths first before
-  pub found : places ≡ places_found (current_words first) kept paths
+pub record IsCopying (in_snapshot : ℕ → Bool) (paths : List WordPath) (first : Memory) (before after : Set) (places : List ℕ) (copies : Copies) : Type 0 where
+  pub can : CanThaw in_snapshot paths first before
+  pub found : places ≡ places_found (current_words first) in_snapshot paths
   pub of : places_of copies ≡ places
   pub takes : TakesAll before after (blocks_of copies)
 
-module _ (kept : ℕ → Bool) (paths : List WordPath) (first : Memory) (before after : Set) (places : List ℕ) (copies : Copies)
-    (copying : IsCopying kept paths first before after places copies) where
+module _ (in_snapshot : ℕ → Bool) (paths : List WordPath) (first : Memory) (before after : Set) (places : List ℕ) (copies : Copies)
+    (copying : IsCopying in_snapshot paths first before after places copies) where
   open copying use {can, found, of, takes}
 
   abbrev old : Image
   old = current_words first
 
   abbrev trails : List Trail
-  trails = trails_of (thawed_on old kept paths)
+  trails = trails_of (thawed_on old in_snapshot paths)
 
-  is_thawed : places ≡ map (address old) (thawed_on old kept paths)
-  is_thawed = found_thawed kept paths first before can places found
+  is_thawed : places ≡ map (address old) (thawed_on old in_snapshot paths)
+  is_thawed = found_thawed in_snapshot paths first before can places found
 
-  are_kept : AreKept old kept (trails_of (thawed_on (current_words first) kept paths))
-  are_kept = trails_kept old can.well_formed kept paths can.ways
+  are_in_snapshot : AreInSnapshot old in_snapshot (trails_of (thawed_on (current_words first) in_snapshot paths))
+  are_in_snapshot = trails_in_snapshot old can.well_formed in_snapshot paths can.ways
 
-  at : places_of copies ≡ map (place_on (current_words first)) (trails_of (thawed_on (current_words first) kept paths))
-  at = of ∙ is_thawed ∙ places_are old can.well_formed kept paths can.ways
+  at : places_of copies ≡ map (place_on (current_words first)) (trails_of (thawed_on (current_words first) in_snapshot paths))
+  at = of ∙ is_thawed ∙ places_are old can.well_formed in_snapshot paths can.ways
 
   apart : AreApart (places_of copies)
-  apart = subst AreApart (sym (of ∙ is_thawed)) (places_once old can.well_formed kept paths can.ways)
+  apart = subst AreApart (sym (of ∙ is_thawed)) (places_once old can.well_formed in_snapshot paths can.ways)
 
-  number : length copies ≡ length (thawed_on (current_words first) kept paths)
-  number = sym (length-map copies (λ (c : ℕ × ℕ). c.0)) ∙ ap length of ∙ number_found kept paths first before can places found
+  number : length copies ≡ length (thawed_on (current_words first) in_snapshot paths)
+  number = sym (length-map copies (λ (c : ℕ × ℕ). c.0)) ∙ ap length of ∙ number_found in_snapshot paths first before can places found
 
   pub can_fill_all : CanFillCopies copies first
   can_fill_all = record {
     places = apart;
     blocks = takes.once;
-    inside = λ c here. (copy-place kept first before after can.well_formed can.free trails are_kept copies at apart takes c here).0;
-    outside = λ c here. (copy-place kept first before after can.well_formed can.free trails are_kept copies at apart takes c here).1;
-    sources = λ c here. (copy-source kept first before after can.well_formed can.free trails are_kept copies at apart takes c here).0;
-    present = λ c here. (copy-source kept first before after can.well_formed can.free trails are_kept copies at apart takes c here).2;
-    apart = λ c here. (copy-source kept first before after can.well_formed can.free trails are_kept copies at apart takes c here).1;
+    inside = λ c here. (copy-place in_snapshot first before after can.well_formed can.free trails are_in_snapshot copies at apart takes c here).0;
+    outside = λ c here. (copy-place in_snapshot first before after can.well_formed can.free trails are_in_snapshot copies at apart takes c here).1;
+    sources = λ c here. (copy-source in_snapshot first before after can.well_formed can.free trails are_in_snapshot copies at apart takes c here).0;
+    present = λ c here. (copy-source in_snapshot first before after can.well_formed can.free trails are_in_snapshot copies at apart takes c here).2;
+    apart = λ c here. (copy-source in_snapshot first before after can.well_formed can.free trails are_in_snapshot copies at apart takes c here).1;
     not_null = λ b here. (can.free.free b (takes.were b here)).low;
     in_range = λ b here. (can.free.free b (takes.were b here)).high;
     room = let room = can.room in omega (arith, room, number);
@@ -156,7 +156,7 @@ module _ (kept : ℕ → Bool) (paths : List WordPath) (first : Memory) (before 
 
   module _ (mid : Memory) (fills : FillsCopies copies first mid) where
     whole : length (current_words mid) ≡ length (current_words first)
-    whole = (has_words kept first before after can.well_formed can.free trails are_kept copies at apart takes mid fills).whole
+    whole = (has_words in_snapshot first before after can.well_formed can.free trails are_in_snapshot copies at apart takes mid fills).whole
 
     pub places_mid : ArePlacesOf (current_words mid) copies
     places_mid c here = subst (λ n. c.0 < n) (sym whole) (can_fill_all.inside c here)
@@ -170,9 +170,9 @@ module _ (kept : ℕ → Bool) (paths : List WordPath) (first : Memory) (before 
         omega (arith, room, number, links_few (current_words mid) copies copies, room_after_may (AnyAt (InBlocks (blocks_of copies))) 0 (512 * length copies) first mid fills.part)
 
     module _ (last : Memory) (adds : Adds mid last (Barrier ∷ links_of (links_among (current_words mid) copies copies) ++ Barrier ∷ [])) where
-      pub thaws_all : Thaws kept paths first last before after
+      pub thaws_all : Thaws in_snapshot paths first last before after
       thaws_all =
-          thaws kept first before after can.well_formed can.free trails are_kept copies at apart takes mid fills last adds paths (trails_number old can.well_formed kept paths can.ways)
-          (clear old can.well_formed kept paths can.ways (current_words last) (shape kept first before after can.well_formed can.free trails are_kept copies at apart takes mid fills last adds)
-          (copied_loose kept first before after can.well_formed can.free trails are_kept copies at apart takes mid fills last adds)
-          (loose_same kept first before after can.well_formed can.free trails are_kept copies at apart takes mid fills last adds))
+          thaws in_snapshot first before after can.well_formed can.free trails are_in_snapshot copies at apart takes mid fills last adds paths (trails_number old can.well_formed in_snapshot paths can.ways)
+          (clear old can.well_formed in_snapshot paths can.ways (current_words last) (shape in_snapshot first before after can.well_formed can.free trails are_in_snapshot copies at apart takes mid fills last adds)
+          (copied_loose in_snapshot first before after can.well_formed can.free trails are_in_snapshot copies at apart takes mid fills last adds)
+          (loose_same in_snapshot first before after can.well_formed can.free trails are_in_snapshot copies at apart takes mid fills last adds))

@@ -1,10 +1,11 @@
--- The ways to some words (the paths of the pointers on the way to each), and the search for kept blocks on them.
+-- The ways to some words (the paths of the pointers on the way to each), and the search for blocks of the snapshot on
+-- them.
 use Rattle.std.specs.Prelude.{◌≡◌, ℕ, zero, suc, ◌/◌, ◌≤◌, List, [], ◌∷◌, ◌++◌, length, map, take, Bool, not, ◌&&◌, ◌==◌, if◌then◌else◌}
 use Rattle.std.specs.List.{list_any}
 use Rattle.bp_limits.specs.Limits.{block_words, super_root}
 use Rattle.bp_layout.specs.Inode.{root_of}
 use Rattle.bp_layout.specs.Reached.{IsReached}
-use Rattle.bp_layout.specs.Thaw.{is_kept_at}
+use Rattle.bp_layout.specs.Thaw.{is_in_snapshot_at}
 use Rattle.bp_layout.specs.WordPaths.{WordPath, address, tree_path}
 use Rattle.bp_layout.specs.Words.{Image, height_of, word}
 use Rattle.bp_shapes.specs.Trail.{Trail, trail_of}
@@ -41,22 +42,22 @@ path_trail path = trail_of path (length path)
 abbrev pub is_found : Image → List WordPath → WordPath → Bool
 is_found image found path = list_any (λ other. address image other == address image path) found
 
--- the list with the pointers of a path that lead to kept blocks, up to a depth
+-- the list with the pointers of a path that lead to blocks of the snapshot, up to a depth
 abbrev pub found_on : Image → (ℕ → Bool) → List WordPath → WordPath → ℕ → List WordPath
-found_on image kept found path zero = found
-found_on image kept found path (suc depth) =
-    if is_kept_at image kept (take depth path) && not (is_found image (found_on image kept found path depth) (take depth path))
-    then found_on image kept found path depth ++ take depth path ∷ [] else found_on image kept found path depth
+found_on image in_snapshot found path zero = found
+found_on image in_snapshot found path (suc depth) =
+    if is_in_snapshot_at image in_snapshot (take depth path) && not (is_found image (found_on image in_snapshot found path depth) (take depth path))
+    then found_on image in_snapshot found path depth ++ take depth path ∷ [] else found_on image in_snapshot found path depth
 
 abbrev pub found_in : Image → (ℕ → Bool) → List WordPath → List WordPath → List WordPath
-found_in image kept found [] = found
-found_in image kept found (path ∷ paths) = found_in image kept (found_on image kept found path (length path)) paths
+found_in image in_snapshot found [] = found
+found_in image in_snapshot found (path ∷ paths) = found_in image in_snapshot (found_on image in_snapshot found path (length path)) paths
 
--- the places of the pointers to the kept blocks on these ways
+-- the places of the pointers to the blocks of the snapshot on these ways
 abbrev pub places_found : Image → (ℕ → Bool) → List WordPath → List ℕ
-places_found image kept paths = map (address image) (found_in image kept [] paths)
+places_found image in_snapshot paths = map (address image) (found_in image in_snapshot [] paths)
 
--- the list of places gets those of the pointers to kept blocks on this way that it does not have yet
+-- the list of places gets those of the pointers to blocks of the snapshot on this way that it does not have yet
 abbrev pub FindsOn : Image → (ℕ → Bool) → WordPath → List ℕ → List ℕ → Type 0
-FindsOn image kept way before after = (found : List WordPath) → before ≡ map (address image) found →
-    after ≡ map (address image) (found_on image kept found way (length way))
+FindsOn image in_snapshot way before after = (found : List WordPath) → before ≡ map (address image) found →
+    after ≡ map (address image) (found_on image in_snapshot found way (length way))

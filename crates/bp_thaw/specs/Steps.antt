@@ -1,4 +1,4 @@
--- The steps of a thaw: finding the kept blocks, taking blocks for their copies, and filling these.
+-- The steps of a thaw: finding the blocks of the snapshot, taking blocks for their copies, and filling these.
 use Rattle.std.specs.Prelude.{◌≡◌, ◌≢◌, ℕ, ◌+◌, ◌*◌, ◌/◌, ◌<◌, ◌≤◌, List, ◌∷◌, length, Bool, true, false}
 use Rattle.pm_epochs.specs.Log.{StoresTo}
 use Rattle.pm_epochs.specs.May.{AnyAt}
@@ -14,16 +14,17 @@ use Rattle.bp_shapes.specs.Trail.{Trail, block_on}
 use Rattle.bp_commit.specs.Performs.{InBlock}
 use Rattle.bp_thaw.specs.Copies.{Copies, blocks_of, places_of, source_of, turned_word}
 
--- The pointer is live and leads to a kept block.
-pub record IsKept (image : Image) (kept : ℕ → Bool) (p : Trail) : Type 0 where
+-- The pointer is live and leads to a block of the snapshot.
+pub record IsInSnapshot (image : Image) (in_snapshot : ℕ → Bool) (p : Trail) : Type 0 where
   pub pointer : IsTreePointer image (size_of image) p
   pub present : block_on image p ≢ 0
-  pub is_kept : kept (block_on image p) ≡ true
+  pub is_in_snapshot : in_snapshot (block_on image p) ≡ true
 
--- A list of live pointers to kept blocks that has, with each pointer in a kept block, the pointer to that block.
-pub record AreKept (image : Image) (kept : ℕ → Bool) (trails : List Trail) : Type 0 where
-  pub each : (p : Trail) → Has trails p → IsKept image kept p
-  pub above : (slot : ℕ) (p : Trail) → Has trails (slot ∷ p) → kept (block_on image p) ≡ true → Has trails p
+-- A list of live pointers to blocks of the snapshot that has, with each pointer in a block of the snapshot, the pointer
+-- to that block.
+pub record AreInSnapshot (image : Image) (in_snapshot : ℕ → Bool) (trails : List Trail) : Type 0 where
+  pub each : (p : Trail) → Has trails p → IsInSnapshot image in_snapshot p
+  pub above : (slot : ℕ) (p : Trail) → Has trails (slot ∷ p) → in_snapshot (block_on image p) ≡ true → Has trails p
 
 -- Exactly these numbers leave a set, which had all of them.
 pub record TakesAll (before after : Set) (taken : List ℕ) : Type 0 where

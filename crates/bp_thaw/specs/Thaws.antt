@@ -1,5 +1,5 @@
--- Thaw (copy-on-write for the snapshot): the kept blocks on the ways to some words are copied, and the pointers to them
--- are set to the copies.
+-- Thaw (copy-on-write for the snapshot): the blocks of the snapshot on the ways to some words are copied, and the
+-- pointers to them are set to the copies.
 use Rattle.std.specs.Prelude.{◌≡◌, ◌⊎◌, ℕ, ◌+◌, ◌*◌, ◌≤◌, List, [], map, length, Bool, true}
 use Rattle.arrayvec.specs.ArrayVec.{ArrayVec}
 use Rattle.bp_changes.specs.Thawed.{SameShape}
@@ -20,24 +20,24 @@ paths_in targets = map (λ path. path.items) targets.items
 
 -- The condition of a thaw. The image is well formed, and the paths are those of its pointers and words. The set has
 -- exactly its free blocks, enough of them for the copies, and the log has room.
-pub record CanThaw (kept : ℕ → Bool) (paths : List WordPath) (memory : Memory) (blocks : Set) : Type 0 where
+pub record CanThaw (in_snapshot : ℕ → Bool) (paths : List WordPath) (memory : Memory) (blocks : Set) : Type 0 where
   pub well_formed : IsWellFormed (current_words memory)
   pub ways : (path : WordPath) → Has paths path → IsWayIn (current_words memory) path
-  pub free : AreFreeBlocks (current_words memory) kept (has blocks)
-  pub enough : length (thawed_on (current_words memory) kept paths) ≤ length (members blocks)
-  pub room : (block_words + 1) * length (thawed_on (current_words memory) kept paths) + 2 ≤ room_in memory
+  pub free : AreFreeBlocks (current_words memory) in_snapshot (has blocks)
+  pub enough : length (thawed_on (current_words memory) in_snapshot paths) ≤ length (members blocks)
+  pub room : (block_words + 1) * length (thawed_on (current_words memory) in_snapshot paths) + 2 ≤ room_in memory
 
 -- The effect of a thaw. At each crash point the meaning of the image is unchanged, and the trees keep their shape. No
--- pointer on these ways leads to a kept block afterwards. Each block that is live afterwards was live before or is one
--- of the taken blocks; each block that was live and no longer is, is kept.
-pub record Thaws (kept : ℕ → Bool) (paths : List WordPath) (old new : Memory) (blocks after : Set) : Type 0 where
+-- pointer on these ways leads to a block of the snapshot afterwards. Each block that is live afterwards was live before
+-- or is one of the taken blocks; each block that was live and no longer is, is in the snapshot.
+pub record Thaws (in_snapshot : ℕ → Bool) (paths : List WordPath) (old new : Memory) (blocks after : Set) : Type 0 where
   pub taken : List ℕ
-  pub adds : AddsTaking kept taken 2 ((block_words + 1) * length taken) old new
-  pub number : length taken ≡ length (thawed_on (current_words old) kept paths)
+  pub adds : AddsTaking in_snapshot taken 2 ((block_words + 1) * length taken) old new
+  pub number : length taken ≡ length (thawed_on (current_words old) in_snapshot paths)
   pub from : Each (λ b. has blocks b ≡ true) taken
   pub shape : SameShape (current_words old) (current_words new)
-  pub clear : thawed_on (current_words new) kept paths ≡ []
+  pub clear : thawed_on (current_words new) in_snapshot paths ≡ []
   pub live : (b : ℕ) → IsLiveBlock (current_words new) b → IsLiveBlock (current_words old) b ⊎ Has taken b
   pub used : (b : ℕ) → Has taken b → IsLiveBlock (current_words new) b
-  pub stay : (b : ℕ) → IsLiveBlock (current_words old) b → IsLiveBlock (current_words new) b ⊎ (kept b ≡ true)
-  pub free : AreFreeBlocks (current_words new) kept (has after)
+  pub stay : (b : ℕ) → IsLiveBlock (current_words old) b → IsLiveBlock (current_words new) b ⊎ (in_snapshot b ≡ true)
+  pub free : AreFreeBlocks (current_words new) in_snapshot (has after)

@@ -33,7 +33,7 @@ pub(crate) fn take_all(blocks: &mut Blocks, places: &Places) -> Copies
 {
     let mut copies = Copies::new();
     for i in 0..places.len() {
-        copies.push((places[i], blocks.take_least()));
+        copies.push((places[i], blocks.alloc_lowest()));
     }
     copies
 }

@@ -1,4 +1,4 @@
-//! The kept blocks on the ways to some words.
+//! The blocks of the snapshot on the ways to some words.
 
 ghost use Rattle.std.specs.Prelude.{◌≡◌, ◌+◌, ◌<◌, ◌≤◌, ◌==◌, [], ◌∷◌, ◌++◌, true, false, length};
 ghost use Rattle.std.specs.List.{list_any};
@@ -46,13 +46,13 @@ fn add_place(places: &mut Places, place: u64)
     }
 }
 
-/// Adds the places of the pointers on a way that lead to kept blocks, unless they are in the list.
-fn find_on<R: Region>(region: &R, frozen: &Blocks, way: &Slots, places: &mut Places)
+/// Adds the places of the pointers on a way that lead to blocks of the snapshot, unless they are in the list.
+fn find_on<R: Region>(region: &R, snapshot_blocks: &Blocks, way: &Slots, places: &mut Places)
     requires well_formed { IsWellFormed (words_in R.memory region.now) }
-    requires frozen { block_count (words_in R.memory region.now) ≤ length frozen.now }
+    requires snapshot_blocks { block_count (words_in R.memory region.now) ≤ length snapshot_blocks.now }
     requires way { IsWayIn (words_in R.memory region.now) way.now.items }
     requires room { length places.old.items + 12 ≤ 96 }
-    ensures places { FindsOn (words_in R.memory region.now) (has frozen.now) way.now.items
+    ensures places { FindsOn (words_in R.memory region.now) (has snapshot_blocks.now) way.now.items
         places.old.items places.new.items }
     ensures few { length places.new.items ≤ length places.old.items + 12 }
 {
@@ -63,23 +63,27 @@ fn find_on<R: Region>(region: &R, frozen: &Blocks, way: &Slots, places: &mut Pla
             return;
         }
         let block = pm_words::block_of(region.load(place)) as u32;
-        if frozen.is_free(block) {
+        if snapshot_blocks.is_free(block) {
             add_place(places, place);
         }
         place = BLOCK_WORDS * block as u64 + u64::from(way[depth]);
     }
 }
 
-/// Returns the places of the pointers on the ways that lead to kept blocks, each once.
-pub(crate) fn find<R: Region>(region: &R, frozen: &Blocks, ways: &ArrayVec<Slots, 8>) -> Places
+/// Returns the places of the pointers on the ways that lead to blocks of the snapshot, each once.
+pub(crate) fn find<R: Region>(
+    region: &R,
+    snapshot_blocks: &Blocks,
+    ways: &ArrayVec<Slots, 8>,
+) -> Places
     requires well_formed { IsWellFormed (words_in R.memory region.now) }
-    requires frozen { block_count (words_in R.memory region.now) ≤ length frozen.now }
+    requires snapshot_blocks { block_count (words_in R.memory region.now) ≤ length snapshot_blocks.now }
     requires ways { (way : WordPath) → Has (paths_in ways.now) way → IsWayIn (words_in R.memory region.now) way }
-    ensures { result.items ≡ places_found (words_in R.memory region.now) (has frozen.now) (paths_in ways.now) }
+    ensures { result.items ≡ places_found (words_in R.memory region.now) (has snapshot_blocks.now) (paths_in ways.now) }
 {
     let mut places = Places::new();
     for i in 0..ways.len() {
-        find_on(region, frozen, &ways[i], &mut places);
+        find_on(region, snapshot_blocks, &ways[i], &mut places);
     }
     places
 }

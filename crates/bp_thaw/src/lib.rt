@@ -1,5 +1,5 @@
-//! Copy-on-write for the snapshot (*thaw*): copies the kept blocks (blocks of the snapshot) on the ways to some words
-//! into free blocks and sets the pointers to the copies. What a call then stores goes to no kept block.
+//! Copy-on-write for the snapshot (*thaw*): copies the blocks of the snapshot on the ways to some words
+//! into free blocks and sets the pointers to the copies. What a call then stores goes to no block of the snapshot.
 #![tactic(auto)]
 
 mod copying;

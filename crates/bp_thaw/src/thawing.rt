@@ -23,30 +23,30 @@ use pm_region::Region;
 /// Returns how many blocks a thaw of the ways to some words copies.
 pub fn thaw_need<R: Region>(parts: &Parts<R>, targets: &ArrayVec<Slots, 8>) -> u32
     requires well_formed { IsWellFormed (words_in R.memory parts.now.region) }
-    requires frozen { block_count (words_in R.memory parts.now.region) ≤ length parts.now.frozen }
+    requires snapshot_blocks { block_count (words_in R.memory parts.now.region) ≤ length parts.now.snapshot_blocks }
     requires ways { (path : WordPath) → Has (paths_in targets.now) path →
         IsWayIn (words_in R.memory parts.now.region) path }
-    ensures need { result ≡ length (thawed_on (words_in R.memory parts.now.region) (has parts.now.frozen)
+    ensures need { result ≡ length (thawed_on (words_in R.memory parts.now.region) (has parts.now.snapshot_blocks)
         (paths_in targets.now)) }
     ensures few { result ≤ 96 }
 {
-    find(&parts.region, &parts.frozen, targets).len() as u32
+    find(&parts.region, &parts.snapshot_blocks, targets).len() as u32
 }
 
-/// Copies the kept blocks on the ways to some words, and sets the pointers to them to the copies. At each crash point
-/// the meaning of the image is unchanged.
+/// Copies the blocks of the snapshot on the ways to some words, and sets the pointers to them to the copies. At each
+/// crash point the meaning of the image is unchanged.
 pub fn thaw<R: Region>(parts: &mut Parts<R>, targets: &ArrayVec<Slots, 8>)
-    requires can { CanThaw (has parts.old.frozen) (paths_in targets.now) (R.memory parts.old.region) parts.old.blocks }
-    requires frozen { block_count (words_in R.memory parts.old.region) ≤ length parts.old.frozen }
-    ensures thaws { Thaws (has parts.old.frozen) (paths_in targets.now)
-        (R.memory parts.old.region) (R.memory parts.new.region) parts.old.blocks parts.new.blocks }
+    requires can { CanThaw (has parts.old.snapshot_blocks) (paths_in targets.now) (R.memory parts.old.region) parts.old.free_blocks }
+    requires snapshot_blocks { block_count (words_in R.memory parts.old.region) ≤ length parts.old.snapshot_blocks }
+    ensures thaws { Thaws (has parts.old.snapshot_blocks) (paths_in targets.now)
+        (R.memory parts.old.region) (R.memory parts.new.region) parts.old.free_blocks parts.new.free_blocks }
     ensures keeps { KeepsSets parts.old parts.new }
 {
-    let places = find(&parts.region, &parts.frozen, targets);
+    let places = find(&parts.region, &parts.snapshot_blocks, targets);
     if places.is_empty() {
         return;
     }
-    let copies = take_all(&mut parts.blocks, &places);
+    let copies = take_all(&mut parts.free_blocks, &places);
     fill_all(&mut parts.region, &copies);
     let links = links_to(&parts.region, &copies);
     store_links(&mut parts.region, &links);

@@ -1,4 +1,4 @@
-//! Whether a kept block is on a way.
+//! Whether a block of the snapshot is on a way.
 
 ghost use Rattle.std.specs.Prelude.{◌≡◌, ◌↔◌, ℕ, ◌<◌, ◌≤◌, [], ◌∷◌, length, take, true};
 ghost use Rattle.bp_free.specs.Set.{has};
@@ -13,20 +13,20 @@ use bp_limits::{BLOCK_WORDS, SUPER_ROOT};
 use bp_tree::Slots;
 use pm_region::Region;
 
-/// Returns whether no kept block is on a way, all of whose pointers exist.
+/// Returns whether no block of the snapshot is on a way, all of whose pointers exist.
 pub fn is_clear<R: Region>(parts: &Parts<R>, way: &Slots) -> bool
     requires well_formed { IsWellFormed (words_in R.memory parts.now.region) }
-    requires frozen { block_count (words_in R.memory parts.now.region) ≤ length parts.now.frozen }
+    requires snapshot_blocks { block_count (words_in R.memory parts.now.region) ≤ length parts.now.snapshot_blocks }
     requires way { IsWayIn (words_in R.memory parts.now.region) way.now.items }
     requires there { (depth : ℕ) → depth < length way.now.items →
         is_there_now (words_in R.memory parts.now.region) (take depth way.now.items) ≡ true }
     ensures { (result ≡ true) ↔
-        (thawed_on (words_in R.memory parts.now.region) (has parts.now.frozen) (way.now.items ∷ []) ≡ []) }
+        (thawed_on (words_in R.memory parts.now.region) (has parts.now.snapshot_blocks) (way.now.items ∷ []) ≡ []) }
 {
     let mut place = SUPER_ROOT;
     for depth in 0..way.len() {
         let block = pm_words::block_of(parts.region.load(place)) as u32;
-        if parts.frozen.is_free(block) {
+        if parts.snapshot_blocks.is_free(block) {
             return false;
         }
         place = BLOCK_WORDS * block as u64 + u64::from(way[depth]);

@@ -1,4 +1,5 @@
--- Where a way to a word is loose, the blocks to which its pointers lead are not kept. A word's own block is the last of these.
+-- Where a way to a word is loose, the blocks to which its pointers lead are not in the snapshot. A word's own block is
+-- the last of these.
 use Rattle.std.proofs.Common.{◌≡◌, ◌≢◌, ℕ, zero, suc, ◌+◌, ◌-◌, ◌*◌, ◌/◌, ◌%◌, ◌<◌, ◌≤◌, List, [], ◌∷◌, ◌++◌, length, take, filter, Bool, true, false, ◌&&◌, refl, sym, ◌∙◌, ap, subst, arith, append_assoc}
 use Rattle.std.specs.List.{range_with_len}
 use Rattle.std.proofs.lemmas.Bool.{le-leb, lt-ltb, ne_eqb}
@@ -12,7 +13,7 @@ use Rattle.bp_layout.specs.Members.{Has}
 use Rattle.bp_layout.specs.Need.{pointed, path_number, prefixes_from}
 use Rattle.bp_layout.specs.Reached.{IsReached}
 use Rattle.bp_layout.specs.Reached.IsReached.{inode_file}
-use Rattle.bp_layout.specs.Thaw.{IsLoose, heights_now, is_kept_at, is_there_now}
+use Rattle.bp_layout.specs.Thaw.{IsLoose, heights_now, is_in_snapshot_at, is_there_now}
 use Rattle.bp_layout.specs.WellFormed.{IsWellFormed}
 use Rattle.bp_layout.specs.WordPaths.{WordPath, address, digits, inode_path, tree_path}
 use Rattle.bp_layout.specs.Checks.{inode_place}
@@ -32,11 +33,11 @@ filter_none p xs x none has = go (p x) refl
     go false is = is
     go true is = absurd (subst (λ ys. Has ys x) none (has-filter p xs x has is))
 
-pub loose-front : (image : Image) (kept : ℕ → Bool) (shortest : ℕ) (p : WordPath) (slot : ℕ) (rest : WordPath) → shortest ≤ length p → IsLoose image kept shortest (p ++ slot ∷ rest) → is_kept_at image kept p ≡ false
-loose-front image kept shortest p slot rest low loose =
+pub loose-front : (image : Image) (in_snapshot : ℕ → Bool) (shortest : ℕ) (p : WordPath) (slot : ℕ) (rest : WordPath) → shortest ≤ length p → IsLoose image in_snapshot shortest (p ++ slot ∷ rest) → is_in_snapshot_at image in_snapshot p ≡ false
+loose-front image in_snapshot shortest p slot rest low loose =
     let long : length (p ++ slot ∷ rest) ≡ length p + suc (length rest) = length-append p (slot ∷ rest) in
     let in_range : Has (range_with_len shortest (length (p ++ slot ∷ rest) - shortest)) (length p) = has-range shortest _ (length p) low (omega (arith, long, low)) in
-    filter_none (is_kept_at image kept) (prefixes_from shortest (p ++ slot ∷ rest)) p loose
+    filter_none (is_in_snapshot_at image in_snapshot) (prefixes_from shortest (p ++ slot ∷ rest)) p loose
     (subst (Has (prefixes_from shortest (p ++ slot ∷ rest))) (take-append_seam p (slot ∷ rest)) (has-map (λ n. take n (p ++ slot ∷ rest)) (range_with_len shortest (length (p ++ slot ∷ rest) - shortest)) (length p) in_range))
 
 -- ---- the nodes of a tree, by their paths
@@ -89,30 +90,31 @@ module _ (image : Image) (wf : IsWellFormed image) where
       let inside : t < inode_count image = reached-in_file image wf t reached in
       wf.full_inode_file _ _ (live_above _ _ (height_of (root_of image 0)) (8 * t + 1) (live_content (root_of image 0) (size_of image 0) (8 * t + 1) (omega (arith, inside))))
 
-  -- what is kept at the path of a node is the node
-  pub kept_node : (kept : ℕ → Bool) (t d k : ℕ) → IsReached image t → IsLivePointer (root_of image t) (size_of image t) d k → node image (root_of image t) d k ≢ 0 →
-      is_kept_at image kept (tree_path (heights_now image 0) t d k) ≡ kept (node image (root_of image t) d k)
-  kept_node kept t d k reached live present =
+  -- what is in the snapshot at the path of a node is the node
+  pub kept_node : (in_snapshot : ℕ → Bool) (t d k : ℕ) → IsReached image t → IsLivePointer (root_of image t) (size_of image t) d k → node image (root_of image t) d k ≢ 0 →
+      is_in_snapshot_at image in_snapshot (tree_path (heights_now image 0) t d k) ≡ in_snapshot (node image (root_of image t) d k)
+  kept_node in_snapshot t d k reached live present =
       let there : is_there_now image (tree_path (heights_now image 0) t d k) ≡ true =
       ap (λ n. is_present image (root_of image n.0) (size_of image n.0) n.1) (node_at t d k reached live) ∙ present_now t d k live present in
       let same : word image (address image (tree_path (heights_now image 0) t d k)) ≡ tree_word image (root_of image t) d k =
       pointer_word image t d k (inode_under t reached) (under_node image (root_of image t) d k present) in
-      ap (λ b. b && kept (block_of (word image (address image (tree_path (heights_now image 0) t d k))))) there ∙ ap (λ w. kept (block_of w)) same
+      ap (λ b. b && in_snapshot (block_of (word image (address image (tree_path (heights_now image 0) t d k))))) there ∙ ap (λ w. in_snapshot (block_of w)) same
 
-  -- the block that holds a word of a tree, where the last pointer on the way to it does not lead to a kept block
-  pub loose_word : (kept : ℕ → Bool) (t d k : ℕ) → IsReached image t → IsLivePointer (root_of image t) (size_of image t) d (k / 512) → node image (root_of image t) d (k / 512) ≢ 0 →
-      IsLoose image kept (length (tree_path (heights_now image 0) t (suc d) k) - 1) (tree_path (heights_now image 0) t (suc d) k) → kept (node image (root_of image t) d (k / 512)) ≡ false
-  loose_word kept t d k reached live present loose =
+  -- the block that holds a word of a tree, where the last pointer on the way to it does not lead to a block of the
+  -- snapshot
+  pub loose_word : (in_snapshot : ℕ → Bool) (t d k : ℕ) → IsReached image t → IsLivePointer (root_of image t) (size_of image t) d (k / 512) → node image (root_of image t) d (k / 512) ≢ 0 →
+      IsLoose image in_snapshot (length (tree_path (heights_now image 0) t (suc d) k) - 1) (tree_path (heights_now image 0) t (suc d) k) → in_snapshot (node image (root_of image t) d (k / 512)) ≡ false
+  loose_word in_snapshot t d k reached live present loose =
       let path : tree_path (heights_now image 0) t (suc d) k ≡ tree_path (heights_now image 0) t d (k / 512) ++ k % 512 ∷ [] = last_slot (heights_now image 0) t d k in
       let long : length (tree_path (heights_now image 0) t (suc d) k) ≡ length (tree_path (heights_now image 0) t d (k / 512)) + 1 = ap length path ∙ length-append (tree_path (heights_now image 0) t d (k / 512)) (k % 512 ∷ []) in
-      sym (kept_node kept t d (k / 512) reached live present)
-      ∙ loose-front image kept (length (tree_path (heights_now image 0) t (suc d) k) - 1) (tree_path (heights_now image 0) t d (k / 512)) (k % 512) [] (omega (arith, long))
-      (subst (IsLoose image kept (length (tree_path (heights_now image 0) t (suc d) k) - 1)) path loose)
+      sym (kept_node in_snapshot t d (k / 512) reached live present)
+      ∙ loose-front image in_snapshot (length (tree_path (heights_now image 0) t (suc d) k) - 1) (tree_path (heights_now image 0) t d (k / 512)) (k % 512) [] (omega (arith, long))
+      (subst (IsLoose image in_snapshot (length (tree_path (heights_now image 0) t (suc d) k) - 1)) path loose)
 
   -- the block that holds word f of inode i
-  pub loose_inode_word : (kept : ℕ → Bool) (i f : ℕ) → i < inode_count image → f < 8 → IsLoose image kept (length (inode_path (heights_now image 0) i f) - 1) (inode_path (heights_now image 0) i f) →
-      kept (node image (root_of image 0) (heights_now image 0) ((8 * i + f) / 512)) ≡ false
-  loose_inode_word kept i f inside few loose =
+  pub loose_inode_word : (in_snapshot : ℕ → Bool) (i f : ℕ) → i < inode_count image → f < 8 → IsLoose image in_snapshot (length (inode_path (heights_now image 0) i f) - 1) (inode_path (heights_now image 0) i f) →
+      in_snapshot (node image (root_of image 0) (heights_now image 0) ((8 * i + f) / 512)) ≡ false
+  loose_inode_word in_snapshot i f inside few loose =
       let live : IsLivePointer (root_of image 0) (size_of image 0) (heights_now image 0) ((8 * i + f) / 512) =
       live_above _ _ (height_of (root_of image 0)) (8 * i + f) (live_content (root_of image 0) (size_of image 0) (8 * i + f) (omega (arith, inside, few))) in
-      loose_word kept 0 (heights_now image 0) (8 * i + f) inode_file live (wf.full_inode_file _ _ live) loose
+      loose_word in_snapshot 0 (heights_now image 0) (8 * i + f) inode_file live (wf.full_inode_file _ _ live) loose

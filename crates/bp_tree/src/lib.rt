@@ -7,7 +7,7 @@
 pub mod counts;
 mod descent;
 pub mod leaves;
-pub mod marks;
+pub mod magic;
 pub mod nulls;
 pub mod paths;
 pub mod reading;
@@ -16,7 +16,7 @@ pub mod tree;
 
 pub use counts::count_live;
 pub use leaves::next_leaf;
-pub use marks::version;
+pub use magic::version;
 pub use nulls::first_null;
 pub use paths::{Slots, address, word_path};
 pub use reading::{leaf_words, read, unpack};

@@ -80,8 +80,8 @@ module _ (image : Image) (text : List ℕ) where
   pub list_stops : (why : Refusal) → StopsWalk image text why → Tells image (list text) (refused why)
   list_stops why stops tree stands = refused_steps image tree (list text) why (refusal-list_stopped tree text why (stops tree stands))
 
-  pub read_stops : (off len : ℕ) (why : Refusal) → StopsAtFile image text why → Tells image (read text off len) (refused why)
-  read_stops off len why stops tree stands = refused_steps image tree (read text off len) why (stops tree stands)
+  pub read_stops : (offset len : ℕ) (why : Refusal) → StopsAtFile image text why → Tells image (read text offset len) (refused why)
+  read_stops offset len why stops tree stands = refused_steps image tree (read text offset len) why (stops tree stands)
 
   pub links_stops : (why : Refusal) → StopsAtFile image text why → Tells image (links text) (refused why)
   links_stops why stops tree stands = refused_steps image tree (links text) why (stops tree stands)
@@ -124,12 +124,12 @@ module _ (image : Image) (text : List ℕ) where
     file_allowed : kind_of image i ≡ 1 → (tree : FileTree) → Stands image tree → on_path text (file_refusal tree.now.nodes) ≡ None
     file_allowed kind tree stands = refusal_of_file_there tree stands ∙ ap (λ k. first (when (k == 2) is_dir ∷ [])) kind
 
-    pub read_tells : (off len : ℕ) (told : List ℕ) → kind_of image i ≡ 1 → told ≡ take len (drop off (content image (root_of image i) (size_of image i))) → Tells image (read text off len) (bytes told)
-    read_tells off len told kind says tree stands =
+    pub read_tells : (offset len : ℕ) (told : List ℕ) → kind_of image i ≡ 1 → told ≡ take len (drop offset (content image (root_of image i) (size_of image i))) → Tells image (read text offset len) (bytes told)
+    read_tells offset len told kind says tree stands =
         let node : get tree.now.nodes at.path ≡ Some (file (content image (root_of image i) (size_of image i))) =
         node_at image tree stands at.path i at.inode ∙ ap (λ k. Some (if k == 1 then file (content image (root_of image i) (size_of image i)) else dir)) kind in
-        answer_steps image tree (read text off len) (bytes told) (file_allowed kind tree stands) refl
-        (ap (λ p. bytes (take len (drop off (bytes_at tree.now.nodes p)))) path_is ∙ ap (λ o. bytes (take len (drop off (bytes_in o)))) node ∙ ap bytes (sym says))
+        answer_steps image tree (read text offset len) (bytes told) (file_allowed kind tree stands) refl
+        (ap (λ p. bytes (take len (drop offset (bytes_at tree.now.nodes p)))) path_is ∙ ap (λ o. bytes (take len (drop offset (bytes_in o)))) node ∙ ap bytes (sym says))
 
     pub links_tells : (count : ℕ) → kind_of image i ≡ 1 → HasNames image i count → Tells image (links text) (links_of count)
     links_tells count kind has tree stands =

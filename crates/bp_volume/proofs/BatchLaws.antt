@@ -66,8 +66,8 @@ module _ (image : Image) (piece : Piece) where
   piece_stops path parsed why stops tree stands =
       let here : path_named piece.path ≡ path = ap (λ (o : Option Path). unwrap_or o []) parsed in
       let file : file_refusal tree.now.nodes path ≡ Some why = ap (λ o. on_parsed o (refusal_of_file tree)) (sym parsed) ∙ stops tree stands in
-      ap (λ p. first (file_refusal tree.now.nodes p ∷ when (nat_lt (length (bytes_at tree.now.nodes (path_named piece.path))) (piece.off + length piece.bytes)) past_end ∷ [])) here
-      ∙ ap (λ o. first (o ∷ when (nat_lt (length (bytes_at tree.now.nodes (path_named piece.path))) (piece.off + length piece.bytes)) past_end ∷ [])) file
+      ap (λ p. first (file_refusal tree.now.nodes p ∷ when (nat_lt (length (bytes_at tree.now.nodes (path_named piece.path))) (piece.offset + length piece.bytes)) past_end ∷ [])) here
+      ∙ ap (λ o. first (o ∷ when (nat_lt (length (bytes_at tree.now.nodes (path_named piece.path))) (piece.offset + length piece.bytes)) past_end ∷ [])) file
 
   pub piece_stopped : is_none (parse piece.path) ≡ false → (why : Refusal) → StopsAtFile image piece.path why → RefusesPiece image piece why
   piece_stopped is why stops = go (parse piece.path) refl
@@ -78,21 +78,21 @@ module _ (image : Image) (piece : Piece) where
 
   -- a file does
   module _ (i : ℕ) (at : PathFinds image piece.path i) (kind : kind_of image i ≡ 1) where
-    piece_left : (tree : FileTree) → Stands image tree → piece_refusal tree.now.nodes piece ≡ first (when (nat_lt (size_of image i) (piece.off + length piece.bytes)) past_end ∷ [])
+    piece_left : (tree : FileTree) → Stands image tree → piece_refusal tree.now.nodes piece ≡ first (when (nat_lt (size_of image i) (piece.offset + length piece.bytes)) past_end ∷ [])
     piece_left tree stands =
         let here : path_named piece.path ≡ at.path = ap (λ (o : Option Path). unwrap_or o []) at.parsed in
         let file : file_refusal tree.now.nodes at.path ≡ None =
         ap (λ o. first (o ∷ when (is_dir_at tree.now.nodes at.path) is_dir ∷ [])) (walk-found image tree stands at.path i at.inode)
         ∙ ap (λ b. first (when b is_dir ∷ [])) (dir_at image tree stands at.path i at.inode ∙ ap (λ k. k == 2) kind) in
-        ap (λ p. first (file_refusal tree.now.nodes p ∷ when (nat_lt (length (bytes_at tree.now.nodes (path_named piece.path))) (piece.off + length piece.bytes)) past_end ∷ [])) here
-        ∙ ap (λ o. first (o ∷ when (nat_lt (length (bytes_at tree.now.nodes (path_named piece.path))) (piece.off + length piece.bytes)) past_end ∷ [])) file
-        ∙ ap (λ n. first (when (nat_lt n (piece.off + length piece.bytes)) past_end ∷ [])) (has_bytes image piece.path i at kind tree stands)
+        ap (λ p. first (file_refusal tree.now.nodes p ∷ when (nat_lt (length (bytes_at tree.now.nodes (path_named piece.path))) (piece.offset + length piece.bytes)) past_end ∷ [])) here
+        ∙ ap (λ o. first (o ∷ when (nat_lt (length (bytes_at tree.now.nodes (path_named piece.path))) (piece.offset + length piece.bytes)) past_end ∷ [])) file
+        ∙ ap (λ n. first (when (nat_lt n (piece.offset + length piece.bytes)) past_end ∷ [])) (has_bytes image piece.path i at kind tree stands)
 
-    pub piece_past : size_of image i < piece.off + length piece.bytes → RefusesPiece image piece past_end
-    piece_past past tree stands = piece_left tree stands ∙ ap (λ b. first (when b past_end ∷ [])) (lt-ltb (size_of image i) (piece.off + length piece.bytes) past)
+    pub piece_past : size_of image i < piece.offset + length piece.bytes → RefusesPiece image piece past_end
+    piece_past past tree stands = piece_left tree stands ∙ ap (λ b. first (when b past_end ∷ [])) (lt-ltb (size_of image i) (piece.offset + length piece.bytes) past)
 
-    pub piece_goes : piece.off + length piece.bytes ≤ size_of image i → (tree : FileTree) → Stands image tree → piece_refusal tree.now.nodes piece ≡ None
-    piece_goes within tree stands = piece_left tree stands ∙ ap (λ b. first (when b past_end ∷ [])) (le-ltb (size_of image i) (piece.off + length piece.bytes) within)
+    pub piece_goes : piece.offset + length piece.bytes ≤ size_of image i → (tree : FileTree) → Stands image tree → piece_refusal tree.now.nodes piece ≡ None
+    piece_goes within tree stands = piece_left tree stands ∙ ap (λ b. first (when b past_end ∷ [])) (le-ltb (size_of image i) (piece.offset + length piece.bytes) within)
 
 -- what a piece finds
 pub found_at : (image : Image) (piece : Piece) (i : ℕ) → PieceFinds image piece i → PathFinds image piece.path i
@@ -108,7 +108,7 @@ module _ (image : Image) where
   same_stretches : (pieces : List Piece) (stretches : List Stretch) (patches : List Patch) → AreStretches image pieces stretches → ArePatches image pieces patches → stretches ≡ stretches_of patches
   same_stretches _ _ _ no_stretch no_patch = refl
   same_stretches _ _ _ (more_stretches {piece} {pieces} {stretches} {i} at others) (more_patches {patches = patches} {i = k} finds rest) =
-      ap₂ (λ j (ss : List Stretch). record { inode = j; off = piece.off; len = length piece.bytes } ∷ ss)
+      ap₂ (λ j (ss : List Stretch). record { inode = j; offset = piece.offset; len = length piece.bytes } ∷ ss)
       (same_file image piece.path k (found_at image piece k finds) finds.is_file i at) (same_stretches pieces stretches patches others rest)
 
   count_is : (pieces : List Piece) (patches : List Patch) → ArePatches image pieces patches → byte_count patches ≡ piece_bytes pieces

@@ -7,7 +7,7 @@ use Rattle.bp_layout.specs.Names.{IsNamed}
 use Rattle.bp_layout.specs.Reached.{IsFreeBlock, IsLiveBlock}
 use Rattle.bp_layout.specs.Words.{Image}
 use Rattle.bp_layout.proofs.BesideTrees.{SameTrees, same_back, names_back, reached_back, block_back}
-use Rattle.bp_shapes.specs.Sets.{IsExact, kept_of}
+use Rattle.bp_shapes.specs.Sets.{IsExact, in_snapshot_of}
 
 module _ (old new : Image) (same : SameTrees old new) where
   pub named_back : (j : ℕ) (e : ℕ × ℕ) → IsNamed new j e → IsNamed old j e
@@ -27,7 +27,7 @@ beside_exact old new same parts exact = record {
     inode_room = rw same.whole exact.sets.inode_room;
     free_blocks = record {
       free = λ b is.
-          let free : IsFreeBlock old (kept_of parts) b = exact.sets.free_blocks.free b is in
+          let free : IsFreeBlock old (in_snapshot_of parts) b = exact.sets.free_blocks.free b is in
           record { low = free.low; high = rw same.whole free.high; free = λ live. free.free (live_back old new same b live); loose = free.loose };
       all = λ b free. exact.sets.free_blocks.all b
           (record { low = free.low; high = rw same.whole at free.high; free = λ live. free.free (live_back new old back b live); loose = free.loose });
@@ -40,9 +40,9 @@ beside_exact old new same parts exact = record {
           (record { low = free.low; high = rw same.size at free.high; free = λ reached. free.free (reached_back new old back i reached) });
     };
   };
-  counts = counts_same old new parts.counts exact.counts (named_back old new same) (named_back new old back);
+  counts = counts_same old new parts.link_counts exact.counts (named_back old new same) (named_back new old back);
   count_room = rw same.whole exact.count_room;
-  frozen_room = rw same.whole exact.frozen_room;
+  snapshot_room = rw same.whole exact.snapshot_room;
 }
   where
     back : SameTrees new old

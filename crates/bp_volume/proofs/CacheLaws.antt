@@ -75,8 +75,8 @@ pub files_keep_all : (old new : Image) → IsWellFormed old → KeepsDirectories
 files_keep_all old new wf keeps = directories_keep_all old new (directories-same old new wf keeps) (files.well_formed-same old new wf keeps)
 
 -- and in two changes in a row
-kept_twice : (old middle new : Image) → KeepsAllNames old middle → KeepsAllNames middle new → KeepsAllNames old new
-kept_twice old middle new one two = record {
+snapshot_twice : (old middle new : Image) → KeepsAllNames old middle → KeepsAllNames middle new → KeepsAllNames old new
+snapshot_twice old middle new one two = record {
   entries = λ i slot reached now low apart.
       let later : WasNamed middle new i slot = two.entries i slot reached now low apart in
       let was : WasNamed old middle i slot = one.entries i slot later.reached later.directory later.in_size apart in
@@ -94,9 +94,9 @@ kept_twice old middle new one two = record {
 }
 
 -- so behind a thaw
-pub kept_thawed : (old new : Image) (Effect : Image → Image → Type 0) → IsWellFormed old → ((image : Image) → IsWellFormed image → Effect image new → KeepsAllNames image new) → AfterThaw Effect old new → KeepsAllNames old new
-kept_thawed old new Effect wf keeps after =
-    kept_twice old after.middle new (meaning_keeps_all old after.middle wf after.thawed.meaning)
+pub snapshot_thawed : (old new : Image) (Effect : Image → Image → Type 0) → IsWellFormed old → ((image : Image) → IsWellFormed image → Effect image new → KeepsAllNames image new) → AfterThaw Effect old new → KeepsAllNames old new
+snapshot_thawed old new Effect wf keeps after =
+    snapshot_twice old after.middle new (meaning_keeps_all old after.middle wf after.thawed.meaning)
     (keeps after.middle (well_formed-same old after.middle wf after.thawed.meaning) after.effect)
 
 -- a call on inodes that either keeps all names or has changed nothing

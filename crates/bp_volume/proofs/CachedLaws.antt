@@ -1,38 +1,38 @@
 -- A volume after a call, with what it remembers of its directories.
 use Rattle.std.proofs.Common.{◌≡◌, ℕ, [], ◌∷◌}
-use Rattle.pm_epochs.specs.declared.event.Event.TheVariants.{Mark}
+use Rattle.pm_epochs.specs.declared.event.Event.TheVariants.{CallEnd}
 use Rattle.pm_region.specs.Memory.{Memory, current_words, Adds}
 use Rattle.pm_region.proofs.MemoryLaws.{current_words-adds}
 use Rattle.bp_cache.specs.Cache.{IsCacheOf}
 use Rattle.bp_cache.specs.declared.cache.DirectoryCache.{DirectoryCache}
 use Rattle.bp_cache.proofs.EffectLaws.{cache_kept, same_trees_keep_all}
 use Rattle.bp_free.specs.declared.parts.Parts.{Parts}
-use Rattle.bp_layout.specs.Trees.{AreFrozen}
-use Rattle.bp_shapes.specs.Sets.{IsExact, kept_of}
+use Rattle.bp_layout.specs.Trees.{AreInSnapshot}
+use Rattle.bp_shapes.specs.Sets.{IsExact, in_snapshot_of}
 use Rattle.bp_plain.specs.Calls.{Call, Answer}
 use Rattle.bp_volume.specs.Carried.{CarriesOut}
 use Rattle.bp_volume.specs.Volume.{IsCachedVolume, IsVolume}
 use Rattle.bp_volume.proofs.CarriedLaws.{carried_volume}
-use Rattle.bp_volume.proofs.FileCallLaws.{volume-marked}
+use Rattle.bp_volume.proofs.FileCallLaws.{volume-ended}
 use Rattle.bp_volume.proofs.SuperLaws.{CallsSuper, super_trees, volume_super}
 use Rattle.bp_volume.proofs.SuperLaws.CallsSuper.{anew, unchanged}
 
--- a mark changes no word
-right_marked : (made new : Memory) (cache : DirectoryCache) → IsCacheOf (current_words made) cache → Adds made new (Mark ∷ []) → IsCacheOf (current_words new) cache
-right_marked made new cache right ends = rw (current_words-adds made new (Mark ∷ []) ends) right
+-- a marker changes no word
+right_ended : (made new : Memory) (cache : DirectoryCache) → IsCacheOf (current_words made) cache → Adds made new (CallEnd ∷ []) → IsCacheOf (current_words new) cache
+right_ended made new cache right ends = rw (current_words-adds made new (CallEnd ∷ []) ends) right
 
 -- a call that asks
-pub cached_marked : {R : Type 0} (old new : Memory) (parts : Parts R) (region : R) (pending : ℕ) (cache : DirectoryCache) → IsVolume old parts pending → IsCacheOf (current_words old) cache → Adds old new (Mark ∷ []) →
+pub cached_ended : {R : Type 0} (old new : Memory) (parts : Parts R) (region : R) (pending : ℕ) (cache : DirectoryCache) → IsVolume old parts pending → IsCacheOf (current_words old) cache → Adds old new (CallEnd ∷ []) →
     IsCachedVolume new (record parts { region = region }) pending cache
-cached_marked old new parts region pending cache volume right ends = record { volume = volume-marked old new parts region pending volume ends; right = right_marked old new cache right ends }
+cached_ended old new parts region pending cache volume right ends = record { volume = volume-ended old new parts region pending volume ends; right = right_ended old new cache right ends }
 
 -- a call that was carried out
 pub cached_carried : {R : Type 0} {call : Call} {answer : Answer} (middle made new : Memory) (parts after : Parts R) (region : R) (pending : ℕ) (cache : DirectoryCache) → IsVolume middle parts pending →
-    CarriesOut middle call answer made → IsExact (current_words made) after → after.frozen ≡ parts.frozen → IsCacheOf (current_words made) cache → Adds made new (Mark ∷ []) →
+    CarriesOut middle call answer made → IsExact (current_words made) after → after.snapshot_blocks ≡ parts.snapshot_blocks → IsCacheOf (current_words made) cache → Adds made new (CallEnd ∷ []) →
     IsCachedVolume new (record after { region = region }) pending cache
 cached_carried middle made new parts after region pending cache volume called exact kept right ends = record {
   volume = carried_volume middle made new parts after region pending volume called exact kept ends;
-  right = right_marked made new cache right ends;
+  right = right_ended made new cache right ends;
 }
 
 -- a call that stores words of the superblock beside the first tree
@@ -42,10 +42,10 @@ right_super memory made call answer cache (anew is does) right =
     (same_trees_keep_all (current_words memory) (current_words made) (super_trees memory made call does) does.well.first) right
 right_super memory made call answer cache (unchanged same told) right = rw same right
 
-pub cached_super : {R : Type 0} (memory made marked : Memory) (call : Call) (answer : Answer) (parts after : Parts R) (region : R) (pending : ℕ) (cache : DirectoryCache) → IsVolume memory parts pending →
-    IsCacheOf (current_words memory) cache → CallsSuper memory made call answer → IsExact (current_words made) after → AreFrozen (current_words made) (kept_of after) → Adds made marked (Mark ∷ []) →
-    IsCachedVolume marked (record after { region = region }) pending cache
-cached_super memory made marked call answer parts after region pending cache volume right called exact frozen ends = record {
-  volume = volume_super memory made marked call answer parts after region pending volume called exact frozen ends;
-  right = right_marked made marked cache (right_super memory made call answer cache called right) ends;
+pub cached_super : {R : Type 0} (memory made ended : Memory) (call : Call) (answer : Answer) (parts after : Parts R) (region : R) (pending : ℕ) (cache : DirectoryCache) → IsVolume memory parts pending →
+    IsCacheOf (current_words memory) cache → CallsSuper memory made call answer → IsExact (current_words made) after → AreInSnapshot (current_words made) (in_snapshot_of after) → Adds made ended (CallEnd ∷ []) →
+    IsCachedVolume ended (record after { region = region }) pending cache
+cached_super memory made ended call answer parts after region pending cache volume right called exact snapshot_blocks ends = record {
+  volume = volume_super memory made ended call answer parts after region pending volume called exact snapshot_blocks ends;
+  right = right_ended made ended cache (right_super memory made call answer cache called right) ends;
 }

@@ -7,7 +7,7 @@ use Rattle.bp_layout.specs.Words.{Image}
 use Rattle.bp_layout.specs.Free.{HasFree}
 use Rattle.bp_layout.specs.Need.{Change}
 use Rattle.bp_layout.specs.Thaw.{full_need}
-use Rattle.bp_layout.specs.Trees.{AreFrozen}
+use Rattle.bp_layout.specs.Trees.{AreInSnapshot}
 use Rattle.bp_layout.specs.Whole.{IsFileSystem}
 use Rattle.bp_plain.specs.declared.errors.FsError.{FsError}
 use Rattle.bp_plain.specs.PlainTree.{FileTree}
@@ -30,8 +30,8 @@ use Rattle.bp_volume.proofs.StepLaws.{no_space_steps}
 use Rattle.bp_volume.proofs.WholeLaws.{whole_stands}
 
 -- The blocks of a snapshot are told in one way.
-pub frozen_once : (image : Image) (one other : ℕ → Bool) → AreFrozen image one → AreFrozen image other → one ≡ other
-frozen_once image one other are also = λ i b. at b (one b) refl (other b) refl i
+pub snapshot_once : (image : Image) (one other : ℕ → Bool) → AreInSnapshot image one → AreInSnapshot image other → one ≡ other
+snapshot_once image one other are also = λ i b. at b (one b) refl (other b) refl i
   where
     at : (b : ℕ) (x : Bool) → one b ≡ x → (y : Bool) → other b ≡ y → one b ≡ other b
     at b true e y f = e ∙ sym (also.all b (are.are b e))
@@ -48,22 +48,22 @@ pub record MakesChange (image : Image) (call : Call) (change : Change) : Type 0 
   pub says : (tree : FileTree) → answer tree call ≡ done
   pub stays : (tree : FileTree) → tree_after tree call ≡ with_now tree (tree_after tree call).now
 
-module _ (image : Image) (call : Call) (change : Change) (makes : MakesChange image call change) (kept : ℕ → Bool) (frozen : AreFrozen image kept) where
+module _ (image : Image) (call : Call) (change : Change) (makes : MakesChange image call change) (in_snapshot : ℕ → Bool) (snapshot_blocks : AreInSnapshot image in_snapshot) where
   changes_now : (tree : FileTree) → Stands image tree → is_changing tree call ≡ true
   changes_now tree stands = ap (λ o. is_none o && changes tree call) (makes.allowed tree stands) ∙ makes.changing tree stands
 
   -- where fewer blocks are free than it needs, it is refused
-  pub lacks_space : (lacks : NoSpace) → LacksSpace image kept change lacks → Tells image call (refused (no_space lacks.need lacks.free))
+  pub lacks_space : (lacks : NoSpace) → LacksSpace image in_snapshot change lacks → Tells image call (refused (no_space lacks.need lacks.free))
   lacks_space lacks lack tree stands =
       no_space_steps image tree call lacks.need lacks.free (changes_now tree stands)
-      (record { change = change; is = makes.is; kept = kept; frozen = frozen; needs = lack.needed; has = lack.free }) lack.fewer
+      (record { change = change; is = makes.is; in_snapshot = in_snapshot; snapshot_blocks = snapshot_blocks; needs = lack.needed; has = lack.free }) lack.fewer
 
-  module _ (room : (free : ℕ) → HasFree image kept free → full_need image kept change ≤ free) where
+  module _ (room : (free : ℕ) → HasFree image in_snapshot free → full_need image in_snapshot change ≤ free) where
     fits : Fits image call
     fits needed free has =
-        let same : has.kept ≡ kept = frozen_once image has.kept kept has.frozen frozen in
-        let needs : full_need image kept change ≡ needed = ap₂ (full_need image) (sym same) (sym (makes.alike has.change has.is)) ∙ has.needs in
-        let enough : full_need image kept change ≤ free = room free (subst (λ k. HasFree image k free) same has.has) in
+        let same : has.in_snapshot ≡ in_snapshot = snapshot_once image has.in_snapshot in_snapshot has.snapshot_blocks snapshot_blocks in
+        let needs : full_need image in_snapshot change ≡ needed = ap₂ (full_need image) (sym same) (sym (makes.alike has.change has.is)) ∙ has.needs in
+        let enough : full_need image in_snapshot change ≤ free = room free (subst (λ k. HasFree image k free) same has.has) in
         omega (arith, needs, enough)
 
     -- the new image stands for the tree that the call makes
@@ -77,16 +77,16 @@ module _ (image : Image) (call : Call) (change : Change) (makes : MakesChange im
         )
 
 -- a change that is performed, with what it makes of the plain tree
-pub performs_call : (kept : ℕ → Bool) (old new : Memory) (call : Call) (change : Change) (Effect : Image → Image → Type 0) → IsFileSystem (current_words old) → AreFrozen (current_words old) kept →
-    MakesChange (current_words old) call change → Performs kept old new change Effect →
+pub performs_call : (in_snapshot : ℕ → Bool) (old new : Memory) (call : Call) (change : Change) (Effect : Image → Image → Type 0) → IsFileSystem (current_words old) → AreInSnapshot (current_words old) in_snapshot →
+    MakesChange (current_words old) call change → Performs in_snapshot old new change Effect →
     (Effect (current_words old) (current_words new) → (tree : FileTree) → Stands (current_words old) tree → Shows (current_words new) (tree_after tree call).now) → 0 < room_in new → PerformsCall old call done new
-performs_call kept old new call change Effect is frozen makes performs shows room = record {
+performs_call in_snapshot old new call change Effect is snapshot_blocks makes performs shows room = record {
   change = change;
   is = makes.is;
-  kept = kept;
-  frozen = frozen;
-  performs = performs_as kept old new change Effect performs (ChangesTree call done)
-      (λ effect. changed_steps (current_words old) call change makes kept frozen (performs_fits kept old new change Effect performs) (current_words new) (becomes effect));
+  in_snapshot = in_snapshot;
+  snapshot_blocks = snapshot_blocks;
+  performs = performs_as in_snapshot old new change Effect performs (ChangesTree call done)
+      (λ effect. changed_steps (current_words old) call change makes in_snapshot snapshot_blocks (performs_fits in_snapshot old new change Effect performs) (current_words new) (becomes effect));
   room = room;
 }
   where
@@ -95,7 +95,7 @@ performs_call kept old new call change Effect is frozen makes performs shows roo
 
     becomes : Effect (current_words old) (current_words new) → (tree : FileTree) → Stands (current_words old) tree → Stands (current_words new) (tree_after tree call)
     becomes effect tree stands = subst (Stands (current_words new)) (sym (makes.stays tree))
-        (whole_stands kept old new change Effect performs long is frozen tree (tree_after tree call).now stands (shows effect tree stands))
+        (whole_stands in_snapshot old new change Effect performs long is snapshot_blocks tree (tree_after tree call).now stands (shows effect tree stands))
 
 -- A call on inodes, and its result with the refusal told as that of a call with a path: it is performed, or it lacks space and has changed nothing.
 pub carried_or_lacks : (old new : Memory) (call : Call) (inner : Result (Unit {0}) NoSpace) (outer : Result (Unit {0}) FsError) →

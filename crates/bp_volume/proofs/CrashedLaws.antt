@@ -9,8 +9,8 @@ use Rattle.pm_region.proofs.SafeLaws.{safe_crashed}
 use Rattle.bp_free.specs.declared.parts.Parts.{Parts}
 use Rattle.bp_layout.specs.Whole.{IsFileSystem, SameFiles}
 use Rattle.bp_layout.specs.Words.{block_count}
-use Rattle.bp_layout.specs.Trees.{AreFrozen}
-use Rattle.bp_shapes.specs.Sets.{IsExact, kept_of}
+use Rattle.bp_layout.specs.Trees.{AreInSnapshot}
+use Rattle.bp_shapes.specs.Sets.{IsExact, in_snapshot_of}
 use Rattle.bp_volume.specs.Volume.{IsVolume}
 use Rattle.bp_volume.proofs.SafeLaws.{whole_of_same}
 use Rattle.bp_volume.proofs.WholeLaws.{whole_equivalence}
@@ -31,12 +31,12 @@ module _ {R : Type 0} (memory : Memory) (parts : Parts R) (pending : ℕ) (volum
   crashed_shows count is = rw (left, is) (volume.safe.right.each cut right)
 
   -- a volume again, with the sets and counts of the new words
-  pub crashed_volume : (made : Parts R) (made_pending : ℕ) → AreFrozen (current_words new) (kept_of made) → IsExact (current_words new) made → made_pending ≡ pending → IsVolume new made made_pending
-  crashed_volume made made_pending frozen exact same = record {
+  pub crashed_volume : (made : Parts R) (made_pending : ℕ) → AreInSnapshot (current_words new) (in_snapshot_of made) → IsExact (current_words new) made → made_pending ≡ pending → IsVolume new made made_pending
+  crashed_volume made made_pending snapshot_blocks exact same = record {
     safe = crashed_safe;
     roomy = rw left volume.roomy;
     well_formed = crashed_file_system;
-    frozen = frozen;
+    snapshot_blocks = snapshot_blocks;
     exact = exact;
     scans = same ∙ volume.scans ∙ ap (λ n. 64 * n) blocks-crashed;
   }

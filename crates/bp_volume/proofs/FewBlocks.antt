@@ -192,8 +192,8 @@ module _ (image : Image) where
 
 -- ---- changes
 
--- So many blocks, and those that a call thaws besides, leave room for a mark, where each takes a store more than it has
--- words.
+-- So many blocks, and those that a call thaws besides, leave room for a marker, where each takes a store more than it
+-- has words.
 abbrev pub IsFew : ℕ → Type 0
 IsFew needed = needed ≤ 400
 
@@ -213,50 +213,50 @@ module _ (image : Image) (wf : IsWellFormed image) (i : ℕ) (reached : IsReache
           let none : length (flat_map (prepared_for image) (if nat_lt (size_of image i) size then record { tree = i; from = size; to = size } ∷ [] else [])) ≡ 0 = rw (le-ltb (size_of image i) size no_longer) refl in
           omega (arith, none, copies)
 
-module _ (image : Image) (wf : IsWellFormed image) (n : ℕ) (reached : IsReached image (suc n)) (off len : ℕ) (short : len ≤ max_write) where
+module _ (image : Image) (wf : IsWellFormed image) (n : ℕ) (reached : IsReached image (suc n)) (offset len : ℕ) (short : len ≤ max_write) where
   abbrev change : Change
-  change = writes (suc n) off len
+  change = writes (suc n) offset len
 
   abbrev last : ℕ
-  last = min (off + len) (size_of image (suc n)) - 1
+  last = min (offset + len) (size_of image (suc n)) - 1
 
   -- the bytes below the size, and those past it
   abbrev bytes_below : ℕ
-  bytes_below = min (off + len) (size_of image (suc n)) - off
+  bytes_below = min (offset + len) (size_of image (suc n)) - offset
 
   abbrev bytes_past : ℕ
-  bytes_past = off + len - max off (size_of image (suc n))
+  bytes_past = offset + len - max offset (size_of image (suc n))
 
   -- one leaf more than the bytes fill, one more where they begin and end in the midst of one, and two ways
-  copied_few : (shortest : ℕ) (below above : Bool) → nat_lt off (size_of image (suc n)) ≡ below →
-      length (prefixes_of shortest [] (map (content_path image change (suc n)) (if below then range_with_len (off / 8) (suc (last / 8 - off / 8)) else []) ++ (if above then inode_word_path image change (suc n) 2 ∷ [] else []))) ≤ bytes_below / 4096 + 24
+  copied_few : (shortest : ℕ) (below above : Bool) → nat_lt offset (size_of image (suc n)) ≡ below →
+      length (prefixes_of shortest [] (map (content_path image change (suc n)) (if below then range_with_len (offset / 8) (suc (last / 8 - offset / 8)) else []) ++ (if above then inode_word_path image change (suc n) 2 ∷ [] else []))) ≤ bytes_below / 4096 + 24
   copied_few shortest false above at = omega (arith, size_few image wf change (suc n) shortest [] above)
   copied_few shortest true above at =
-      let starts : off < size_of image (suc n) = ltb-true off (size_of image (suc n)) at in
+      let starts : offset < size_of image (suc n) = ltb-true offset (size_of image (suc n)) at in
       let low : height_after image change (suc n) ≤ max_height = height_low image wf change (suc n) reached (omega (arith, starts)) in
       let run = run_few (inode_word_path image change (suc n) 1) (height_after image change (suc n)) low shortest (if above then inode_word_path image change (suc n) 2 ∷ [] else []) (suc max_height)
-      (λ earlier. size_few image wf change (suc n) shortest earlier above) (suc (last / 8 - off / 8)) (off / 8) in
-      let first : length (inode_word_path image change (suc n) 1 ++ digits (suc (height_after image change (suc n))) (off / 8)) ≡ length (inode_word_path image change (suc n) 1) + length (digits (suc (height_after image change (suc n))) (off / 8)) =
-      length-append (inode_word_path image change (suc n) 1) (digits (suc (height_after image change (suc n))) (off / 8)) in
-      let words : suc (last / 8 - off / 8) ≤ bytes_below / 8 + 2 = omega (arith, starts) in
+      (λ earlier. size_few image wf change (suc n) shortest earlier above) (suc (last / 8 - offset / 8)) (offset / 8) in
+      let first : length (inode_word_path image change (suc n) 1 ++ digits (suc (height_after image change (suc n))) (offset / 8)) ≡ length (inode_word_path image change (suc n) 1) + length (digits (suc (height_after image change (suc n))) (offset / 8)) =
+      length-append (inode_word_path image change (suc n) 1) (digits (suc (height_after image change (suc n))) (offset / 8)) in
+      let words : suc (last / 8 - offset / 8) ≤ bytes_below / 8 + 2 = omega (arith, starts) in
       let within : bytes_below ≤ max_write = omega (arith, short) in
-      let leaves : suc (last / 8 - off / 8) / 512 ≤ bytes_below / 4096 + 1 = omega (arith, words) in
-      let nodes : suc (last / 8 - off / 8) / 512 / 512 ≤ 0 = omega (arith, leaves, within) in
-      omega (arith, run, first, leaves, nodes, charge_rises (off / 8) (suc (last / 8 - off / 8)), low, inode_slots image wf change (suc n) 1, length-digits (suc (height_after image change (suc n))) (off / 8))
+      let leaves : suc (last / 8 - offset / 8) / 512 ≤ bytes_below / 4096 + 1 = omega (arith, words) in
+      let nodes : suc (last / 8 - offset / 8) / 512 / 512 ≤ 0 = omega (arith, leaves, within) in
+      omega (arith, run, first, leaves, nodes, charge_rises (offset / 8) (suc (last / 8 - offset / 8)), low, inode_slots image wf change (suc n) 1, length-digits (suc (height_after image change (suc n))) (offset / 8))
 
   -- The bytes of one write. The leaves that are made for those past the size and the leaves that are copied for those
   -- below it are those of one write together.
-  few_written : IsFew (need image (writes (suc n) off len))
+  few_written : IsFew (need image (writes (suc n) offset len))
   few_written =
       let bytes : bytes_below + bytes_past ≤ len = omega arith in
-      let prepares = prepared_few image (record { tree = suc n; from = max off (size_of image (suc n)); to = off + len }) (bytes_past / 4096 + 1) (omega (arith, bytes, short)) (omega arith) (omega arith) (wf.sound (suc n) reached).low (nat_lt (size_of image (suc n)) (off + len)) in
-      let copies = copied_few (length (cover_of (is_there_after image change) (touched image change))) (nat_lt off (size_of image (suc n))) (nat_lt (size_of image (suc n)) (off + len)) refl in
+      let prepares = prepared_few image (record { tree = suc n; from = max offset (size_of image (suc n)); to = offset + len }) (bytes_past / 4096 + 1) (omega (arith, bytes, short)) (omega arith) (omega arith) (wf.sound (suc n) reached).low (nat_lt (size_of image (suc n)) (offset + len)) in
+      let copies = copied_few (length (cover_of (is_there_after image change) (touched image change))) (nat_lt offset (size_of image (suc n))) (nat_lt (size_of image (suc n)) (offset + len)) refl in
       omega (arith, prepares, copies, bytes, short)
 
 -- the same for any file
-pub few_writes : (image : Image) → IsWellFormed image → (i : ℕ) → 1 ≤ i → IsReached image i → (off len : ℕ) → len ≤ max_write → IsFew (need image (writes i off len))
-few_writes image wf zero low reached off len short = absurd (omega (arith, low))
-few_writes image wf (suc n) low reached off len short = few_written image wf n reached off len short
+pub few_writes : (image : Image) → IsWellFormed image → (i : ℕ) → 1 ≤ i → IsReached image i → (offset len : ℕ) → len ≤ max_write → IsFew (need image (writes i offset len))
+few_writes image wf zero low reached offset len short = absurd (omega (arith, low))
+few_writes image wf (suc n) low reached offset len short = few_written image wf n reached offset len short
 
 -- a path of a content word
 pub content_slots : (image : Image) (wf : IsWellFormed image) (change : Change) (i index : ℕ) → IsReached image i → 0 < size_of image i → length (content_path image change i index) ≤ 2 * suc max_height

@@ -26,29 +26,29 @@ module _ (image : Image) (wf : IsWellFormed image) (shortest : ℕ) where
 
   -- the words of one stretch, before others
   module _ (rest : List WordPath) (most : ℕ) (few : (earlier : List WordPath) → length (prefixes_of shortest earlier rest) ≤ most) where
-    stretch_in : (n off len : ℕ) → IsReached image (suc n) → 1 ≤ len → len ≤ max_batch → off + len ≤ size_of image (suc n) → (earlier : List WordPath) →
-        length (prefixes_of shortest earlier (map (content_path_at heights (suc n)) (range_with_len (off / 8) (suc ((off + len - 1) / 8 - off / 8))) ++ rest)) ≤ len / 4096 + 18 + most
-    stretch_in n off len reached some short within earlier =
+    stretch_in : (n offset len : ℕ) → IsReached image (suc n) → 1 ≤ len → len ≤ max_batch → offset + len ≤ size_of image (suc n) → (earlier : List WordPath) →
+        length (prefixes_of shortest earlier (map (content_path_at heights (suc n)) (range_with_len (offset / 8) (suc ((offset + len - 1) / 8 - offset / 8))) ++ rest)) ≤ len / 4096 + 18 + most
+    stretch_in n offset len reached some short within earlier =
         let top : height_of (root_of image 0) ≤ max_height = (wf.sound 0 inode_file).low (omega (arith, wf.some_inodes)) in
         let low : height_of (root_of image (suc n)) ≤ max_height = (wf.sound (suc n) reached).low (omega (arith, some, within)) in
-        let words : ℕ = suc ((off + len - 1) / 8 - off / 8) in
-        let run = run_few_after (inode_path (heights 0) (suc n) 1) (heights (suc n)) low shortest rest most few earlier words (off / 8) in
-        let first = length-append (inode_path (heights 0) (suc n) 1) (digits (suc (heights (suc n))) (off / 8)) in
+        let words : ℕ = suc ((offset + len - 1) / 8 - offset / 8) in
+        let run = run_few_after (inode_path (heights 0) (suc n) 1) (heights (suc n)) low shortest rest most few earlier words (offset / 8) in
+        let first = length-append (inode_path (heights 0) (suc n) 1) (digits (suc (heights (suc n))) (offset / 8)) in
         let many : words ≤ len / 8 + 2 = omega (arith, some) in
         let leaves : words / 512 ≤ len / 4096 + 1 = omega (arith, many) in
         let nodes : words / 512 / 512 ≤ 0 = omega (arith, leaves, short) in
-        omega (arith, run, first, leaves, nodes, charge_rises (off / 8) words, low, top, length-digits (suc (heights 0)) (8 * suc n + 1), length-digits (suc (heights (suc n))) (off / 8))
+        omega (arith, run, first, leaves, nodes, charge_rises (offset / 8) words, low, top, length-digits (suc (heights 0)) (8 * suc n + 1), length-digits (suc (heights (suc n))) (offset / 8))
 
     stretch_few : (patch : Patch) → IsPatchIn image patch → length patch.bytes ≤ max_batch → (earlier : List WordPath) →
         length (prefixes_of shortest earlier (stretch_paths heights (stretch_of patch) ++ rest)) ≤ length patch.bytes / 4096 + 18 + most
     stretch_few patch is short earlier = by_bytes (cases_eq (length patch.bytes) 0)
       where
         at : (i : ℕ) → patch.inode ≡ i → 1 ≤ length patch.bytes →
-            length (prefixes_of shortest earlier (map (content_path_at heights patch.inode) (range_with_len (patch.off / 8) (suc ((patch.off + length patch.bytes - 1) / 8 - patch.off / 8))) ++ rest)) ≤ length patch.bytes / 4096 + 18 + most
+            length (prefixes_of shortest earlier (map (content_path_at heights patch.inode) (range_with_len (patch.offset / 8) (suc ((patch.offset + length patch.bytes - 1) / 8 - patch.offset / 8))) ++ rest)) ≤ length patch.bytes / 4096 + 18 + most
         at zero e some = let one : kind_of image 0 ≡ 1 = subst (λ i. kind_of image i ≡ 1) e is.is_file in absurd (omega (arith, one))
         at (suc n) e some =
-            subst (λ i. length (prefixes_of shortest earlier (map (content_path_at heights i) (range_with_len (patch.off / 8) (suc ((patch.off + length patch.bytes - 1) / 8 - patch.off / 8))) ++ rest)) ≤ length patch.bytes / 4096 + 18 + most) (sym e)
-            (stretch_in n patch.off (length patch.bytes) (subst (IsReached image) e is.reached) some short (subst (λ i. patch.off + length patch.bytes ≤ size_of image i) e is.within) earlier)
+            subst (λ i. length (prefixes_of shortest earlier (map (content_path_at heights i) (range_with_len (patch.offset / 8) (suc ((patch.offset + length patch.bytes - 1) / 8 - patch.offset / 8))) ++ rest)) ≤ length patch.bytes / 4096 + 18 + most) (sym e)
+            (stretch_in n patch.offset (length patch.bytes) (subst (IsReached image) e is.reached) some short (subst (λ i. patch.offset + length patch.bytes ≤ size_of image i) e is.within) earlier)
 
         by_bytes : (length patch.bytes ≡ 0) ⊎ (length patch.bytes ≡ 0 → ⊥) → length (prefixes_of shortest earlier (stretch_paths heights (stretch_of patch) ++ rest)) ≤ length patch.bytes / 4096 + 18 + most
         by_bytes (inl none) = rw (eq-eqb (length patch.bytes) 0 none) (omega (arith, few earlier))

@@ -1,4 +1,5 @@
--- A call thaws few blocks: so a log with room for a call has it for all that a change takes, and keeps room for the mark.
+-- A call thaws few blocks: so a log with room for a call has it for all that a change takes, and keeps room for the
+-- marker.
 use Rattle.std.proofs.Common.{◌≡◌, ℕ, zero, suc, ◌+◌, ◌-◌, ◌*◌, ◌/◌, ◌≤◌, ◌<◌, List, [], ◌∷◌, ◌++◌, length, take, map, filter, Bool, true, false, Option, None, Some, not, ◌==◌, refl, arith}
 use Rattle.std.specs.Prelude.{◌&&◌, flat_map, fold, if◌then◌else◌, min, nat_lt}
 use Rattle.std.specs.List.{range_with_len, list_any}
@@ -15,7 +16,7 @@ use Rattle.bp_layout.specs.Need.Change.{writes, resizes, enters, leaves, replace
 use Rattle.bp_layout.specs.Need.Entrant.{taken, grown, linked}
 use Rattle.bp_layout.specs.Same.{Same}
 use Rattle.bp_layout.specs.Tree.{span}
-use Rattle.bp_layout.specs.Thaw.{end_path_now, end_targets, entry_targets, fronts_of, full_need, heights_now, is_front, is_kept_at, is_there_now, slot_target, targets, thawed}
+use Rattle.bp_layout.specs.Thaw.{end_path_now, end_targets, entry_targets, fronts_of, full_need, heights_now, is_front, is_in_snapshot_at, is_there_now, slot_target, targets, thawed}
 use Rattle.bp_layout.specs.WordPaths.{WordPath, digits, inode_path, tree_path}
 use Rattle.bp_layout.specs.Words.{Image}
 use Rattle.bp_layout.proofs.MemberLaws.{each-append}
@@ -56,16 +57,16 @@ module _ (heights : ℕ → ℕ) (low : (t : ℕ) → heights t ≤ 7) where
   stretches_short [] = tt
   stretches_short (s ∷ stretches) =
       each-append IsShort (stretch_paths heights s) (flat_map (stretch_paths heights) stretches)
-      (stretch_short s (s.len == 0) (range_with_len (s.off / 8) (suc ((s.off + s.len - 1) / 8 - s.off / 8)))) (stretches_short stretches)
+      (stretch_short s (s.len == 0) (range_with_len (s.offset / 8) (suc ((s.offset + s.len - 1) / 8 - s.offset / 8)))) (stretches_short stretches)
 
   size_short : (i : ℕ) (is : Bool) → Each IsShort (if is then inode_path (heights 0) i 2 ∷ [] else [])
   size_short i true = (inode_short i 2, tt)
   size_short i false = tt
 
   touched_short : (image : Image) (change : Change) → Each IsShort (touched_at heights image change)
-  touched_short image (writes i off len) =
-      each-append IsShort (map (content_path_at heights i) (if nat_lt off (size_of image i) then range_with_len (off / 8) (suc ((min (off + len) (size_of image i) - 1) / 8 - off / 8)) else []))
-      (if nat_lt (size_of image i) (off + len) then inode_path (heights 0) i 2 ∷ [] else []) (all_short (content_path_at heights i) (content_short i) _) (size_short i (nat_lt (size_of image i) (off + len)))
+  touched_short image (writes i offset len) =
+      each-append IsShort (map (content_path_at heights i) (if nat_lt offset (size_of image i) then range_with_len (offset / 8) (suc ((min (offset + len) (size_of image i) - 1) / 8 - offset / 8)) else []))
+      (if nat_lt (size_of image i) (offset + len) then inode_path (heights 0) i 2 ∷ [] else []) (all_short (content_path_at heights i) (content_short i) _) (size_short i (nat_lt (size_of image i) (offset + len)))
   touched_short image (resizes i size) = (inode_short i 2, tt)
   touched_short image (enters i entrant) = (entered_short i (empty_slot image i), tt)
   touched_short image (leaves i s) = (content_short i (32 * s + 0), tt)
@@ -123,7 +124,7 @@ module _ (image : Image) where
   slot_short i (Some slot) = (content_short (heights_now image) heights_low i (32 * slot + 0), tt)
 
   entries_short : (change : Change) → Each IsShort (entry_targets image change)
-  entries_short (writes i off len) = tt
+  entries_short (writes i offset len) = tt
   entries_short (resizes i size) = tt
   entries_short (enters i (taken j)) = (inode_short (heights_now image) heights_low j 0, tt)
   entries_short (enters i grown) = tt
@@ -153,7 +154,7 @@ module _ (image : Image) where
   one_entry i (Some slot) = omega arith
 
   beyond_few : (change : Change) → length (beyond image change) ≤ 1
-  beyond_few (writes i off len) = one_beyond (nat_lt (size_of image i) (off + len)) _
+  beyond_few (writes i offset len) = one_beyond (nat_lt (size_of image i) (offset + len)) _
   beyond_few (resizes i size) = one_beyond (nat_lt (size_of image i) size) _
   beyond_few (enters i entrant) = one_entry i (empty_slot image i)
   beyond_few (leaves i s) = omega arith
@@ -163,7 +164,7 @@ module _ (image : Image) where
   beyond_few (overwrites stretches) = omega arith
 
   inodes_few : (change : Change) → length (new_inodes image change) ≤ 1
-  inodes_few (writes i off len) = omega arith
+  inodes_few (writes i offset len) = omega arith
   inodes_few (resizes i size) = omega arith
   inodes_few (enters i (taken j)) = omega arith
   inodes_few (enters i grown) = omega arith
@@ -179,7 +180,7 @@ module _ (image : Image) where
   slot_few i (Some slot) = omega arith
 
   entries_few : (change : Change) → length (entry_targets image change) ≤ 1
-  entries_few (writes i off len) = omega arith
+  entries_few (writes i offset len) = omega arith
   entries_few (resizes i size) = omega arith
   entries_few (enters i (taken j)) = omega arith
   entries_few (enters i grown) = omega arith
@@ -212,10 +213,10 @@ fronts_few (path ∷ paths) short earlier =
     let both = length-append (filter (λ front. not (list_any (is_front front) earlier)) (prefixes_from 0 path)) (fronts_of (path ∷ earlier) paths) in
     omega (arith, short.0, few, many, both, fronts_few paths short.1 (path ∷ earlier))
 
--- no call thaws more blocks, whichever are kept
-pub thawed_few : (image : Image) (kept : ℕ → Bool) (change : Change) → length (thawed image kept change) ≤ 96
-thawed_few image kept change =
-    omega (arith, filter_few (is_kept_at image kept) (fronts_of [] (targets image change)), fronts_few (targets image change) (targets_short image change) [], targets_few image change)
+-- no call thaws more blocks, whichever are in the snapshot
+pub thawed_few : (image : Image) (in_snapshot : ℕ → Bool) (change : Change) → length (thawed image in_snapshot change) ≤ 96
+thawed_few image in_snapshot change =
+    omega (arith, filter_few (is_in_snapshot_at image in_snapshot) (fronts_of [] (targets image change)), fronts_few (targets image change) (targets_short image change) [], targets_few image change)
 
 -- ---- room
 
@@ -226,12 +227,12 @@ room_is_left : (needed thaws room left : ℕ) → IsFew needed → thaws ≤ 96 
 room_is_left needed thaws room left few most enough took = omega (arith, few, most, enough, took)
 
 -- a log with room for a call has room for a change that needs few blocks
-pub few_room : (kept : ℕ → Bool) (memory : Memory) (change : Change) → IsFew (need (current_words memory) change) → call_room ≤ room_in memory → HasRoomFor memory kept change
-few_room kept memory change few room =
-    room_enough (need (current_words memory) change) (length (thawed (current_words memory) kept change)) (room_in memory) few (thawed_few (current_words memory) kept change) room
+pub few_room : (in_snapshot : ℕ → Bool) (memory : Memory) (change : Change) → IsFew (need (current_words memory) change) → call_room ≤ room_in memory → HasRoomFor memory in_snapshot change
+few_room in_snapshot memory change few room =
+    room_enough (need (current_words memory) change) (length (thawed (current_words memory) in_snapshot change)) (room_in memory) few (thawed_few (current_words memory) in_snapshot change) room
 
 -- few blocks leave room
-pub performs_room : (kept : ℕ → Bool) (old new : Memory) (change : Change) (Effect : Image → Image → Type 0) → Performs kept old new change Effect → IsFew (need (current_words old) change) → call_room ≤ room_in old → 0 < room_in new
-performs_room kept old new change Effect performs few room =
-    room_is_left (need (current_words old) change) (length (thawed (current_words old) kept change)) (room_in old) (room_in new) few (thawed_few (current_words old) kept change) room
-    (room_after_commit Same _ performs.value most_barriers (most_stores (full_need (current_words old) kept change)) old new performs.commit)
+pub performs_room : (in_snapshot : ℕ → Bool) (old new : Memory) (change : Change) (Effect : Image → Image → Type 0) → Performs in_snapshot old new change Effect → IsFew (need (current_words old) change) → call_room ≤ room_in old → 0 < room_in new
+performs_room in_snapshot old new change Effect performs few room =
+    room_is_left (need (current_words old) change) (length (thawed (current_words old) in_snapshot change)) (room_in old) (room_in new) few (thawed_few (current_words old) in_snapshot change) room
+    (room_after_commit Same _ performs.value most_barriers (most_stores (full_need (current_words old) in_snapshot change)) old new performs.commit)

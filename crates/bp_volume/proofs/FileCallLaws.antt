@@ -1,14 +1,14 @@
 -- A call on a file, from its parts.
 use Rattle.std.proofs.Common.{◌≡◌, ℕ, [], ◌∷◌, ◌++◌, true, false, refl, sym, ◌∙◌, ap, subst}
-use Rattle.pm_epochs.specs.declared.event.Event.TheVariants.{Mark}
+use Rattle.pm_epochs.specs.declared.event.Event.TheVariants.{CallEnd}
 use Rattle.bp_commit.specs.Performs.{IsShort}
-use Rattle.bp_commit.proofs.PerformsLaws.{performed, performs_adds, performs_short, performs_unmarked}
+use Rattle.bp_commit.proofs.PerformsLaws.{performed, performs_adds, performs_short, performs_no_call_end}
 use Rattle.pm_region.specs.Memory.{Memory, current_words, with_room, Adds}
 use Rattle.pm_region.specs.Safe.{IsSafe}
 use Rattle.pm_region.proofs.MemoryLaws.{adds_both, current_words-adds, capacity-adds, current_words-with_room}
-use Rattle.pm_region.proofs.SafeLaws.{safe_mark}
+use Rattle.pm_region.proofs.SafeLaws.{safe_call_end}
 use Rattle.bp_free.specs.declared.parts.Parts.{Parts}
-use Rattle.bp_layout.specs.Trees.{AreFrozen}
+use Rattle.bp_layout.specs.Trees.{AreInSnapshot}
 use Rattle.bp_layout.specs.Whole.{IsFileSystem, SameFiles}
 use Rattle.bp_layout.specs.Words.{Image}
 use Rattle.bp_plain.specs.Calls.{Call, Answer}
@@ -29,59 +29,59 @@ exact_parts image parts region exact = record {
   sets = exact.sets;
   counts = exact.counts;
   count_room = exact.count_room;
-  frozen_room = exact.frozen_room;
+  snapshot_room = exact.snapshot_room;
 }
 
-pub volume-marked : {R : Type 0} (old new : Memory) (parts : Parts R) (region : R) (pending : ℕ) → IsVolume old parts pending → Adds old new (Mark ∷ []) → IsVolume new (record parts { region = region }) pending
-volume-marked old new parts region pending volume adds =
-    let words : current_words new ≡ current_words old = current_words-adds old new (Mark ∷ []) adds in
+pub volume-ended : {R : Type 0} (old new : Memory) (parts : Parts R) (region : R) (pending : ℕ) → IsVolume old parts pending → Adds old new (CallEnd ∷ []) → IsVolume new (record parts { region = region }) pending
+volume-ended old new parts region pending volume adds =
+    let words : current_words new ≡ current_words old = current_words-adds old new (CallEnd ∷ []) adds in
     record {
-      safe = safe_mark SameFiles whole_equivalence old new volume.safe adds;
-      roomy = rw (capacity-adds old new (Mark ∷ []) adds) volume.roomy;
+      safe = safe_call_end SameFiles whole_equivalence old new volume.safe adds;
+      roomy = rw (capacity-adds old new (CallEnd ∷ []) adds) volume.roomy;
       well_formed = rw words volume.well_formed;
-      frozen = rw words volume.frozen;
+      snapshot_blocks = rw words volume.snapshot_blocks;
       exact = rw words (exact_parts (current_words old) parts region volume.exact);
       scans = rw words volume.scans;
     }
 
 -- ---- calls, from the memory behind the room that they made
 
--- a call that changes nothing: its mark is all that it adds
-pub file_call_unchanged : (old middle new : Memory) (call : Call) (answer : Answer) → middle ≡ with_room call_room old → IsSafe SameFiles middle → Adds middle new (Mark ∷ []) →
+-- a call that changes nothing: its marker is all that it adds
+pub file_call_unchanged : (old middle new : Memory) (call : Call) (answer : Answer) → middle ≡ with_room call_room old → IsSafe SameFiles middle → Adds middle new (CallEnd ∷ []) →
     Tells (current_words middle) call answer → FileCall old call answer new
 file_call_unchanged old middle new call answer room safe adds tells =
     let before : current_words middle ≡ current_words old = ap current_words room ∙ current_words-with_room call_room old in
-    let words : current_words new ≡ current_words old = current_words-adds middle new (Mark ∷ []) adds ∙ before in
+    let words : current_words new ≡ current_words old = current_words-adds middle new (CallEnd ∷ []) adds ∙ before in
     let told : Tells (current_words old) call answer = rw before at tells in
     record {
       added = [];
-      unmarked = refl;
+      no_call_end = refl;
       adds = rw room at adds;
       step = λ tree stands. rw words (told tree stands).1;
       silent = λ tree stands none. refl;
       short = λ tree stands changed. absurd (let both : true ≡ false = sym changed ∙ (told tree stands).0 in cc);
-      safe = safe_mark SameFiles whole_equivalence middle new safe adds;
+      safe = safe_call_end SameFiles whole_equivalence middle new safe adds;
     }
 
--- a call that changes the tree: a preparation, one store alone in its epoch, and its mark
+-- a call that changes the tree: a preparation, one store alone in its epoch, and its marker
 pub file_call_changed : (old middle committed new : Memory) (call : Call) (answer : Answer) → middle ≡ with_room call_room old → IsSafe SameFiles middle → IsFileSystem (current_words middle) →
-    PerformsCall middle call answer committed → Adds committed new (Mark ∷ []) → FileCall old call answer new
+    PerformsCall middle call answer committed → Adds committed new (CallEnd ∷ []) → FileCall old call answer new
 file_call_changed old middle committed new call answer room safe is does ends =
-    let events = performed does.kept middle committed does.change (ChangesTree call answer) does.performs in
+    let events = performed does.in_snapshot middle committed does.change (ChangesTree call answer) does.performs in
     let before : current_words middle ≡ current_words old = ap current_words room ∙ current_words-with_room call_room old in
-    let words : current_words new ≡ current_words committed = current_words-adds committed new (Mark ∷ []) ends in
+    let words : current_words new ≡ current_words committed = current_words-adds committed new (CallEnd ∷ []) ends in
     let told : ChangesTree call answer (current_words old) (current_words committed) = rw before at does.performs.effect in
     let change : IsChange (current_words old) call does.change = rw before at does.is in
-    let frozen : AreFrozen (current_words old) does.kept = rw before at does.frozen in
-    let short : IsShort (current_words old) (current_words committed) does.kept does.change events =
-    subst (λ w. IsShort w (current_words committed) does.kept does.change events) before (performs_short does.kept middle committed does.change (ChangesTree call answer) does.performs) in
+    let snapshot_blocks : AreInSnapshot (current_words old) does.in_snapshot = rw before at does.snapshot_blocks in
+    let short : IsShort (current_words old) (current_words committed) does.in_snapshot does.change events =
+    subst (λ w. IsShort w (current_words committed) does.in_snapshot does.change events) before (performs_short does.in_snapshot middle committed does.change (ChangesTree call answer) does.performs) in
     record {
       added = events;
-      unmarked = performs_unmarked does.kept middle committed does.change (ChangesTree call answer) does.performs;
-      adds = subst (λ memory. Adds memory new (events ++ Mark ∷ [])) room
-          (adds_both middle committed new events (Mark ∷ []) (performs_adds does.kept middle committed does.change (ChangesTree call answer) does.performs) ends);
+      no_call_end = performs_no_call_end does.in_snapshot middle committed does.change (ChangesTree call answer) does.performs;
+      adds = subst (λ memory. Adds memory new (events ++ CallEnd ∷ [])) room
+          (adds_both middle committed new events (CallEnd ∷ []) (performs_adds does.in_snapshot middle committed does.change (ChangesTree call answer) does.performs) ends);
       step = λ tree stands. rw words (told tree stands).1;
       silent = λ tree stands none. absurd (let both : true ≡ false = sym (told tree stands).0 ∙ none in cc);
-      short = λ tree stands changed. changes change frozen (rw words short);
-      safe = whole_safe does.kept middle committed does.change (ChangesTree call answer) does.performs is does.frozen new ends safe;
+      short = λ tree stands changed. changes change snapshot_blocks (rw words short);
+      safe = whole_safe does.in_snapshot middle committed does.change (ChangesTree call answer) does.performs is does.snapshot_blocks new ends safe;
     }

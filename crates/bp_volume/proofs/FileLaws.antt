@@ -53,24 +53,24 @@ module _ (tree : FileTree) (text : List ℕ) where
 
   -- those of a write behind the number of its bytes
   abbrev too_far : ℕ → List ℕ → List (Option Refusal)
-  too_far off new = when (nat_lt 0 (length new) && nat_lt (greatest_size tree.version) (off + length new)) too_big ∷ []
+  too_far offset new = when (nat_lt 0 (length new) && nat_lt (greatest_size tree.version) (offset + length new)) too_big ∷ []
 
-  refusal-write : (off : ℕ) (new : List ℕ) → length new ≤ greatest_write tree.version → refusal tree (write text off new) ≡ on_path text (λ p. first (file_refusal tree.now.nodes p ∷ too_far off new))
-  refusal-write off new short =
-      ap (λ b. on_path text (λ p. first (when b too_long ∷ file_refusal tree.now.nodes p ∷ too_far off new))) (le-ltb (greatest_write tree.version) (length new) short)
+  refusal-write : (offset : ℕ) (new : List ℕ) → length new ≤ greatest_write tree.version → refusal tree (write text offset new) ≡ on_path text (λ p. first (file_refusal tree.now.nodes p ∷ too_far offset new))
+  refusal-write offset new short =
+      ap (λ b. on_path text (λ p. first (when b too_long ∷ file_refusal tree.now.nodes p ∷ too_far offset new))) (le-ltb (greatest_write tree.version) (length new) short)
 
 module _ (image : Image) (text : List ℕ) where
   -- more bytes than the version writes at once
-  pub write_too_long : (off : ℕ) (new : List ℕ) (path : Path) → parse text ≡ Some path → greatest_write (version_of image) < length new → Refuses image (write text off new) too_long
-  write_too_long off new path parsed long tree stands =
-      ap (λ o. on_parsed o (λ p. first (when (nat_lt (greatest_write tree.version) (length new)) too_long ∷ file_refusal tree.now.nodes p ∷ too_far tree text off new))) parsed
-      ∙ ap (λ b. first (when b too_long ∷ file_refusal tree.now.nodes path ∷ too_far tree text off new))
+  pub write_too_long : (offset : ℕ) (new : List ℕ) (path : Path) → parse text ≡ Some path → greatest_write (version_of image) < length new → Refuses image (write text offset new) too_long
+  write_too_long offset new path parsed long tree stands =
+      ap (λ o. on_parsed o (λ p. first (when (nat_lt (greatest_write tree.version) (length new)) too_long ∷ file_refusal tree.now.nodes p ∷ too_far tree text offset new))) parsed
+      ∙ ap (λ b. first (when b too_long ∷ file_refusal tree.now.nodes path ∷ too_far tree text offset new))
       (lt-ltb (greatest_write tree.version) (length new) (subst (λ v. greatest_write v < length new) (sym stands.version) long))
 
-  pub write_stops : (off : ℕ) (new : List ℕ) (path : Path) (why : Refusal) → parse text ≡ Some path → length new ≤ greatest_write (version_of image) → RefusesFileAt image path why → Refuses image (write text off new) why
-  write_stops off new path why parsed short stops tree stands =
-      refusal-write tree text off new (subst (λ v. length new ≤ greatest_write v) (sym stands.version) short)
-      ∙ file_first tree text (λ p. too_far tree text off new) why (ap (λ o. on_parsed o (refusal_of_file tree)) parsed ∙ stops tree stands)
+  pub write_stops : (offset : ℕ) (new : List ℕ) (path : Path) (why : Refusal) → parse text ≡ Some path → length new ≤ greatest_write (version_of image) → RefusesFileAt image path why → Refuses image (write text offset new) why
+  write_stops offset new path why parsed short stops tree stands =
+      refusal-write tree text offset new (subst (λ v. length new ≤ greatest_write v) (sym stands.version) short)
+      ∙ file_first tree text (λ p. too_far tree text offset new) why (ap (λ o. on_parsed o (refusal_of_file tree)) parsed ∙ stops tree stands)
 
   pub truncate_stops : (size : ℕ) (why : Refusal) → StopsAtFile image text why → Tells image (truncate text size) (refused why)
   truncate_stops size why stops tree stands =
@@ -111,40 +111,40 @@ module _ (image : Image) (text : List ℕ) (i : ℕ) (at : PathFinds image text 
 
   -- a write
 
-  module _ (off : ℕ) (new : List ℕ) where
-    pub write_alike : (other : Change) → IsChange image (write text off new) other → other ≡ writes i off (length new)
-    write_alike _ (by_write {i = k} finds) = ap (λ j. writes j off (length new)) (same_file k finds)
+  module _ (offset : ℕ) (new : List ℕ) where
+    pub write_alike : (other : Change) → IsChange image (write text offset new) other → other ≡ writes i offset (length new)
+    write_alike _ (by_write {i = k} finds) = ap (λ j. writes j offset (length new)) (same_file k finds)
 
     module _ (short : length new ≤ greatest_write (version_of image)) where
-      write_left : (tree : FileTree) → Stands image tree → refusal tree (write text off new) ≡ first (when (nat_lt 0 (length new) && nat_lt (greatest_size (version_of image)) (off + length new)) too_big ∷ [])
+      write_left : (tree : FileTree) → Stands image tree → refusal tree (write text offset new) ≡ first (when (nat_lt 0 (length new) && nat_lt (greatest_size (version_of image)) (offset + length new)) too_big ∷ [])
       write_left tree stands =
-          refusal-write tree text off new (subst (λ v. length new ≤ greatest_write v) (sym stands.version) short)
-          ∙ behind tree stands (λ p. too_far tree text off new)
-          ∙ ap (λ v. first (when (nat_lt 0 (length new) && nat_lt (greatest_size v) (off + length new)) too_big ∷ [])) stands.version
+          refusal-write tree text offset new (subst (λ v. length new ≤ greatest_write v) (sym stands.version) short)
+          ∙ behind tree stands (λ p. too_far tree text offset new)
+          ∙ ap (λ v. first (when (nat_lt 0 (length new) && nat_lt (greatest_size v) (offset + length new)) too_big ∷ [])) stands.version
 
-      pub write_too_big : 0 < length new → greatest_size (version_of image) < off + length new → Tells image (write text off new) (refused too_big)
+      pub write_too_big : 0 < length new → greatest_size (version_of image) < offset + length new → Tells image (write text offset new) (refused too_big)
       write_too_big some big tree stands =
-          refused_steps image tree (write text off new) too_big
-          (write_left tree stands ∙ ap₂ (λ a b. first (when (a && b) too_big ∷ [])) (lt-ltb 0 (length new) some) (lt-ltb (greatest_size (version_of image)) (off + length new) big))
+          refused_steps image tree (write text offset new) too_big
+          (write_left tree stands ∙ ap₂ (λ a b. first (when (a && b) too_big ∷ [])) (lt-ltb 0 (length new) some) (lt-ltb (greatest_size (version_of image)) (offset + length new) big))
 
       -- no bytes change nothing
-      pub write_nothing : length new ≤ 0 → Tells image (write text off new) done
+      pub write_nothing : length new ≤ 0 → Tells image (write text offset new) done
       write_nothing none tree stands =
-          answer_steps image tree (write text off new) done
-          (write_left tree stands ∙ ap (λ b. first (when (b && nat_lt (greatest_size (version_of image)) (off + length new)) too_big ∷ [])) (le-ltb 0 (length new) none)) (le-ltb 0 (length new) none) refl
+          answer_steps image tree (write text offset new) done
+          (write_left tree stands ∙ ap (λ b. first (when (b && nat_lt (greatest_size (version_of image)) (offset + length new)) too_big ∷ [])) (le-ltb 0 (length new) none)) (le-ltb 0 (length new) none) refl
 
-      pub write_makes : 0 < length new → off + length new ≤ greatest_size (version_of image) → MakesChange image (write text off new) (writes i off (length new))
+      pub write_makes : 0 < length new → offset + length new ≤ greatest_size (version_of image) → MakesChange image (write text offset new) (writes i offset (length new))
       write_makes some fits = record {
         is = by_write at;
         alike = write_alike;
-        allowed = λ tree stands. write_left tree stands ∙ ap₂ (λ a b. first (when (a && b) too_big ∷ [])) (lt-ltb 0 (length new) some) (le-ltb (greatest_size (version_of image)) (off + length new) fits);
+        allowed = λ tree stands. write_left tree stands ∙ ap₂ (λ a b. first (when (a && b) too_big ∷ [])) (lt-ltb 0 (length new) some) (le-ltb (greatest_size (version_of image)) (offset + length new) fits);
         changing = λ tree stands. lt-ltb 0 (length new) some;
         says = λ tree. refl;
         stays = λ tree. refl;
       }
 
-    pub write_shows : (after : Image) → GetsBytes i off new image after → (tree : FileTree) → Stands image tree → Shows after (tree_after tree (write text off new)).now
-    write_shows after gets tree stands = subst (λ p. Shows after (with_written tree.now p off new)) (sym path_is) (gets tree.now at.path stands.now at.inode)
+    pub write_shows : (after : Image) → GetsBytes i offset new image after → (tree : FileTree) → Stands image tree → Shows after (tree_after tree (write text offset new)).now
+    write_shows after gets tree stands = subst (λ p. Shows after (with_written tree.now p offset new)) (sym path_is) (gets tree.now at.path stands.now at.inode)
 
   -- another size
 

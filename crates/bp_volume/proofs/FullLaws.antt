@@ -12,8 +12,8 @@ use Rattle.bp_layout.specs.Lookup.{lookup}
 use Rattle.bp_layout.specs.Paths.{Path}
 use Rattle.bp_layout.specs.Need.{Change, need}
 use Rattle.bp_layout.specs.Need.Change.{leaves}
-use Rattle.bp_layout.specs.Thaw.{full_need, none_kept}
-use Rattle.bp_layout.specs.Trees.{AreFrozen, has_snapshot}
+use Rattle.bp_layout.specs.Thaw.{full_need, none_in_snapshot}
+use Rattle.bp_layout.specs.Trees.{AreInSnapshot, has_snapshot}
 use Rattle.bp_layout.specs.Words.{Image}
 use Rattle.bp_layout.proofs.ThawLaws.{full_need-none}
 use Rattle.bp_limits.specs.CallLimits.{greatest_size}
@@ -31,7 +31,7 @@ use Rattle.bp_volume.specs.Step.IsChange.{by_unlink, by_rmdir, by_truncate}
 use Rattle.bp_volume.specs.Step.StepFor.{no_room, unchanged, changed}
 use Rattle.bp_volume.specs.Told.{refusal_of_walk}
 use Rattle.bp_volume.proofs.FileLaws.{has_bytes, write_alike}
-use Rattle.bp_volume.proofs.ChangeLaws.{frozen_once}
+use Rattle.bp_volume.proofs.ChangeLaws.{snapshot_once}
 use Rattle.bp_volume.proofs.LeavingLaws.{is_found}
 use Rattle.bp_volume.proofs.WalkLaws.{dir_at, kind_at, reached_at, walk-image}
 
@@ -70,9 +70,9 @@ walked_found missing none = absurd (cc)
 walked_found in_file none = absurd (cc)
 
 module _ (image : Image) (tree : FileTree) (stands : Stands image tree) (alone : tree.snap ≡ None) where
-  -- no block is kept where the tree has no snapshot
-  nothing_kept : (kept : ℕ → Bool) → AreFrozen image kept → kept ≡ none_kept
-  nothing_kept kept frozen = frozen_once image kept none_kept frozen (record {
+  -- no block is in the snapshot where the tree has no snapshot
+  nothing_in_snapshot : (in_snapshot : ℕ → Bool) → AreInSnapshot image in_snapshot → in_snapshot ≡ none_in_snapshot
+  nothing_in_snapshot in_snapshot snapshot_blocks = snapshot_once image in_snapshot none_in_snapshot snapshot_blocks (record {
     are = λ b is. let wrong : ◌≡◌ {A = Bool} false true = is in absurd (cc);
     all = λ b is. let there : has_snapshot image ≡ true = is.there in absurd (true≢false (sym there ∙ no_snapshot));
   })
@@ -83,7 +83,7 @@ module _ (image : Image) (tree : FileTree) (stands : Stands image tree) (alone :
   -- so a call needs what its change does
   needed_by : (call : Call) (needed free : ℕ) (has : HasNeed image call needed free) → need image has.change ≡ 0 → free < needed → ⊥
   needed_by call needed free has none fewer =
-      let all : full_need image has.kept has.change ≡ need image has.change = ap (λ kept. full_need image kept has.change) (nothing_kept has.kept has.frozen) ∙ full_need-none image has.change in
+      let all : full_need image has.in_snapshot has.change ≡ need image has.change = ap (λ in_snapshot. full_need image in_snapshot has.change) (nothing_in_snapshot has.in_snapshot has.snapshot_blocks) ∙ full_need-none image has.change in
       let is : needed ≡ 0 = sym has.needs ∙ all ∙ none in
       omega (arith, is, fewer)
 
@@ -148,11 +148,11 @@ module _ (image : Image) (tree : FileTree) (stands : Stands image tree) (alone :
 
   -- bytes in one word that has a block
 
-  module _ (text new : List ℕ) (i off : ℕ) (at : PathFinds image text i) (lies : LiesInWord image i off (length new)) where
-    write_none : (change : Change) → IsChange image (write text off new) change → need image change ≡ 0
-    write_none change is = ap (need image) (write_alike image text i at lies.file off new change is) ∙ none_writing image stands.now.well_formed i off (length new) lies
+  module _ (text new : List ℕ) (i offset : ℕ) (at : PathFinds image text i) (lies : LiesInWord image i offset (length new)) where
+    write_none : (change : Change) → IsChange image (write text offset new) change → need image change ≡ 0
+    write_none change is = ap (need image) (write_alike image text i at lies.file offset new change is) ∙ none_writing image stands.now.well_formed i offset (length new) lies
 
-    pub write_plainly : IsNeverShort image tree (write text off new)
-    write_plainly _ _ (no_room changing has fewer) = absurd (needed_by (write text off new) _ _ has (write_none has.change has.is) fewer)
+    pub write_plainly : IsNeverShort image tree (write text offset new)
+    write_plainly _ _ (no_room changing has fewer) = absurd (needed_by (write text offset new) _ _ has (write_none has.change has.is) fewer)
     write_plainly _ _ (unchanged still) = refl
     write_plainly _ _ (changed changing fits becomes) = refl

@@ -17,7 +17,7 @@ use Rattle.bp_plain.specs.PlainTree.{empty_tree}
 use Rattle.bp_plain.specs.Stands.{Stands}
 use Rattle.bp_plain.proofs.FormatStands.{format_stands}
 use Rattle.bp_volume.specs.Laid.{IsLeftByFormat, format_events, stores_epoch}
-use Rattle.bp_volume.specs.Laid.IsLeftByFormat.{untouched, unmarked, empty}
+use Rattle.bp_volume.specs.Laid.IsLeftByFormat.{untouched, no_magic, empty}
 
 -- a replay of some events keeps stores of some epochs and a mask
 replayed : (base : List ℕ) (events : List Event) (image : List ℕ) (found : IsReplay base events image) → words_after base (stores_of found.cut.epoch found.cut.mask events) ≡ image
@@ -39,14 +39,14 @@ word_stays base events place may image found =
     (EachMay-stored (AnyAt (λ p. p ≢ place)) base (stores_of found.cut.epoch found.cut.mask events) (StoresMay-stores_of (AnyAt (λ p. p ≢ place)) events found.cut.epoch found.cut.mask may)) place (λ value other. other refl))
 
 module _ (base : Image) (version : Version) (blocks : ℕ) (whole : length base ≡ 512 * blocks) (least : 8 ≤ blocks) (most : blocks ≤ max_blocks) where
-  abbrev unmarking : List Event
-  unmarking = stores_epoch ((super_magic, 0) ∷ [])
+  abbrev clearing_magic : List Event
+  clearing_magic = stores_epoch ((super_magic, 0) ∷ [])
 
   abbrev filling : List Event
   filling = stores_epoch (empty_words version blocks)
 
-  abbrev marking : List Event
-  marking = stores_epoch ((super_magic, magic version) ∷ [])
+  abbrev setting_magic : List Event
+  setting_magic = stores_epoch ((super_magic, magic version) ∷ [])
 
   cleared : word (set base 0 0) 0 ≡ 0
   cleared = get_or-set_same base 0 0 0 (omega (arith, whole, least))
@@ -78,22 +78,22 @@ module _ (base : Image) (version : Version) (blocks : ℕ) (whole : length base 
       go Two = format_stands base Two blocks whole least most
 
   pub left_by_format : (image : List ℕ) → IsReplay base (format_events version blocks) image → IsLeftByFormat version base image
-  left_by_format image found = elim (joined_replays base unmarking (filling ++ marking) (omega arith, tt) image found) [
+  left_by_format image found = elim (joined_replays base clearing_magic (filling ++ setting_magic) (omega arith, tt) image found) [
     | inl early ↦ at_first early
-    | inr late ↦ elim (joined_replays (set base 0 0) filling marking filling_closed image late) [
-      | inl middle ↦ unmarked (word_stays (set base 0 0) filling 0 filling_apart image middle ∙ cleared)
+    | inr late ↦ elim (joined_replays (set base 0 0) filling setting_magic filling_closed image late) [
+      | inl middle ↦ no_magic (word_stays (set base 0 0) filling 0 filling_apart image middle ∙ cleared)
       | inr end ↦ at_last end
     ]
   ]
     where
-      at_first : IsReplay base unmarking image → IsLeftByFormat version base image
+      at_first : IsReplay base clearing_magic image → IsLeftByFormat version base image
       at_first early = elim (one_store base 0 0 early.cut.epoch early.cut.mask) [
-        | inl same ↦ untouched (sym (replayed base unmarking image early) ∙ same)
-        | inr done ↦ unmarked (ap (λ w. word w 0) (sym (replayed base unmarking image early) ∙ done) ∙ cleared)
+        | inl same ↦ untouched (sym (replayed base clearing_magic image early) ∙ same)
+        | inr done ↦ no_magic (ap (λ w. word w 0) (sym (replayed base clearing_magic image early) ∙ done) ∙ cleared)
       ]
 
-      at_last : IsReplay (words_after (set base 0 0) filling) marking image → IsLeftByFormat version base image
+      at_last : IsReplay (words_after (set base 0 0) filling) setting_magic image → IsLeftByFormat version base image
       at_last end = elim (one_store (words_after (set base 0 0) filling) 0 (magic version) end.cut.epoch end.cut.mask) [
-        | inl same ↦ unmarked (ap (λ w. word w 0) (sym (replayed (words_after (set base 0 0) filling) marking image end) ∙ same) ∙ filled)
-        | inr done ↦ empty (subst (λ w. Stands w (empty_tree version)) (sym (sym (replayed (words_after (set base 0 0) filling) marking image end) ∙ done)) stands_made)
+        | inl same ↦ no_magic (ap (λ w. word w 0) (sym (replayed (words_after (set base 0 0) filling) setting_magic image end) ∙ same) ∙ filled)
+        | inr done ↦ empty (subst (λ w. Stands w (empty_tree version)) (sym (sym (replayed (words_after (set base 0 0) filling) setting_magic image end) ∙ done)) stands_made)
       ]

@@ -40,4 +40,4 @@ pub mod CachedLaws
 pub mod SuperLaws
 pub mod LiveBlocks
 pub mod SnapLaws
-pub mod SecondAsking
+pub mod SnapshotAsking

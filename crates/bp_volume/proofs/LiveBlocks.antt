@@ -1,5 +1,5 @@
--- Each block but the first that a volume does not find free is live in the first tree, where no block is kept: a search over
--- the inodes that have names finds the pointer to it.
+-- Each block but the first that a volume does not find free is live in the first tree, where no block is in the
+-- snapshot: a search over the inodes that have names finds the pointer to it.
 use Rattle.std.proofs.Common.{◌≡◌, ◌≢◌, ◌⊎◌, ℕ, zero, suc, ◌+◌, ◌-◌, ◌*◌, ◌/◌, ◌<◌, ◌≤◌, List, [], ◌∷◌, length, true≢false, refl, sym, ◌∙◌, subst, arith, inl, inr}
 use Rattle.std.proofs.Math.Nat.{le-mul_of_pos_right}
 use Rattle.std.proofs.lemmas.Bool.{cases_eq, cases_lt}
@@ -11,7 +11,7 @@ use Rattle.bp_layout.specs.Members.{Each, Has}
 use Rattle.bp_layout.specs.Names.{HasNames, IsNamed}
 use Rattle.bp_layout.specs.Reached.{IsLiveBlock, IsReached}
 use Rattle.bp_layout.specs.Reached.IsReached.{inode_file, root_directory, named}
-use Rattle.bp_layout.specs.Thaw.{none_kept}
+use Rattle.bp_layout.specs.Thaw.{none_in_snapshot}
 use Rattle.bp_layout.specs.Tree.{HasBlock, covered, node}
 use Rattle.bp_layout.specs.WellFormed.{IsWellFormed}
 use Rattle.bp_layout.specs.Words.{Image, block_count, height_of}
@@ -99,7 +99,7 @@ module _ (image : Image) (root size block : ℕ) where
 
 module _ {R : Type 0} (image : Image) (wf : IsWellFormed image) (parts : Parts R) (exact : IsExact image parts) where
   -- each inode that is reached is counted
-  counted : (t : ℕ) → IsReached image t → t < length parts.counts
+  counted : (t : ℕ) → IsReached image t → t < length parts.link_counts
   counted t reached =
       let low : t < inode_count image = reached-in_file image wf t reached in
       let few : size_of image 0 / 64 ≤ 64 * block_count image =
@@ -120,13 +120,13 @@ module _ {R : Type 0} (image : Image) (wf : IsWellFormed image) (parts : Parts R
       go (e ∷ entries) each all = let first : IsNamed image t e = each.0 in inl (named e.1 first.reached first.names)
 
   decide_reached : (t : ℕ) → IsReached image t ⊎ (IsReached image t → ⊥)
-  decide_reached t = go (cases_eq t 0) (cases_eq t 1) (cases_lt t (length parts.counts))
+  decide_reached t = go (cases_eq t 0) (cases_eq t 1) (cases_lt t (length parts.link_counts))
     where
-      go : (t ≡ 0) ⊎ (t ≢ 0) → (t ≡ 1) ⊎ (t ≢ 1) → (t < length parts.counts) ⊎ (length parts.counts ≤ t) → IsReached image t ⊎ (IsReached image t → ⊥)
+      go : (t ≡ 0) ⊎ (t ≢ 0) → (t ≡ 1) ⊎ (t ≢ 1) → (t < length parts.link_counts) ⊎ (length parts.link_counts ≤ t) → IsReached image t ⊎ (IsReached image t → ⊥)
       go (inl is) _ _ = inl (subst (IsReached image) (sym is) inode_file)
       go (inr a) (inl is) _ = inl (subst (IsReached image) (sym is) root_directory)
       go (inr a) (inr b) (inl low) = decide_named t (omega (arith, a, b)) (exact.counts.each t low)
-      go (inr a) (inr b) (inr high) = inr (λ reached. let low : t < length parts.counts = counted t reached in absurd (omega (arith, low, high)))
+      go (inr a) (inr b) (inr high) = inr (λ reached. let low : t < length parts.link_counts = counted t reached in absurd (omega (arith, low, high)))
 
   -- inode t has the block, and is reached
   abbrev Holds : ℕ → ℕ → Type 0
@@ -141,13 +141,13 @@ module _ {R : Type 0} (image : Image) (wf : IsWellFormed image) (parts : Parts R
       go (inl reached) (inl has) = inl (reached, has)
 
   decide_live : (block : ℕ) → IsLiveBlock image block ⊎ (IsLiveBlock image block → ⊥)
-  decide_live block = go (search_below (Holds block) (decide_holds block) (length parts.counts))
+  decide_live block = go (search_below (Holds block) (decide_holds block) (length parts.link_counts))
     where
-      go : Below (Holds block) (length parts.counts) ⊎ (Below (Holds block) (length parts.counts) → ⊥) → IsLiveBlock image block ⊎ (IsLiveBlock image block → ⊥)
+      go : Below (Holds block) (length parts.link_counts) ⊎ (Below (Holds block) (length parts.link_counts) → ⊥) → IsLiveBlock image block ⊎ (IsLiveBlock image block → ⊥)
       go (inl found) = inl (record { tree = found.0; reached = found.2.0; has = found.2.1 })
       go (inr none) = inr (λ live. none (live.tree, counted live.tree live.reached, (live.reached, live.has)))
 
-  pub others_live : AreFreeBlocks image none_kept (has parts.blocks) → AreOthersLive image (has parts.blocks)
+  pub others_live : AreFreeBlocks image none_in_snapshot (has parts.free_blocks) → AreOthersLive image (has parts.free_blocks)
   others_live free block low high taken = go (decide_live block)
     where
       go : IsLiveBlock image block ⊎ (IsLiveBlock image block → ⊥) → IsLiveBlock image block

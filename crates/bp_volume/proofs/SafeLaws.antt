@@ -1,20 +1,20 @@
--- A call that is performed keeps a volume's memory safe, by its mark: at every moment of a crash both trees mean what they
--- meant before it or after it.
+-- A call that is performed keeps a volume's memory safe, by its marker: at every moment of a crash both trees mean what
+-- they meant before it or after it.
 use Rattle.std.proofs.Common.{◌≡◌, ℕ, ◌≤◌, [], ◌∷◌, length, Bool, refl, arith}
-use Rattle.pm_epochs.specs.declared.event.Event.TheVariants.{Mark}
+use Rattle.pm_epochs.specs.declared.event.Event.TheVariants.{CallEnd}
 use Rattle.pm_region.specs.Memory.{Adds, Memory, current_words}
 use Rattle.pm_region.specs.Safe.{IsSafe}
 use Rattle.pm_region.proofs.MemoryLaws.{current_words-adds}
 use Rattle.pm_region.proofs.SafeLaws.{safe_committed}
 use Rattle.bp_layout.specs.Need.{Change, cover}
 use Rattle.bp_layout.specs.Thaw.{full_need}
-use Rattle.bp_layout.specs.Trees.{AreFrozen, snapshot_of}
+use Rattle.bp_layout.specs.Trees.{AreInSnapshot, snapshot_of}
 use Rattle.bp_layout.specs.WordPaths.{address}
 use Rattle.bp_layout.specs.Words.{Image}
 use Rattle.bp_layout.specs.Whole.{IsFileSystem, SameFiles}
 use Rattle.bp_layout.proofs.SameLaws.{same_self}
 use Rattle.bp_commit.specs.Performs.{Performs, most_stores}
-use Rattle.bp_volume.proofs.WholeLaws.{whole_commit, whole_equivalence, whole_file_system, whole_frozen}
+use Rattle.bp_volume.proofs.WholeLaws.{whole_commit, whole_equivalence, whole_file_system, whole_snapshot}
 
 -- ---- a file system by itself
 
@@ -39,8 +39,8 @@ whole_of_same image other same = record {
 
 -- ---- calls
 
-module _ (kept : ℕ → Bool) (old new : Memory) (change : Change) (Effect : Image → Image → Type 0) (done : Performs kept old new change Effect)
-    (is : IsFileSystem (current_words old)) (frozen : AreFrozen (current_words old) kept) where
+module _ (in_snapshot : ℕ → Bool) (old new : Memory) (change : Change) (Effect : Image → Image → Type 0) (done : Performs in_snapshot old new change Effect)
+    (is : IsFileSystem (current_words old)) (snapshot_blocks : AreInSnapshot (current_words old) in_snapshot) where
   abbrev place : ℕ
   place = address (current_words new) (cover (current_words old) change)
 
@@ -48,17 +48,17 @@ module _ (kept : ℕ → Bool) (old new : Memory) (change : Change) (Effect : Im
   long = omega (arith, long_words (current_words old) is)
 
   pub file_system_after : IsFileSystem (current_words new)
-  file_system_after = whole_file_system kept old new change Effect done long is frozen
+  file_system_after = whole_file_system in_snapshot old new change Effect done long is snapshot_blocks
 
   -- and the blocks of its snapshot are those that they were
-  pub frozen_after : AreFrozen (current_words new) kept
-  frozen_after = whole_frozen kept old new change Effect done long is frozen
+  pub snapshot_after : AreInSnapshot (current_words new) in_snapshot
+  snapshot_after = whole_snapshot in_snapshot old new change Effect done long is snapshot_blocks
 
-  module _ (marked : Memory) (ends : Adds new marked (Mark ∷ [])) where
-    words : current_words marked ≡ current_words new
-    words = current_words-adds new marked (Mark ∷ []) ends
+  module _ (ended : Memory) (ends : Adds new ended (CallEnd ∷ [])) where
+    words : current_words ended ≡ current_words new
+    words = current_words-adds new ended (CallEnd ∷ []) ends
 
-    pub whole_safe : IsSafe SameFiles old → IsSafe SameFiles marked
+    pub whole_safe : IsSafe SameFiles old → IsSafe SameFiles ended
     whole_safe safe =
-        safe_committed SameFiles whole_equivalence place done.value 10 (most_stores (full_need (current_words old) kept change)) old new marked safe
-        (whole_commit kept old new change Effect done long is frozen) ends (rw words (whole_self (current_words new) file_system_after))
+        safe_committed SameFiles whole_equivalence place done.value 10 (most_stores (full_need (current_words old) in_snapshot change)) old new ended safe
+        (whole_commit in_snapshot old new change Effect done long is snapshot_blocks) ends (rw words (whole_self (current_words new) file_system_after))

@@ -23,12 +23,12 @@ use Rattle.bp_layout.specs.Free.{AreFreeBlocks}
 use Rattle.bp_layout.specs.Need.{Change}
 use Rattle.bp_layout.specs.Reached.{IsFreeBlock}
 use Rattle.bp_layout.specs.Same.{Same}
-use Rattle.bp_layout.specs.Thaw.{none_kept}
-use Rattle.bp_layout.specs.Trees.{AreFrozen, has_snapshot, snapshot_of}
+use Rattle.bp_layout.specs.Thaw.{none_in_snapshot}
+use Rattle.bp_layout.specs.Trees.{AreInSnapshot, has_snapshot, snapshot_of}
 use Rattle.bp_layout.specs.WellFormed.{IsWellFormed}
 use Rattle.bp_layout.specs.Whole.{IsFileSystem, SameFiles}
 use Rattle.bp_layout.specs.Words.{Image, block_count, word}
-use Rattle.bp_layout.proofs.NoSecond.{alone_file_system, has_none, kept_none}
+use Rattle.bp_layout.proofs.NoSnapshot.{alone_file_system, has_none, snapshot_none}
 use Rattle.bp_limits.specs.Limits.{version_at}
 use Rattle.bp_limits.specs.CallLimits.{is_two}
 use Rattle.bp_limits.specs.declared.version.Version.TheVariants.{One, Two}
@@ -41,8 +41,8 @@ use Rattle.bp_plain.specs.PlainTree.{FileTree, PathMap}
 use Rattle.bp_plain.specs.Stands.{ShowsSnapshot, Stands}
 use Rattle.bp_scan.specs.Others.{HasOthers}
 use Rattle.bp_scan.specs.Scanned.{AreOthersLive}
-use Rattle.bp_scan.proofs.BothScans.{frozen_others}
-use Rattle.bp_shapes.specs.Sets.{IsExact, kept_of}
+use Rattle.bp_scan.proofs.BothScans.{snapshot_others}
+use Rattle.bp_shapes.specs.Sets.{IsExact, in_snapshot_of}
 use Rattle.bp_stands.proofs.SnapStands.{idle-harmless, snap_stands, snapped_same, snapshot_is, unsnap_stands, unsnapped_same}
 use Rattle.bp_volume.specs.Carried.{ChangesTree}
 use Rattle.bp_volume.specs.Snapped.{Snaps, Unsnaps}
@@ -115,8 +115,8 @@ module _ (image other : Image) (wf : IsWellFormed image) (each : EachMay (AnyAt 
 -- ---- a snapshot is made
 
 -- the root word of the second tree
-abbrev IsSecondRoot : ℕ → Type 0
-IsSecondRoot place = place ≡ 4
+abbrev IsSnapshotRoot : ℕ → Type 0
+IsSnapshotRoot place = place ≡ 4
 
 module _ (image : Image) (is : IsFileSystem image) (two : version_of image ≡ Two) (none : has_snapshot image ≡ false) where
   long : 6 ≤ length image
@@ -126,12 +126,12 @@ module _ (image : Image) (is : IsFileSystem image) (two : version_of image ≡ T
   snapped = set (set image 4 (word image 2)) 5 (word image 3)
 
   -- no image in between has a snapshot
-  between_none : (other : Image) → EachMay (AnyAt IsSecondRoot) image other → has_snapshot other ≡ false
+  between_none : (other : Image) → EachMay (AnyAt IsSnapshotRoot) image other → has_snapshot other ≡ false
   between_none other each =
-      let at : (place : ℕ) → place ≢ 4 → word other place ≡ word image place = λ place apart. same_where_none (AnyAt IsSecondRoot) image other each place (λ value e. apart e) in
+      let at : (place : ℕ) → place ≢ 4 → word other place ≡ word image place = λ place apart. same_where_none (AnyAt IsSnapshotRoot) image other each place (λ value e. apart e) in
       (λ i. is_two (version_at (at 0 (λ e. omega (arith, e)) i)) && nat_lt 0 (at 5 (λ e. omega (arith, e)) i)) ∙ none
 
-  between_same : (other : Image) → EachMay (AnyAt IsSecondRoot) image other → SameFiles image other
+  between_same : (other : Image) → EachMay (AnyAt IsSnapshotRoot) image other → SameFiles image other
   between_same other each = record {
     first = idle_same image other is.first (record { size = each.size; each = λ place. go place (each.each place) });
     second = record {
@@ -140,21 +140,21 @@ module _ (image : Image) (is : IsFileSystem image) (two : version_of image ≡ T
     };
   }
     where
-      go : (place : ℕ) → (word other place ≡ word image place) ⊎ IsSecondRoot place → (word other place ≡ word image place) ⊎ IsIdle place
+      go : (place : ℕ) → (word other place ≡ word image place) ⊎ IsSnapshotRoot place → (word other place ≡ word image place) ⊎ IsIdle place
       go place (inl same) = inl same
       go place (inr e) = inr (omega (arith, e), omega (arith, e))
 
   snap_quiet : IsQuiet SameFiles image (Store 4 (word image 2) ∷ [])
-  snap_quiet = quiet_may SameFiles whole_equivalence (AnyAt IsSecondRoot) image (Store 4 (word image 2) ∷ []) between_same (refl, tt)
+  snap_quiet = quiet_may SameFiles whole_equivalence (AnyAt IsSnapshotRoot) image (Store 4 (word image 2) ∷ []) between_same (refl, tt)
 
   -- the second tree is there
   there_now : has_snapshot snapped ≡ true
   there_now =
       let size : word snapped 5 ≡ word image 3 = get_or-set_same (set image 4 (word image 2)) 5 (word image 3) 0 (rw (length-set image 4 (word image 2)) (omega (arith, long))) in
-      let mark : word snapped 0 ≡ word image 0 =
+      let magic_stays : word snapped 0 ≡ word image 0 =
       get_or-set_other (set image 4 (word image 2)) 5 0 (word image 3) 0 (λ e. omega (arith, e)) ∙ get_or-set_other image 4 0 (word image 2) 0 (λ e. omega (arith, e)) in
       let some : 4096 ≤ word image 3 = is.first.some_inodes in
-      (λ i. is_two ((ap version_at mark ∙ two) i) && nat_lt 0 (size i)) ∙ lt-ltb 0 (word image 3) (omega (arith, some))
+      (λ i. is_two ((ap version_at magic_stays ∙ two) i) && nat_lt 0 (size i)) ∙ lt-ltb 0 (word image 3) (omega (arith, some))
 
   snapped_well : IsWellFormed snapped
   snapped_well = (snapped_same image long is.first).new_well_formed
@@ -194,43 +194,43 @@ module _ (memory made : Memory) (is : IsFileSystem (current_words memory)) (two 
     value = word image 3;
     adds = adds;
     quiet = snap_quiet image is two none;
-    piece = record { unmarked = refl; few_barriers = omega arith; few_stores = omega arith };
+    piece = record { no_call_end = refl; few_barriers = omega arith; few_stores = omega arith };
     beside = ((omega arith, (λ e. omega (arith, e)), (λ e. omega (arith, e))), ((omega arith, (λ e. omega (arith, e)), (λ e. omega (arith, e))), tt));
     told = refl;
     well = rw words_snapped (snapped_file_system image is two none);
     changes = rw words_snapped (snap_changes image is two none);
   }
 
-  -- ---- the sets, where all blocks that are not free are kept from then on
+  -- ---- the sets, where all blocks that are not free are in the snapshot from then on
 
-  module _ {R : Type 0} (parts : Parts R) (exact : IsExact image parts) (frozen : AreFrozen image (kept_of parts)) where
-    -- no block was kept before
-    loose : kept_of parts ≡ none_kept
-    loose = kept_none image (kept_of parts) none frozen
+  module _ {R : Type 0} (parts : Parts R) (exact : IsExact image parts) (snapshot_blocks : AreInSnapshot image (in_snapshot_of parts)) where
+    -- no block was in the snapshot before
+    loose : in_snapshot_of parts ≡ none_in_snapshot
+    loose = snapshot_none image (in_snapshot_of parts) none snapshot_blocks
 
     exact_now : IsExact (current_words made) parts
     exact_now = beside_exact image (current_words made) (super_trees memory made snap snap_stores) parts exact
 
-    free_now : AreFreeBlocks (current_words made) none_kept (has parts.blocks)
-    free_now = subst (λ kept. AreFreeBlocks (current_words made) kept (has parts.blocks)) loose exact_now.sets.free_blocks
+    free_now : AreFreeBlocks (current_words made) none_in_snapshot (has parts.free_blocks)
+    free_now = subst (λ in_snapshot. AreFreeBlocks (current_words made) in_snapshot (has parts.free_blocks)) loose exact_now.sets.free_blocks
 
     second_is : snapshot_of (current_words made) ≡ current_words made
     second_is = ap snapshot_of words_snapped ∙ snapshot_is image (long image is two none) is.first ∙ sym words_snapped
 
-    module _ (after : Parts R) (blocks : after.blocks ≡ parts.blocks) (inodes : after.inodes ≡ parts.inodes) (counts : after.counts ≡ parts.counts) (others : HasOthers parts.blocks after.frozen) where
-      pub frozen_snapped : AreFrozen (current_words made) (kept_of after)
-      frozen_snapped =
-          frozen_others (current_words made) parts.blocks after.frozen (rw words_snapped (there_now image is two none))
+    module _ (after : Parts R) (blocks : after.free_blocks ≡ parts.free_blocks) (inodes : after.free_inodes ≡ parts.free_inodes) (counts : after.link_counts ≡ parts.link_counts) (others : HasOthers parts.free_blocks after.snapshot_blocks) where
+      pub snapshot_snapped : AreInSnapshot (current_words made) (in_snapshot_of after)
+      snapshot_snapped =
+          snapshot_others (current_words made) parts.free_blocks after.snapshot_blocks (rw words_snapped (there_now image is two none))
           (rw words_snapped (snapped_second image is two none)) exact_now.sets.block_room
-          (subst (λ words. AreFreeBlocks words none_kept (has parts.blocks)) (sym second_is) free_now)
-          (subst (λ words. AreOthersLive words (has parts.blocks)) (sym second_is)
+          (subst (λ words. AreFreeBlocks words none_in_snapshot (has parts.free_blocks)) (sym second_is) free_now)
+          (subst (λ words. AreOthersLive words (has parts.free_blocks)) (sym second_is)
           (others_live (current_words made) snap_stores.well.first parts exact_now free_now)) others
 
       -- a block that is free is not one of the others
-      free_loose : (b : ℕ) → has parts.blocks b ≡ true → has after.frozen b ≡ false
+      free_loose : (b : ℕ) → has parts.free_blocks b ≡ true → has after.snapshot_blocks b ≡ false
       free_loose b is_free =
-          let free : IsFreeBlock (current_words made) none_kept b = free_now.free b is_free in
-          let room : length parts.blocks ≡ block_count (current_words made) = exact_now.sets.block_room in
+          let free : IsFreeBlock (current_words made) none_in_snapshot b = free_now.free b is_free in
+          let room : length parts.free_blocks ≡ block_count (current_words made) = exact_now.sets.block_room in
           let low : b < block_count (current_words made) = free.high in
           others.below b free.low (omega (arith, room, low)) ∙ ap not is_free
 
@@ -241,8 +241,8 @@ module _ (memory made : Memory) (is : IsFileSystem (current_words memory)) (two 
           inode_room = ap length inodes ∙ exact_now.sets.inode_room;
           free_blocks = record {
             free = λ b is_free.
-                let was : has parts.blocks b ≡ true = sym (ap (λ s. has s b) blocks) ∙ is_free in
-                let free : IsFreeBlock (current_words made) none_kept b = free_now.free b was in
+                let was : has parts.free_blocks b ≡ true = sym (ap (λ s. has s b) blocks) ∙ is_free in
+                let free : IsFreeBlock (current_words made) none_in_snapshot b = free_now.free b was in
                 record { low = free.low; high = free.high; free = free.free; loose = free_loose b was };
             all = λ b free. ap (λ s. has s b) blocks ∙ free_now.all b (record { low = free.low; high = free.high; free = free.free; loose = refl });
           };
@@ -250,7 +250,7 @@ module _ (memory made : Memory) (is : IsFileSystem (current_words memory)) (two 
         };
         counts = rw counts exact_now.counts;
         count_room = ap (λ (n : List ℕ). length n) counts ∙ exact_now.count_room;
-        frozen_room = others.room ∙ exact_now.sets.block_room;
+        snapshot_room = others.room ∙ exact_now.sets.block_room;
       }
 
 pub snap_calls : (memory made : Memory) (answer : Answer) → IsFileSystem (current_words memory) → Snaps memory answer made → CallsSuper memory made snap answer
@@ -301,7 +301,7 @@ module _ (memory made : Memory) (is : IsFileSystem (current_words memory)) (ther
     value = 0;
     adds = adds;
     quiet = quiet_none (current_words memory) is;
-    piece = record { unmarked = refl; few_barriers = omega arith; few_stores = omega arith };
+    piece = record { no_call_end = refl; few_barriers = omega arith; few_stores = omega arith };
     beside = ((omega arith, (λ e. omega (arith, e)), (λ e. omega (arith, e))), tt);
     told = refl;
     well = rw words_unsnapped (unsnapped_file_system (current_words memory) is there);

@@ -58,7 +58,7 @@ module _ (tree : FileTree) (text : List ℕ) where
       ∙ ap (λ o. first (o ∷ when (not (is_dir_at tree.now.nodes path)) not_dir ∷ [])) walked
 
   -- that of a directory, behind the walk of a read
-  pub refusal-read_walked : (off len : ℕ) (path : Path) → parse text ≡ Some path → walk tree.now.nodes path ≡ None → refusal tree (read text off len) ≡ first (when (is_dir_at tree.now.nodes path) is_dir ∷ [])
-  refusal-read_walked off len path parsed walked =
+  pub refusal-read_walked : (offset len : ℕ) (path : Path) → parse text ≡ Some path → walk tree.now.nodes path ≡ None → refusal tree (read text offset len) ≡ first (when (is_dir_at tree.now.nodes path) is_dir ∷ [])
+  refusal-read_walked offset len path parsed walked =
       ap (λ o. on_parsed o (λ p. first (walk tree.now.nodes p ∷ when (is_dir_at tree.now.nodes p) is_dir ∷ []))) parsed
       ∙ ap (λ o. first (o ∷ when (is_dir_at tree.now.nodes path) is_dir ∷ [])) walked

@@ -1,9 +1,9 @@
--- Calls that store words of the superblock beside the first tree, as far as their mark: a quiet preparation, and then one store
--- alone in its epoch.
+-- Calls that store words of the superblock beside the first tree, as far as their marker: a quiet preparation, and then
+-- one store alone in its epoch.
 use Rattle.std.proofs.Common.{◌≡◌, ◌≢◌, ℕ, ◌*◌, ◌<◌, ◌≤◌, List, [], ◌∷◌, ◌++◌, true, false, None, Some, refl, sym, ◌∙◌, ap, subst, arith}
 use Rattle.std.specs.Prelude.{◌&&◌, is_none, if◌then◌else◌}
 use Rattle.pm_epochs.specs.declared.event.Event.{Event}
-use Rattle.pm_epochs.specs.declared.event.Event.TheVariants.{Mark}
+use Rattle.pm_epochs.specs.declared.event.Event.TheVariants.{CallEnd}
 use Rattle.pm_epochs.specs.Crash.{IsQuiet, commit}
 use Rattle.pm_epochs.specs.Log.{IsPiece}
 use Rattle.pm_epochs.specs.May.{AnyAt, EachMay, StoresMay}
@@ -13,7 +13,7 @@ use Rattle.pm_region.specs.Safe.{AddsCommit, IsSafe}
 use Rattle.pm_region.proofs.MemoryLaws.{adds_both, capacity-adds, current_words-adds, current_words-with_room}
 use Rattle.pm_region.proofs.SafeLaws.{room_after_commit, safe_committed}
 use Rattle.bp_free.specs.declared.parts.Parts.{Parts}
-use Rattle.bp_layout.specs.Trees.{AreFrozen}
+use Rattle.bp_layout.specs.Trees.{AreInSnapshot}
 use Rattle.bp_layout.specs.Whole.{IsFileSystem, SameFiles}
 use Rattle.bp_layout.specs.Words.{Image}
 use Rattle.bp_layout.proofs.BesideTrees.{SameTrees}
@@ -23,7 +23,7 @@ use Rattle.bp_plain.specs.Calls.Answer.{done}
 use Rattle.bp_plain.specs.Plain.{answer, answer_or, changes, is_changing, plain, refusal, tree_after}
 use Rattle.bp_plain.specs.PlainTree.{FileTree}
 use Rattle.bp_plain.specs.Stands.{Stands}
-use Rattle.bp_shapes.specs.Sets.{IsExact, kept_of}
+use Rattle.bp_shapes.specs.Sets.{IsExact, in_snapshot_of}
 use Rattle.bp_volume.specs.Carried.{ChangesTree}
 use Rattle.bp_volume.specs.FileCall.{FileCall, has_changed}
 use Rattle.bp_volume.specs.FileCall.IsCheap.{tells}
@@ -33,7 +33,7 @@ use Rattle.bp_volume.specs.Step.StepFor.{changed}
 use Rattle.bp_volume.specs.Told.{Tells}
 use Rattle.bp_volume.specs.Volume.{IsVolume}
 use Rattle.bp_volume.proofs.CarriedLaws.{blocks-adds}
-use Rattle.bp_volume.proofs.FileCallLaws.{exact_parts, file_call_unchanged, volume-marked}
+use Rattle.bp_volume.proofs.FileCallLaws.{exact_parts, file_call_unchanged, volume-ended}
 use Rattle.bp_volume.proofs.SafeLaws.{whole_self}
 use Rattle.bp_volume.proofs.WholeLaws.{whole_equivalence}
 
@@ -83,48 +83,48 @@ module _ (memory made : Memory) (call : Call) (does : StoresSuper memory made ca
   super_fits : call_room ≤ room_in memory → 1 ≤ room_in made
   super_fits room = omega (arith, room, room_after_commit SameFiles does.place does.value 2 3 memory made whole_commit)
 
-  module _ (marked : Memory) (ends : Adds made marked (Mark ∷ [])) where
-    words : current_words marked ≡ current_words made
-    words = current_words-adds made marked (Mark ∷ []) ends
+  module _ (ended : Memory) (ends : Adds made ended (CallEnd ∷ [])) where
+    words : current_words ended ≡ current_words made
+    words = current_words-adds made ended (CallEnd ∷ []) ends
 
-    super_safe : IsSafe SameFiles memory → IsSafe SameFiles marked
+    super_safe : IsSafe SameFiles memory → IsSafe SameFiles ended
     super_safe safe =
-        safe_committed SameFiles whole_equivalence does.place does.value 2 3 memory made marked safe whole_commit ends (rw words (whole_self (current_words made) does.well))
+        safe_committed SameFiles whole_equivalence does.place does.value 2 3 memory made ended safe whole_commit ends (rw words (whole_self (current_words made) does.well))
 
-    super_volume : {R : Type 0} (parts after : Parts R) (region : R) (pending : ℕ) → IsVolume memory parts pending → IsExact (current_words made) after → AreFrozen (current_words made) (kept_of after) →
-        IsVolume marked (record after { region = region }) pending
-    super_volume parts after region pending volume exact frozen = record {
+    super_volume : {R : Type 0} (parts after : Parts R) (region : R) (pending : ℕ) → IsVolume memory parts pending → IsExact (current_words made) after → AreInSnapshot (current_words made) (in_snapshot_of after) →
+        IsVolume ended (record after { region = region }) pending
+    super_volume parts after region pending volume exact snapshot_blocks = record {
       safe = super_safe volume.safe;
-      roomy = rw (capacity-adds made marked (Mark ∷ []) ends ∙ capacity-adds memory made events does.adds) volume.roomy;
+      roomy = rw (capacity-adds made ended (CallEnd ∷ []) ends ∙ capacity-adds memory made events does.adds) volume.roomy;
       well_formed = rw words does.well;
-      frozen = rw words frozen;
+      snapshot_blocks = rw words snapshot_blocks;
       exact = rw words (exact_parts (current_words made) after region exact);
-      scans = volume.scans ∙ ap (λ n. 64 * n) (sym (blocks-adds made marked (Mark ∷ []) ends ∙ blocks-adds memory made events does.adds));
+      scans = volume.scans ∙ ap (λ n. 64 * n) (sym (blocks-adds made ended (CallEnd ∷ []) ends ∙ blocks-adds memory made events does.adds));
     }
 
 -- ---- a call, behind the room that it made
 
--- its mark has room
-pub super_mark_fits : (memory made : Memory) (call : Call) (answer : Answer) → CallsSuper memory made call answer → call_room ≤ room_in memory → 1 ≤ room_in made
-super_mark_fits memory made call answer (anew is does) room = super_fits memory made call does room
-super_mark_fits memory made call answer (unchanged same told) room = rw same (omega (arith, room))
+-- its marker has room
+pub super_call_end_fits : (memory made : Memory) (call : Call) (answer : Answer) → CallsSuper memory made call answer → call_room ≤ room_in memory → 1 ≤ room_in made
+super_call_end_fits memory made call answer (anew is does) room = super_fits memory made call does room
+super_call_end_fits memory made call answer (unchanged same told) room = rw same (omega (arith, room))
 
-pub volume_super : {R : Type 0} (memory made marked : Memory) (call : Call) (answer : Answer) (parts after : Parts R) (region : R) (pending : ℕ) → IsVolume memory parts pending → CallsSuper memory made call answer →
-    IsExact (current_words made) after → AreFrozen (current_words made) (kept_of after) → Adds made marked (Mark ∷ []) → IsVolume marked (record after { region = region }) pending
-volume_super memory made marked call answer parts after region pending volume (anew is does) exact frozen ends = super_volume memory made call does marked ends parts after region pending volume exact frozen
-volume_super memory made marked call answer parts after region pending volume (unchanged same told) exact frozen ends =
+pub volume_super : {R : Type 0} (memory made ended : Memory) (call : Call) (answer : Answer) (parts after : Parts R) (region : R) (pending : ℕ) → IsVolume memory parts pending → CallsSuper memory made call answer →
+    IsExact (current_words made) after → AreInSnapshot (current_words made) (in_snapshot_of after) → Adds made ended (CallEnd ∷ []) → IsVolume ended (record after { region = region }) pending
+volume_super memory made ended call answer parts after region pending volume (anew is does) exact snapshot_blocks ends = super_volume memory made call does ended ends parts after region pending volume exact snapshot_blocks
+volume_super memory made ended call answer parts after region pending volume (unchanged same told) exact snapshot_blocks ends =
     let here : IsVolume memory after pending = record {
       safe = volume.safe;
       roomy = volume.roomy;
       well_formed = volume.well_formed;
-      frozen = rw same at frozen;
+      snapshot_blocks = rw same at snapshot_blocks;
       exact = rw same at exact;
       scans = volume.scans;
     } in
-    volume-marked memory marked after region pending here (rw same at ends)
+    volume-ended memory ended after region pending here (rw same at ends)
 
 -- the whole call
-pub file_call_super : (old middle made new : Memory) (call : Call) (answer : Answer) → middle ≡ with_room call_room old → IsSafe SameFiles middle → CallsSuper middle made call answer → Adds made new (Mark ∷ []) →
+pub file_call_super : (old middle made new : Memory) (call : Call) (answer : Answer) → middle ≡ with_room call_room old → IsSafe SameFiles middle → CallsSuper middle made call answer → Adds made new (CallEnd ∷ []) →
     FileCall old call answer new
 file_call_super old middle made new call answer room safe (anew is does) ends =
     let before : current_words middle ≡ current_words old = ap current_words room ∙ current_words-with_room call_room old in
@@ -133,8 +133,8 @@ file_call_super old middle made new call answer room safe (anew is does) ends =
     rw is (rw (words middle made call does new ends) (subst (λ image. ChangesTree call done image (current_words made)) before does.changes)) in
     record {
       added = made_events;
-      unmarked = does.piece.unmarked;
-      adds = subst (λ memory. Adds memory new (made_events ++ Mark ∷ [])) room (adds_both middle made new made_events (Mark ∷ []) does.adds ends);
+      no_call_end = does.piece.no_call_end;
+      adds = subst (λ memory. Adds memory new (made_events ++ CallEnd ∷ [])) room (adds_both middle made new made_events (CallEnd ∷ []) does.adds ends);
       step = λ tree stands. (told tree stands).1;
       silent = λ tree stands none. absurd (let both : true ≡ false = sym (told tree stands).0 ∙ none in cc);
       short = λ tree stands changing. tells (subst (λ image. super_events image call ≡ Some made_events) before does.told);

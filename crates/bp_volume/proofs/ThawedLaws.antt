@@ -106,9 +106,9 @@ module _ (old new : Image) (wf : IsWellFormed old) where
       resized_gets after.middle new (well_formed-same old after.middle wf after.thawed.meaning) i size after.effect map here
       (shows_on old after.middle wf after.thawed.meaning map shows) (lookup_on old after.middle wf after.thawed.meaning here i at)
 
-  pub bytes_gets : (i off : ℕ) (bytes : List ℕ) → AfterThaw (WritesFile i off bytes) old new → GetsBytes i off bytes old new
-  bytes_gets i off bytes after map here shows at =
-      written_gets after.middle new (well_formed-same old after.middle wf after.thawed.meaning) i off bytes after.effect map here
+  pub bytes_gets : (i offset : ℕ) (bytes : List ℕ) → AfterThaw (WritesFile i offset bytes) old new → GetsBytes i offset bytes old new
+  bytes_gets i offset bytes after map here shows at =
+      written_gets after.middle new (well_formed-same old after.middle wf after.thawed.meaning) i offset bytes after.effect map here
       (shows_on old after.middle wf after.thawed.meaning map shows) (lookup_on old after.middle wf after.thawed.meaning here i at)
 
   pub path_moves : (move : Move) → CanRename old move → AfterThaw (RenamesEntry move) old new → MovesPath move old new

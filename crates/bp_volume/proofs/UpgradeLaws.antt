@@ -13,18 +13,18 @@ use Rattle.bp_free.specs.declared.parts.Parts.{Parts}
 use Rattle.bp_layout.specs.Format.{upgraded}
 use Rattle.bp_layout.specs.Formatted.{version_of}
 use Rattle.bp_layout.specs.Need.{Change}
-use Rattle.bp_layout.specs.Trees.{AreFrozen}
+use Rattle.bp_layout.specs.Trees.{AreInSnapshot}
 use Rattle.bp_layout.specs.Whole.{IsFileSystem, SameFiles}
 use Rattle.bp_layout.specs.Words.{Image, word}
 use Rattle.bp_layout.proofs.BesideTrees.{SameTrees}
-use Rattle.bp_layout.proofs.NoSecond.{first_has_none, kept_none, none_frozen}
+use Rattle.bp_layout.proofs.NoSnapshot.{first_has_none, snapshot_none, none_in_snapshot_of}
 use Rattle.bp_layout.proofs.Upgrade.{same_files_first, upgraded_alone, upgraded_file_system}
 use Rattle.bp_limits.specs.Limits.{magic}
 use Rattle.bp_limits.specs.CallLimits.{is_two}
 use Rattle.bp_limits.specs.declared.version.Version.TheVariants.{One, Two}
 use Rattle.bp_plain.specs.Calls.Answer.{done}
 use Rattle.bp_plain.specs.Calls.Call.{upgrade}
-use Rattle.bp_shapes.specs.Sets.{IsExact, kept_of}
+use Rattle.bp_shapes.specs.Sets.{IsExact, in_snapshot_of}
 use Rattle.bp_stands.proofs.UpgradeStands.{upgrade_stands}
 use Rattle.bp_volume.specs.Carried.{ChangesTree}
 use Rattle.bp_volume.specs.Step.{Fits, IsChange}
@@ -71,7 +71,7 @@ module _ (memory made : Memory) (is : IsFileSystem (current_words memory)) (one 
   second_trees : (other : Image) → EachMay (AnyAt IsSecond) image other → SameTrees image other
   second_trees other each = trees_beside IsSecond (λ place at. omega (arith, at.1)) (λ at. omega (arith, at.0)) (λ at. omega (arith, at.0)) image other each
 
-  -- the mark and the number of blocks stay
+  -- the magic number and the number of blocks stay
   at_low : (other : Image) → EachMay (AnyAt IsSecond) image other → (place : ℕ) → place < 4 → word other place ≡ word image place
   at_low other each place low = same_where_none (AnyAt IsSecond) image other each place (λ value at. omega (arith, low, at.0))
 
@@ -91,7 +91,7 @@ module _ (memory made : Memory) (is : IsFileSystem (current_words memory)) (one 
     value = magic Two;
     adds = adds;
     quiet = whole_quiet;
-    piece = record { unmarked = refl; few_barriers = omega arith; few_stores = omega arith };
+    piece = record { no_call_end = refl; few_barriers = omega arith; few_stores = omega arith };
     beside = (
       (omega arith, (λ e. omega (arith, e)), (λ e. omega (arith, e))),
       ((omega arith, (λ e. omega (arith, e)), (λ e. omega (arith, e))), ((omega arith, (λ e. omega (arith, e)), (λ e. omega (arith, e))), tt)),
@@ -101,11 +101,11 @@ module _ (memory made : Memory) (is : IsFileSystem (current_words memory)) (one 
     changes = rw words_made (upgrade_changes image one);
   }
 
-  -- no block was kept, and none is
-  frozen_first : (kept : ℕ → Bool) → AreFrozen image kept → AreFrozen (current_words made) kept
-  frozen_first kept frozen =
-      subst (AreFrozen (current_words made)) (sym (kept_none image kept (first_has_none image one) frozen))
-      (rw words_made (none_frozen (upgraded image) (upgraded_alone image is.first)))
+  -- no block was in the snapshot, and none is
+  snapshot_first : (in_snapshot : ℕ → Bool) → AreInSnapshot image in_snapshot → AreInSnapshot (current_words made) in_snapshot
+  snapshot_first in_snapshot snapshot_blocks =
+      subst (AreInSnapshot (current_words made)) (sym (snapshot_none image in_snapshot (first_has_none image one) snapshot_blocks))
+      (rw words_made (none_in_snapshot_of (upgraded image) (upgraded_alone image is.first)))
 
   exact_first : {R : Type 0} (parts : Parts R) → IsExact image parts → IsExact (current_words made) parts
   exact_first parts exact = beside_exact image (current_words made) (super_trees memory made upgrade upgrade_stores) parts exact
@@ -118,9 +118,9 @@ upgrade_calls memory made is (second two same) = unchanged same (upgrade_tells (
 
 module _ {R : Type 0} (memory made : Memory) (parts : Parts R) (pending : ℕ) (volume : IsVolume memory parts pending) where
   -- the blocks of a snapshot stay
-  pub upgrade_frozen : Upgrades memory made → AreFrozen (current_words made) (kept_of parts)
-  upgrade_frozen (first one adds) = frozen_first memory made volume.well_formed one adds (kept_of parts) volume.frozen
-  upgrade_frozen (second two same) = rw same volume.frozen
+  pub upgrade_snapshot : Upgrades memory made → AreInSnapshot (current_words made) (in_snapshot_of parts)
+  upgrade_snapshot (first one adds) = snapshot_first memory made volume.well_formed one adds (in_snapshot_of parts) volume.snapshot_blocks
+  upgrade_snapshot (second two same) = rw same volume.snapshot_blocks
 
   -- and the sets
   pub upgrade_exact : Upgrades memory made → IsExact (current_words made) parts

@@ -12,13 +12,13 @@ use Rattle.bp_layout.specs.Members.{Has}
 use Rattle.bp_layout.specs.Need.{Change, cover}
 use Rattle.bp_layout.specs.Reached.{IsFreeBlock}
 use Rattle.bp_layout.specs.Same.{Same}
-use Rattle.bp_layout.specs.Trees.{AreFrozen, snapshot_of}
+use Rattle.bp_layout.specs.Trees.{AreInSnapshot, snapshot_of}
 use Rattle.bp_layout.specs.Whole.{IsFileSystem, SameFiles, SameSnapshot}
 use Rattle.bp_layout.specs.WordPaths.{address}
 use Rattle.bp_layout.specs.Words.{Image, word}
 use Rattle.bp_layout.proofs.MemberLaws.{each-has}
 use Rattle.bp_layout.proofs.SameLaws.{same_symmetric, same_transitive}
-use Rattle.bp_changes.proofs.Snapshot.{Keeps, frozen_stays, has_snapshot-same, snapshot_same}
+use Rattle.bp_changes.proofs.Snapshot.{Keeps, snapshot_stays, has_snapshot-same, snapshot_same}
 use Rattle.bp_layout.specs.Thaw.{full_need}
 use Rattle.bp_commit.specs.Performs.{IsOpen, Performs, most_stores}
 use Rattle.bp_commit.specs.Performs.IsOpen.{in_taken, in_live, at_root, at_size}
@@ -73,60 +73,60 @@ snapshot_shows old new same (Some map) shows = (same.there ∙ shows.0, shows_sa
 
 -- ---- stores at open words
 
-module _ (old : Image) (kept : ℕ → Bool) (taken : List ℕ) (free : (b : ℕ) → Has taken b → IsFreeBlock old kept b) (long : 4 ≤ length old) (fs : IsFileSystem old) (frozen : AreFrozen old kept) where
+module _ (old : Image) (in_snapshot : ℕ → Bool) (taken : List ℕ) (free : (b : ℕ) → Has taken b → IsFreeBlock old in_snapshot b) (long : 4 ≤ length old) (fs : IsFileSystem old) (snapshot_blocks : AreInSnapshot old in_snapshot) where
   clash : (b : Bool) → b ≡ true → b ≡ false → ⊥
   clash b one two = absurd (cc)
 
-  first_is_loose : kept 0 ≡ true → ⊥
-  first_is_loose is = (frozen.are 0 is).live.has.not_null refl
+  first_is_loose : in_snapshot 0 ≡ true → ⊥
+  first_is_loose is = (snapshot_blocks.are 0 is).live.has.not_null refl
 
-  low_closed : (place : ℕ) → place < 512 → place ≢ 2 → place ≢ 3 → IsOpen old kept taken place → ⊥
+  low_closed : (place : ℕ) → place < 512 → place ≢ 2 → place ≢ 3 → IsOpen old in_snapshot taken place → ⊥
   low_closed place low a b (in_taken has) = let some : 1 ≤ place / 512 = (free (place / 512) has).low in omega (arith, low, some)
   low_closed place low a b (in_live live loose) = live.has.not_null (omega (arith, low))
   low_closed place low a b (at_root e) = a e
   low_closed place low a b (at_size e) = b e
 
-  kept_closed : (place : ℕ) → kept (place / 512) ≡ true → IsOpen old kept taken place → ⊥
-  kept_closed place is (in_taken has) = clash (kept (place / 512)) is (free (place / 512) has).loose
-  kept_closed place is (in_live live loose) = clash (kept (place / 512)) is loose
-  kept_closed place is (at_root e) = first_is_loose (subst (λ b. kept b ≡ true) (omega (arith, e)) is)
-  kept_closed place is (at_size e) = first_is_loose (subst (λ b. kept b ≡ true) (omega (arith, e)) is)
+  kept_closed : (place : ℕ) → in_snapshot (place / 512) ≡ true → IsOpen old in_snapshot taken place → ⊥
+  kept_closed place is (in_taken has) = clash (in_snapshot (place / 512)) is (free (place / 512) has).loose
+  kept_closed place is (in_live live loose) = clash (in_snapshot (place / 512)) is loose
+  kept_closed place is (at_root e) = first_is_loose (subst (λ b. in_snapshot b ≡ true) (omega (arith, e)) is)
+  kept_closed place is (at_size e) = first_is_loose (subst (λ b. in_snapshot b ≡ true) (omega (arith, e)) is)
 
-  pub keeps : (image : Image) → EachMay (AnyAt (IsOpen old kept taken)) old image → Keeps old image kept
+  pub keeps : (image : Image) → EachMay (AnyAt (IsOpen old in_snapshot taken)) old image → Keeps old image in_snapshot
   keeps image each = record {
     whole = each.size;
     superblock = λ place low a b. go place (low_closed place low a b) (each.each place);
     blocks = λ place is. go place (kept_closed place is) (each.each place);
   }
     where
-      go : (place : ℕ) → (IsOpen old kept taken place → ⊥) → (word image place ≡ word old place) ⊎ IsOpen old kept taken place → word image place ≡ word old place
+      go : (place : ℕ) → (IsOpen old in_snapshot taken place → ⊥) → (word image place ≡ word old place) ⊎ IsOpen old in_snapshot taken place → word image place ≡ word old place
       go place closed (inl same) = same
       go place closed (inr open_word) = absurd (closed open_word)
 
-  rest_stays : (image : Image) → EachMay (AnyAt (IsOpen old kept taken)) old image → SameSnapshot old image
+  rest_stays : (image : Image) → EachMay (AnyAt (IsOpen old in_snapshot taken)) old image → SameSnapshot old image
   rest_stays image each =
-      let kept_words : Keeps old image kept = keeps image each in
+      let kept_words : Keeps old image in_snapshot = keeps image each in
       record {
-        there = has_snapshot-same old image kept long frozen kept_words;
-        same = λ there. snapshot_same old image kept long frozen kept_words there (fs.second there);
+        there = has_snapshot-same old image in_snapshot long snapshot_blocks kept_words;
+        same = λ there. snapshot_same old image in_snapshot long snapshot_blocks kept_words there (fs.second there);
       }
 
 -- ---- calls
 
-module _ (kept : ℕ → Bool) (old new : Memory) (change : Change) (Effect : Image → Image → Type 0) (done : Performs kept old new change Effect)
-    (long : 4 ≤ length (current_words old)) (fs : IsFileSystem (current_words old)) (frozen : AreFrozen (current_words old) kept) where
+module _ (in_snapshot : ℕ → Bool) (old new : Memory) (change : Change) (Effect : Image → Image → Type 0) (done : Performs in_snapshot old new change Effect)
+    (long : 4 ≤ length (current_words old)) (fs : IsFileSystem (current_words old)) (snapshot_blocks : AreInSnapshot (current_words old) in_snapshot) where
   abbrev events : List Event
   events = done.commit.prepared ++ commit (address (current_words new) (cover (current_words old) change)) done.value
 
-  pub free_taken : (b : ℕ) → Has done.taken b → IsFreeBlock (current_words old) kept b
-  free_taken b has = each-has (IsFreeBlock (current_words old) kept) done.taken b done.takes.free has
+  pub free_taken : (b : ℕ) → Has done.taken b → IsFreeBlock (current_words old) in_snapshot b
+  free_taken b has = each-has (IsFreeBlock (current_words old) in_snapshot) done.taken b done.takes.free has
 
   rest_quiet : IsQuiet SameSnapshot (current_words old) done.commit.prepared
-  rest_quiet = quiet_may SameSnapshot snapshot_equivalence (AnyAt (IsOpen (current_words old) kept done.taken)) (current_words old) done.commit.prepared
-      (rest_stays (current_words old) kept done.taken free_taken long fs frozen) done.takes.only
+  rest_quiet = quiet_may SameSnapshot snapshot_equivalence (AnyAt (IsOpen (current_words old) in_snapshot done.taken)) (current_words old) done.commit.prepared
+      (rest_stays (current_words old) in_snapshot done.taken free_taken long fs snapshot_blocks) done.takes.only
 
   -- quiet for both trees up to its one store
-  pub whole_commit : AddsCommit SameFiles (address (current_words new) (cover (current_words old) change)) done.value 10 (most_stores (full_need (current_words old) kept change)) old new
+  pub whole_commit : AddsCommit SameFiles (address (current_words new) (cover (current_words old) change)) done.value 10 (most_stores (full_need (current_words old) in_snapshot change)) old new
   whole_commit = record {
     prepared = done.commit.prepared;
     adds = done.commit.adds;
@@ -134,16 +134,16 @@ module _ (kept : ℕ → Bool) (old new : Memory) (change : Change) (Effect : Im
     piece = done.commit.piece;
   }
 
-  after : EachMay (AnyAt (IsOpen (current_words old) kept done.taken)) (current_words old) (current_words new)
+  after : EachMay (AnyAt (IsOpen (current_words old) in_snapshot done.taken)) (current_words old) (current_words new)
   after = rw (current_words-adds old new events done.commit.adds)
-      (EachMay-stored (AnyAt (IsOpen (current_words old) kept done.taken)) (current_words old) events (all_open kept old new change Effect done))
+      (EachMay-stored (AnyAt (IsOpen (current_words old) in_snapshot done.taken)) (current_words old) events (all_open in_snapshot old new change Effect done))
 
   -- and the snapshot is the one that it was
   pub whole_rest : SameSnapshot (current_words old) (current_words new)
-  whole_rest = rest_stays (current_words old) kept done.taken free_taken long fs frozen (current_words new) after
+  whole_rest = rest_stays (current_words old) in_snapshot done.taken free_taken long fs snapshot_blocks (current_words new) after
 
-  kept_words : Keeps (current_words old) (current_words new) kept
-  kept_words = keeps (current_words old) kept done.taken free_taken long fs frozen (current_words new) after
+  kept_words : Keeps (current_words old) (current_words new) in_snapshot
+  kept_words = keeps (current_words old) in_snapshot done.taken free_taken long fs snapshot_blocks (current_words new) after
 
   -- in the version that it was
   pub whole_version : version_of (current_words new) ≡ version_of (current_words old)
@@ -155,8 +155,8 @@ module _ (kept : ℕ → Bool) (old new : Memory) (change : Change) (Effect : Im
     second = λ there. (whole_rest.same (sym whole_rest.there ∙ there)).new_well_formed;
   }
 
-  pub whole_frozen : AreFrozen (current_words new) kept
-  whole_frozen = frozen_stays (current_words old) (current_words new) kept long frozen kept_words fs.second
+  pub whole_snapshot : AreInSnapshot (current_words new) in_snapshot
+  whole_snapshot = snapshot_stays (current_words old) (current_words new) in_snapshot long snapshot_blocks kept_words fs.second
 
   -- so a tree of which the call changes no more than what it has now
   pub whole_stands : (tree : FileTree) (now : PathMap) → Stands (current_words old) tree → Shows (current_words new) now → Stands (current_words new) (with_now tree now)

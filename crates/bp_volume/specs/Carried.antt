@@ -2,7 +2,7 @@
 use Rattle.std.specs.Prelude.{◌≡◌, ℕ, ◌<◌, List, Bool, true}
 use Rattle.pm_region.specs.Memory.{Memory, current_words, room_in}
 use Rattle.bp_layout.specs.Need.{Change}
-use Rattle.bp_layout.specs.Trees.{AreFrozen}
+use Rattle.bp_layout.specs.Trees.{AreInSnapshot}
 use Rattle.bp_layout.specs.Words.{Image}
 use Rattle.bp_layout.specs.declared.fields.Kind.{Kind}
 use Rattle.bp_layout.specs.declared.fields.Kind.TheVariants.{File, Dir}
@@ -26,13 +26,13 @@ ChangesTree call answer image new = (tree : FileTree) → Stands image tree →
     (has_changed tree call answer ≡ true) × StepFor image tree call answer new
 
 -- The call makes one change to the image, that change is its step, and the log still has room for its end-of-call
--- marker. `kept` is the blocks of the snapshot.
+-- marker. `in_snapshot` is the blocks of the snapshot.
 pub record PerformsCall (old : Memory) (call : Call) (answer : Answer) (new : Memory) : Type 0 where
   pub change : Change
   pub is : IsChange (current_words old) call change
-  pub kept : ℕ → Bool
-  pub frozen : AreFrozen (current_words old) kept
-  pub performs : Performs kept old new change (ChangesTree call answer)
+  pub in_snapshot : ℕ → Bool
+  pub snapshot_blocks : AreInSnapshot (current_words old) in_snapshot
+  pub performs : Performs in_snapshot old new change (ChangesTree call answer)
   pub room : 0 < room_in new
 
 -- The call is carried out except for its end-of-call marker: either it makes its change, or it changes nothing and

@@ -1,11 +1,11 @@
 -- What a call on files does to a region, and its answer.
 use Rattle.std.specs.Prelude.{◌≡◌, ℕ, Some, List, [], ◌∷◌, ◌++◌, Bool, true, false, ◌&&◌, not}
 use Rattle.pm_epochs.specs.declared.event.Event.{Event}
-use Rattle.pm_epochs.specs.declared.event.Event.TheVariants.{Mark}
-use Rattle.pm_epochs.specs.Log.{marks}
+use Rattle.pm_epochs.specs.declared.event.Event.TheVariants.{CallEnd}
+use Rattle.pm_epochs.specs.Log.{call_ends}
 use Rattle.pm_region.specs.Memory.{Memory, current_words, with_room, Adds}
 use Rattle.pm_region.specs.Safe.{IsSafe}
-use Rattle.bp_layout.specs.Trees.{AreFrozen}
+use Rattle.bp_layout.specs.Trees.{AreInSnapshot}
 use Rattle.bp_layout.specs.Whole.{SameFiles}
 use Rattle.bp_limits.specs.Limits.{call_room}
 use Rattle.bp_plain.specs.PlainTree.{FileTree}
@@ -30,8 +30,8 @@ has_changed tree call answer = is_changing tree call && not (is_refused answer)
 -- The events of a changing call are within its bounds: either it made one change at no more than its cost, or it
 -- changes only the superblock and has exactly the events of `super_events`.
 pub data IsCheap (image : Image) (call : Call) (new : Image) (events : List Event) : Type 0 where
-  changes : {change : Change} {kept : ℕ → Bool} → IsChange image call change → AreFrozen image kept →
-      IsShort image new kept change events → IsCheap image call new events
+  changes : {change : Change} {in_snapshot : ℕ → Bool} → IsChange image call change → AreInSnapshot image in_snapshot →
+      IsShort image new in_snapshot change events → IsCheap image call new events
   tells : super_events image call ≡ Some events → IsCheap image call new events
 
 -- A call on files. The answer and the new image are a step. The log got the call's events and then its end-of-call
@@ -40,8 +40,8 @@ pub data IsCheap (image : Image) (call : Call) (new : Image) (events : List Even
 -- of the calls.
 pub record FileCall (old : Memory) (call : Call) (answer : Answer) (new : Memory) : Type 0 where
   pub added : List Event
-  pub unmarked : marks added ≡ 0
-  pub adds : Adds (with_room call_room old) new (added ++ Mark ∷ [])
+  pub no_call_end : call_ends added ≡ 0
+  pub adds : Adds (with_room call_room old) new (added ++ CallEnd ∷ [])
   pub step : Step (current_words old) call answer (current_words new)
   pub silent : (tree : FileTree) → Stands (current_words old) tree → has_changed tree call answer ≡ false → added ≡ []
   pub short : (tree : FileTree) → Stands (current_words old) tree → has_changed tree call answer ≡ true →

@@ -21,7 +21,7 @@ format_events version blocks = flat_map stores_epoch (format_epochs version bloc
 -- What a crash during a format leaves: the old words, words whose magic number is 0, or an empty file system.
 pub data IsLeftByFormat (version : Version) (old image : Image) : Type 0 where
   untouched : image ≡ old → IsLeftByFormat version old image
-  unmarked : word image super_magic ≡ 0 → IsLeftByFormat version old image
+  no_magic : word image super_magic ≡ 0 → IsLeftByFormat version old image
   empty : Stands image (empty_tree version) → IsLeftByFormat version old image
 
 -- The property holds of each image that a crash may leave of the memory.

@@ -17,7 +17,7 @@ use Rattle.bp_layout.specs.Need.Change.{writes, resizes, enters, leaves, replace
 use Rattle.bp_layout.specs.Need.Entrant.{linked}
 use Rattle.bp_layout.specs.Free.{HasFree, IsLeastFree}
 use Rattle.bp_layout.specs.Thaw.{full_need}
-use Rattle.bp_layout.specs.Trees.{AreFrozen}
+use Rattle.bp_layout.specs.Trees.{AreInSnapshot}
 use Rattle.bp_calls.specs.Entrant.{entrant_of}
 
 abbrev pub last_of : Path → Name
@@ -78,7 +78,7 @@ pub data AreStretches (image : Image) : List Piece → List Stretch → Type 0 w
   more : {piece : Piece} {pieces : List Piece} {stretches : List Stretch} {i : ℕ} → PathFinds image piece.path i →
       AreStretches image pieces stretches →
       AreStretches image (piece ∷ pieces)
-      (record { inode = i; off = piece.off; len = length piece.bytes } ∷ stretches)
+      (record { inode = i; offset = piece.offset; len = length piece.bytes } ∷ stretches)
 
 -- The change that a changing call makes to the image.
 pub data IsChange (image : Image) : Call → Change → Type 0 where
@@ -90,8 +90,8 @@ pub data IsChange (image : Image) : Call → Change → Type 0 where
       IsChange image (link from to) (enters i linked)
   by_batch : {pieces : List Piece} {stretches : List Stretch} → AreStretches image pieces stretches →
       IsChange image (batch pieces) (overwrites stretches)
-  by_write : {text new : List ℕ} {i off : ℕ} → PathFinds image text i →
-      IsChange image (write text off new) (writes i off (length new))
+  by_write : {text new : List ℕ} {i offset : ℕ} → PathFinds image text i →
+      IsChange image (write text offset new) (writes i offset (length new))
   by_truncate : {text : List ℕ} {i size : ℕ} → PathFinds image text i →
       IsChange image (truncate text size) (resizes i size)
   by_unlink : {text : List ℕ} {i s : ℕ} → StandsIn image text i s → IsChange image (unlink text) (leaves i s)
@@ -107,10 +107,10 @@ pub data IsChange (image : Image) : Call → Change → Type 0 where
 pub record HasNeed (image : Image) (call : Call) (needed free : ℕ) : Type 0 where
   pub change : Change
   pub is : IsChange image call change
-  pub kept : ℕ → Bool
-  pub frozen : AreFrozen image kept
-  pub needs : full_need image kept change ≡ needed
-  pub has : HasFree image kept free
+  pub in_snapshot : ℕ → Bool
+  pub snapshot_blocks : AreInSnapshot image in_snapshot
+  pub needs : full_need image in_snapshot change ≡ needed
+  pub has : HasFree image in_snapshot free
 
 -- The call needs no more blocks than are free.
 abbrev pub Fits : Image → Call → Type 0

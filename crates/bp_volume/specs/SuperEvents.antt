@@ -4,7 +4,7 @@ use Rattle.pm_epochs.specs.declared.event.Event.{Event}
 use Rattle.pm_epochs.specs.declared.event.Event.TheVariants.{Barrier, Store}
 use Rattle.bp_layout.specs.Format.{upgrade_epochs}
 use Rattle.bp_layout.specs.Words.{Image, word}
-use Rattle.bp_limits.specs.Limits.{super_root, super_second_root, super_second_size, super_size}
+use Rattle.bp_limits.specs.Limits.{super_root, super_snapshot_root, super_snapshot_size, super_size}
 use Rattle.bp_plain.specs.Calls.{Call}
 use Rattle.bp_plain.specs.Calls.Call.{snap, unsnap, upgrade}
 use Rattle.bp_volume.specs.Laid.{stores_epoch}
@@ -17,13 +17,13 @@ upgrade_events = flat_map stores_epoch upgrade_epochs
 -- The events of `snap`: the root word of the first tree is stored as that of the second, and once it is written back,
 -- the size. There is no second tree until the size is stored.
 abbrev pub snap_events : Image → List Event
-snap_events image = Store super_second_root (word image super_root) ∷ Barrier
-    ∷ Store super_second_size (word image super_size) ∷ Barrier ∷ []
+snap_events image = Store super_snapshot_root (word image super_root) ∷ Barrier
+    ∷ Store super_snapshot_size (word image super_size) ∷ Barrier ∷ []
 
 -- The events of `unsnap`: the size of the second tree is set to 0. This size alone determines whether there is a
 -- second tree.
 abbrev pub unsnap_events : List Event
-unsnap_events = Barrier ∷ Store super_second_size 0 ∷ Barrier ∷ []
+unsnap_events = Barrier ∷ Store super_snapshot_size 0 ∷ Barrier ∷ []
 
 -- The events of each call that changes only the superblock. Its last store is to the word that decides its effect.
 abbrev pub super_events : Image → Call → Option (List Event)

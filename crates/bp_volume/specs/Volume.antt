@@ -4,9 +4,9 @@ use Rattle.bp_cache.specs.Cache.{IsCacheOf}
 use Rattle.bp_cache.specs.declared.cache.DirectoryCache.{DirectoryCache}
 use Rattle.pm_region.specs.Memory.{Memory, current_words}
 use Rattle.pm_region.specs.Safe.{IsSafe}
-use Rattle.bp_shapes.specs.Sets.{IsExact, kept_of}
+use Rattle.bp_shapes.specs.Sets.{IsExact, in_snapshot_of}
 use Rattle.bp_free.specs.declared.parts.Parts.{Parts}
-use Rattle.bp_layout.specs.Trees.{AreFrozen}
+use Rattle.bp_layout.specs.Trees.{AreInSnapshot}
 use Rattle.bp_layout.specs.Whole.{IsFileSystem, SameFiles}
 use Rattle.bp_layout.specs.Words.{block_count}
 use Rattle.bp_limits.specs.Limits.{block_inodes, call_room}
@@ -19,7 +19,7 @@ pub record IsVolume {R : Type 0} (memory : Memory) (parts : Parts R) (pending : 
   pub safe : IsSafe SameFiles memory
   pub roomy : call_room ≤ memory.capacity
   pub well_formed : IsFileSystem (current_words memory)
-  pub frozen : AreFrozen (current_words memory) (kept_of parts)
+  pub snapshot_blocks : AreInSnapshot (current_words memory) (in_snapshot_of parts)
   pub exact : IsExact (current_words memory) parts
   pub scans : pending ≡ block_inodes * block_count (current_words memory)
 

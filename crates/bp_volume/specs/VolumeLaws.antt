@@ -27,5 +27,5 @@ ShortensInPlace image tree text size =
 
 -- A write of bytes that lie in one word of the file at the path is never refused for lack of space or memory.
 abbrev pub WritesInPlace : Image → FileTree → List ℕ → ℕ → ℕ → List ℕ → Type 0
-WritesInPlace image tree text i off new =
-    PathFinds image text i → LiesInWord image i off (length new) → IsNeverShort image tree (write text off new)
+WritesInPlace image tree text i offset new =
+    PathFinds image text i → LiesInWord image i offset (length new) → IsNeverShort image tree (write text offset new)

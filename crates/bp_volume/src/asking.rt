@@ -22,7 +22,7 @@ use pm_region::Region;
 use std::alloc::{AllocError, Global};
 
 /// Returns the result of `stat`.
-pub(crate) fn stat_at<R: Region, F: Finder>(
+pub(crate) fn do_stat<R: Region, F: Finder>(
     region: &R,
     finder: &mut F,
     text: &[u8],
@@ -32,12 +32,12 @@ pub(crate) fn stat_at<R: Region, F: Finder>(
     ensures told { Tells (words_in R.memory region.now) (stat text.now) (stat_answer_of result) }
     ensures right { F.right finder.new (words_in R.memory region.now) }
 {
-    let i = inode_at(region, finder, text)?;
-    Ok(stat(region, i))
+    let ino = inode_at(region, finder, text)?;
+    Ok(stat(region, ino))
 }
 
 /// Returns the result of `links`.
-pub(crate) fn links_at<R: Region>(
+pub(crate) fn do_links<R: Region>(
     parts: &Parts<R>,
     cache: &mut DirectoryCache,
     text: &[u8],
@@ -59,19 +59,24 @@ fn no_memory(_: AllocError) -> FsError
 }
 
 /// Returns the names in the directory at a path text, which has inode `i`.
-fn list_inode<R: Region>(alloc: Global, region: &R, text: &[u8], i: u32) -> Result<Listing, FsError>
+fn list_inode<R: Region>(
+    alloc: Global,
+    region: &R,
+    text: &[u8],
+    ino: u32,
+) -> Result<Listing, FsError>
     requires well_formed { IsWellFormed (words_in R.memory region.now) }
-    requires at { PathFinds (words_in R.memory region.now) text.now i }
+    requires at { PathFinds (words_in R.memory region.now) text.now ino }
     ensures { Tells (words_in R.memory region.now) (list text.now) (list_answer_of result) }
 {
-    match get(region, i).kind {
+    match get(region, ino).kind {
         Kind::File => Err(FsError::NotDir),
-        Kind::Dir => list(alloc, region, i).map_err(no_memory),
+        Kind::Dir => list(alloc, region, ino).map_err(no_memory),
     }
 }
 
 /// Returns the result of `list`.
-pub(crate) fn list_at<R: Region, F: Finder>(
+pub(crate) fn do_list<R: Region, F: Finder>(
     alloc: Global,
     region: &R,
     finder: &mut F,
@@ -82,21 +87,21 @@ pub(crate) fn list_at<R: Region, F: Finder>(
     ensures told { Tells (words_in R.memory region.now) (list text.now) (list_answer_of result) }
     ensures right { F.right finder.new (words_in R.memory region.now) }
 {
-    let i = inode_at(region, finder, text)?;
-    list_inode(alloc, region, text, i)
+    let ino = inode_at(region, finder, text)?;
+    list_inode(alloc, region, text, ino)
 }
 
 /// Carries out `read`: reads bytes into `into` and returns their number.
-pub(crate) fn read_at<R: Region, F: Finder>(
+pub(crate) fn do_read<R: Region, F: Finder>(
     region: &R,
     finder: &mut F,
     text: &[u8],
-    off: u64,
+    offset: u64,
     into: &mut [u8],
 ) -> Result<usize, FsError>
     requires well_formed { IsWellFormed (words_in R.memory region.now) }
     requires right { F.right finder.old (words_in R.memory region.now) }
-    ensures told { Tells (words_in R.memory region.now) (read text.now off (length into.old))
+    ensures told { Tells (words_in R.memory region.now) (read text.now offset (length into.old))
         (read_answer_of result into.new) }
     ensures fits { IfOk result (λ count. count ≤ length into.new) }
     ensures rest { IfOk result (λ count. drop count into.new ≡ drop count into.old) }
@@ -104,5 +109,5 @@ pub(crate) fn read_at<R: Region, F: Finder>(
     ensures right { F.right finder.new (words_in R.memory region.now) }
 {
     let file = file_at(region, finder, text)?;
-    Ok(read(region, file.inumber, off, into))
+    Ok(read(region, file.inumber, offset, into))
 }

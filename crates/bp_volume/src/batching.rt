@@ -134,12 +134,12 @@ fn patch_for<'a, R: Region>(
 {
     let file = file_for(region, cache, part_of(text, piece.path), last)?;
     let bytes = part_of(text, piece.bytes);
-    if file.size < piece.off || file.size - piece.off < bytes.len() as u64 {
+    if file.size < piece.offset || file.size - piece.offset < bytes.len() as u64 {
         return Err(FsError::PastEnd);
     }
     Ok(Patch {
         inode: file.inumber,
-        off: piece.off,
+        offset: piece.offset,
         bytes,
     })
 }
@@ -189,7 +189,7 @@ fn batch_into<R: Region>(
         (patches_seen patches.now) }
     ensures called { CarriesOut (R.memory parts.old.region) (batch (map (piece_in text.now) pieces.now))
         (unit_answer result) (R.memory parts.new.region) }
-    ensures frozen { parts.new.frozen ≡ parts.old.frozen }
+    ensures snapshot_blocks { parts.new.snapshot_blocks ≡ parts.old.snapshot_blocks }
     ensures exact { IsExactIn R.memory parts.new }
     ensures names { KeepsAllNames (image_in R.memory parts.old) (image_in R.memory parts.new) }
 {
@@ -200,7 +200,7 @@ fn batch_into<R: Region>(
 }
 
 /// Carries out `batch`, except for its end-of-call marker.
-pub(crate) fn batch_at<R: Region>(
+pub(crate) fn do_batch<R: Region>(
     parts: &mut Parts<R>,
     cache: &mut DirectoryCache,
     text: &[u8],
@@ -212,7 +212,7 @@ pub(crate) fn batch_at<R: Region>(
     requires lie { All (LiesIn text.now) pieces.now }
     ensures called { CarriesOut (R.memory parts.old.region) (batch (map (piece_in text.now) pieces.now))
         (unit_answer result) (R.memory parts.new.region) }
-    ensures frozen { parts.new.frozen ≡ parts.old.frozen }
+    ensures snapshot_blocks { parts.new.snapshot_blocks ≡ parts.old.snapshot_blocks }
     ensures exact { IsExactIn R.memory parts.new }
     ensures right { IsCacheOf (image_in R.memory parts.new) cache.new }
 {

@@ -32,7 +32,7 @@ fn create_new<R: Region>(
     requires right { IsCacheOf (image_in R.memory parts.old) cache.old }
     ensures called { CarriesOut (R.memory parts.old.region) (making kind text.now) (unit_answer result)
         (R.memory parts.new.region) }
-    ensures frozen { parts.new.frozen ≡ parts.old.frozen }
+    ensures snapshot_blocks { parts.new.snapshot_blocks ≡ parts.old.snapshot_blocks }
     ensures exact { IsExactIn R.memory parts.new }
     ensures right { IsCacheOf (image_in R.memory parts.new) cache.new }
 {
@@ -43,7 +43,7 @@ fn create_new<R: Region>(
 }
 
 /// Carries out `create` or `mkdir`, except for the end-of-call marker.
-pub(crate) fn create_at<R: Region>(
+pub(crate) fn do_create<R: Region>(
     parts: &mut Parts<R>,
     cache: &mut DirectoryCache,
     text: &[u8],
@@ -53,7 +53,7 @@ pub(crate) fn create_at<R: Region>(
     requires right { IsCacheOf (image_in R.memory parts.old) cache.old }
     ensures called { CarriesOut (R.memory parts.old.region) (making kind text.now) (unit_answer result)
         (R.memory parts.new.region) }
-    ensures frozen { parts.new.frozen ≡ parts.old.frozen }
+    ensures snapshot_blocks { parts.new.snapshot_blocks ≡ parts.old.snapshot_blocks }
     ensures exact { IsExactIn R.memory parts.new }
     ensures right { IsCacheOf (image_in R.memory parts.new) cache.new }
 {

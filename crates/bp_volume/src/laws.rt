@@ -29,6 +29,6 @@ pub fn calls_in_place_need_no_space(image: &[u64])
         → IsNeverShort image.now tree (rmdir text) }
     ensures truncate { (tree : FileTree) (text : List ℕ) (size : ℕ) → Stands image.now tree → tree.snap ≡ None
         → ShortensInPlace image.now tree text size }
-    ensures write { (tree : FileTree) (text new : List ℕ) (i off : ℕ) → Stands image.now tree → tree.snap ≡ None
-        → WritesInPlace image.now tree text i off new }
+    ensures write { (tree : FileTree) (text new : List ℕ) (i offset : ℕ) → Stands image.now tree → tree.snap ≡ None
+        → WritesInPlace image.now tree text i offset new }
 {}

@@ -9,7 +9,7 @@ ghost use Rattle.pm_region.specs.Memory.{Adds, room_in};
 
 use bp_limits::{
     BLOCK_SIZE, BLOCK_WORDS, DIRECTORY_KIND, FIRST_INODE, ROOT_FIELD, SIZE_FIELD, SUPER_BLOCKS,
-    SUPER_MAGIC, SUPER_ROOT, SUPER_SECOND_ROOT, SUPER_SECOND_SIZE, SUPER_SIZE, Version,
+    SUPER_MAGIC, SUPER_ROOT, SUPER_SIZE, SUPER_SNAPSHOT_ROOT, SUPER_SNAPSHOT_SIZE, Version,
 };
 use pm_region::Region;
 
@@ -28,8 +28,8 @@ pub fn lay_front<R: Region>(region: &mut R, version: Version, blocks: u32)
     region.store(SUPER_ROOT, BLOCK_SIZE);
     region.store(SUPER_SIZE, BLOCK_SIZE);
     if version == Version::Two {
-        region.store(SUPER_SECOND_ROOT, 0);
-        region.store(SUPER_SECOND_SIZE, 0);
+        region.store(SUPER_SNAPSHOT_ROOT, 0);
+        region.store(SUPER_SNAPSHOT_SIZE, 0);
     }
     region.store(FIRST_INODE, DIRECTORY_KIND);
     region.store(FIRST_INODE + ROOT_FIELD, 0);

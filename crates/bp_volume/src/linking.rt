@@ -76,7 +76,7 @@ fn link_found<R: Region>(
     requires right { IsCacheOf (image_in R.memory parts.old) cache.old }
     ensures called { CarriesOut (R.memory parts.old.region) (link from.now to.now) (unit_answer result)
         (R.memory parts.new.region) }
-    ensures frozen { parts.new.frozen ≡ parts.old.frozen }
+    ensures snapshot_blocks { parts.new.snapshot_blocks ≡ parts.old.snapshot_blocks }
     ensures exact { IsExactIn R.memory parts.new }
     ensures right { IsCacheOf (image_in R.memory parts.new) cache.new }
 {
@@ -88,7 +88,7 @@ fn link_found<R: Region>(
 }
 
 /// Carries out `link`, except for its end-of-call marker.
-pub(crate) fn link_at<R: Region>(
+pub(crate) fn do_link<R: Region>(
     parts: &mut Parts<R>,
     cache: &mut DirectoryCache,
     from: &[u8],
@@ -98,7 +98,7 @@ pub(crate) fn link_at<R: Region>(
     requires right { IsCacheOf (image_in R.memory parts.old) cache.old }
     ensures called { CarriesOut (R.memory parts.old.region) (link from.now to.now) (unit_answer result)
         (R.memory parts.new.region) }
-    ensures frozen { parts.new.frozen ≡ parts.old.frozen }
+    ensures snapshot_blocks { parts.new.snapshot_blocks ≡ parts.old.snapshot_blocks }
     ensures exact { IsExactIn R.memory parts.new }
     ensures right { IsCacheOf (image_in R.memory parts.new) cache.new }
 {

@@ -96,7 +96,7 @@ fn empty_entry<'a, R: Region>(
 }
 
 /// Carries out `unlink`, except for its end-of-call marker.
-pub(crate) fn unlink_at<R: Region>(
+pub(crate) fn do_unlink<R: Region>(
     parts: &mut Parts<R>,
     cache: &mut DirectoryCache,
     text: &[u8],
@@ -105,7 +105,7 @@ pub(crate) fn unlink_at<R: Region>(
     requires right { IsCacheOf (image_in R.memory parts.old) cache.old }
     ensures called { CarriesOut (R.memory parts.old.region) (unlink text.now) (unit_answer result)
         (R.memory parts.new.region) }
-    ensures frozen { parts.new.frozen ≡ parts.old.frozen }
+    ensures snapshot_blocks { parts.new.snapshot_blocks ≡ parts.old.snapshot_blocks }
     ensures exact { IsExactIn R.memory parts.new }
     ensures right { IsCacheOf (image_in R.memory parts.new) cache.new }
 {
@@ -116,7 +116,7 @@ pub(crate) fn unlink_at<R: Region>(
 }
 
 /// Carries out `rmdir`, except for its end-of-call marker.
-pub(crate) fn rmdir_at<R: Region>(
+pub(crate) fn do_rmdir<R: Region>(
     parts: &mut Parts<R>,
     cache: &mut DirectoryCache,
     text: &[u8],
@@ -125,7 +125,7 @@ pub(crate) fn rmdir_at<R: Region>(
     requires right { IsCacheOf (image_in R.memory parts.old) cache.old }
     ensures called { CarriesOut (R.memory parts.old.region) (rmdir text.now) (unit_answer result)
         (R.memory parts.new.region) }
-    ensures frozen { parts.new.frozen ≡ parts.old.frozen }
+    ensures snapshot_blocks { parts.new.snapshot_blocks ≡ parts.old.snapshot_blocks }
     ensures exact { IsExactIn R.memory parts.new }
     ensures right { IsCacheOf (image_in R.memory parts.new) cache.new }
 {

@@ -264,7 +264,7 @@ fn target_at<'a, R: Region>(region: &R, ends: &Ends<'a>) -> NameAt<'a>
 }
 
 /// Updates the cache after a name has moved, with or without replacing an entry.
-fn tell_move(
+fn report_move(
     cache: &mut DirectoryCache,
     from: NameAt<'_>,
     to: NameAt<'_>,
@@ -295,14 +295,14 @@ fn move_name<R: Region>(
     requires may { MayMove (image_in R.memory parts.old) from.now to.now ends.now }
     ensures called { CarriesOut (R.memory parts.old.region) (rename from.now to.now) (unit_answer result)
         (R.memory parts.new.region) }
-    ensures frozen { parts.new.frozen ≡ parts.old.frozen }
+    ensures snapshot_blocks { parts.new.snapshot_blocks ≡ parts.old.snapshot_blocks }
     ensures exact { IsExactIn R.memory parts.new }
     ensures right { IsCacheOf (image_in R.memory parts.new) cache.new }
 {
     let to_move = move_of(ends);
     let target = target_at(&parts.region, ends);
     rename(parts, &to_move, ends.target.empty).map_err(no_space)?;
-    tell_move(cache, ends.source.at(), target, ends.target.there);
+    report_move(cache, ends.source.at(), target, ends.target.there);
     Ok(())
 }
 
@@ -320,7 +320,7 @@ fn rename_found<R: Region>(
     requires found { FindsEnds (image_in R.memory parts.old) from.now to.now ends.now }
     ensures called { CarriesOut (R.memory parts.old.region) (rename from.now to.now) (unit_answer result)
         (R.memory parts.new.region) }
-    ensures frozen { parts.new.frozen ≡ parts.old.frozen }
+    ensures snapshot_blocks { parts.new.snapshot_blocks ≡ parts.old.snapshot_blocks }
     ensures exact { IsExactIn R.memory parts.new }
     ensures right { IsCacheOf (image_in R.memory parts.new) cache.new }
 {
@@ -332,7 +332,7 @@ fn rename_found<R: Region>(
 }
 
 /// Carries out `rename`, except for its end-of-call marker.
-pub(crate) fn rename_at<R: Region>(
+pub(crate) fn do_rename<R: Region>(
     parts: &mut Parts<R>,
     cache: &mut DirectoryCache,
     from: &[u8],
@@ -342,7 +342,7 @@ pub(crate) fn rename_at<R: Region>(
     requires right { IsCacheOf (image_in R.memory parts.old) cache.old }
     ensures called { CarriesOut (R.memory parts.old.region) (rename from.now to.now) (unit_answer result)
         (R.memory parts.new.region) }
-    ensures frozen { parts.new.frozen ≡ parts.old.frozen }
+    ensures snapshot_blocks { parts.new.snapshot_blocks ≡ parts.old.snapshot_blocks }
     ensures exact { IsExactIn R.memory parts.new }
     ensures right { IsCacheOf (image_in R.memory parts.new) cache.new }
 {

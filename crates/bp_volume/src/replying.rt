@@ -8,7 +8,7 @@ use bp_layout::{Listing, Stat};
 use bp_plain::{FsError, Reply};
 
 /// Sets the reply to the result of a call that returns no value.
-pub(crate) fn tell_done(reply: &mut Reply, outcome: Result<(), FsError>)
+pub(crate) fn report_done(reply: &mut Reply, outcome: Result<(), FsError>)
     ensures { reply.new.answer ≡ unit_answer outcome }
 {
     match outcome {
@@ -18,7 +18,7 @@ pub(crate) fn tell_done(reply: &mut Reply, outcome: Result<(), FsError>)
 }
 
 /// Sets the reply to the result of `stat`.
-pub(crate) fn tell_stat(reply: &mut Reply, outcome: Result<Stat, FsError>)
+pub(crate) fn report_stat(reply: &mut Reply, outcome: Result<Stat, FsError>)
     ensures { reply.new.answer ≡ stat_answer_of outcome }
 {
     match outcome {
@@ -29,7 +29,7 @@ pub(crate) fn tell_stat(reply: &mut Reply, outcome: Result<Stat, FsError>)
 }
 
 /// Sets the reply to the result of `links`.
-pub(crate) fn tell_links(reply: &mut Reply, outcome: Result<u32, FsError>)
+pub(crate) fn report_links(reply: &mut Reply, outcome: Result<u32, FsError>)
     ensures { reply.new.answer ≡ links_answer outcome }
 {
     match outcome {
@@ -39,7 +39,7 @@ pub(crate) fn tell_links(reply: &mut Reply, outcome: Result<u32, FsError>)
 }
 
 /// Sets the reply to the result of `list`.
-pub(crate) fn tell_list(reply: &mut Reply, outcome: Result<Listing, FsError>)
+pub(crate) fn report_list(reply: &mut Reply, outcome: Result<Listing, FsError>)
     ensures { reply.new.answer ≡ list_answer_of outcome }
 {
     match outcome {
@@ -49,7 +49,7 @@ pub(crate) fn tell_list(reply: &mut Reply, outcome: Result<Listing, FsError>)
 }
 
 /// Sets the reply to the result of `read`, whose bytes are in the reply's buffer.
-pub(crate) fn tell_read(reply: &mut Reply, outcome: Result<usize, FsError>)
+pub(crate) fn report_read(reply: &mut Reply, outcome: Result<usize, FsError>)
     requires { IfOk outcome (λ count. count ≤ max_read) }
     ensures { reply.new.answer ≡ read_answer_of outcome reply.old.buffer }
 {

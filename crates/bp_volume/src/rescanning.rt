@@ -2,11 +2,11 @@
 
 ghost use Rattle.std.specs.Prelude.{◌*◌, ◌≡◌, length};
 ghost use Rattle.bp_limits.specs.Limits.{block_inodes};
-ghost use Rattle.bp_layout.specs.Trees.{AreFrozen};
+ghost use Rattle.bp_layout.specs.Trees.{AreInSnapshot};
 ghost use Rattle.bp_layout.specs.Whole.{IsFileSystem};
 ghost use Rattle.bp_layout.specs.Words.{block_count};
 ghost use Rattle.bp_scan.specs.Totals.{HasTotals};
-ghost use Rattle.bp_shapes.specs.Sets.{kept_of};
+ghost use Rattle.bp_shapes.specs.Sets.{in_snapshot_of};
 ghost use Rattle.bp_calls.specs.Mounted.{image_in, IsExactIn};
 
 use bp_free::Parts;
@@ -17,24 +17,24 @@ use pm_region::Region;
 /// totals. It allocates no memory: it uses that of the sets and of `pending`.
 pub(crate) fn rescan<R: Region>(parts: &mut Parts<R>, pending: &mut Pending) -> Totals
     requires well_formed { IsFileSystem (image_in R.memory parts.old) }
-    requires blocks { length parts.old.blocks ≡ block_count (image_in R.memory parts.old) }
-    requires inodes { length parts.old.inodes ≡ block_inodes * block_count (image_in R.memory parts.old) }
-    requires counts { length parts.old.counts ≡ block_inodes * block_count (image_in R.memory parts.old) }
-    requires frozen { length parts.old.frozen ≡ block_count (image_in R.memory parts.old) }
+    requires blocks { length parts.old.free_blocks ≡ block_count (image_in R.memory parts.old) }
+    requires inodes { length parts.old.free_inodes ≡ block_inodes * block_count (image_in R.memory parts.old) }
+    requires counts { length parts.old.link_counts ≡ block_inodes * block_count (image_in R.memory parts.old) }
+    requires snapshot_blocks { length parts.old.snapshot_blocks ≡ block_count (image_in R.memory parts.old) }
     requires pending { pending.old ≡ block_inodes * block_count (image_in R.memory parts.old) }
     ensures region { parts.new.region ≡ parts.old.region }
     ensures exact { IsExactIn R.memory parts.new }
-    ensures frozen { AreFrozen (image_in R.memory parts.new) (kept_of parts.new) }
+    ensures snapshot_blocks { AreInSnapshot (image_in R.memory parts.new) (in_snapshot_of parts.new) }
     ensures totals { HasTotals (image_in R.memory parts.old) result }
     ensures pending { pending.new ≡ pending.old }
 {
     match scan_whole(
         &parts.region,
-        &mut parts.blocks,
-        &mut parts.inodes,
-        &mut parts.frozen,
+        &mut parts.free_blocks,
+        &mut parts.free_inodes,
+        &mut parts.snapshot_blocks,
         pending,
-        &mut parts.counts,
+        &mut parts.link_counts,
     ) {
         Ok(totals) => totals,
         // No check fails for a file system.

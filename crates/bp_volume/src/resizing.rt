@@ -32,7 +32,7 @@ fn resize<R: Region>(
     requires size { file.size ≡ size_of (image_in R.memory parts.old) file.inumber }
     ensures called { CarriesOut (R.memory parts.old.region) (truncate text.now size) (unit_answer result)
         (R.memory parts.new.region) }
-    ensures frozen { parts.new.frozen ≡ parts.old.frozen }
+    ensures snapshot_blocks { parts.new.snapshot_blocks ≡ parts.old.snapshot_blocks }
     ensures exact { IsExactIn R.memory parts.new }
     ensures names { KeepsAllNames (image_in R.memory parts.old) (image_in R.memory parts.new) }
 {
@@ -46,7 +46,7 @@ fn resize<R: Region>(
 }
 
 /// Carries out `truncate`, except for its end-of-call marker.
-pub(crate) fn truncate_at<R: Region>(
+pub(crate) fn do_truncate<R: Region>(
     parts: &mut Parts<R>,
     cache: &mut DirectoryCache,
     text: &[u8],
@@ -56,7 +56,7 @@ pub(crate) fn truncate_at<R: Region>(
     requires right { IsCacheOf (image_in R.memory parts.old) cache.old }
     ensures called { CarriesOut (R.memory parts.old.region) (truncate text.now size) (unit_answer result)
         (R.memory parts.new.region) }
-    ensures frozen { parts.new.frozen ≡ parts.old.frozen }
+    ensures snapshot_blocks { parts.new.snapshot_blocks ≡ parts.old.snapshot_blocks }
     ensures exact { IsExactIn R.memory parts.new }
     ensures right { IsCacheOf (image_in R.memory parts.new) cache.new }
 {

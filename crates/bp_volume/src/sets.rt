@@ -16,13 +16,13 @@ use std::alloc::{AllocError, Global};
 #[derive(Drop)]
 pub struct Sets {
     /// The free blocks.
-    pub blocks: Blocks,
+    pub free_blocks: Blocks,
     /// The free inodes.
-    pub inodes: Inodes,
+    pub free_inodes: Inodes,
     /// The number of links of each inode.
-    pub counts: Counts,
+    pub link_counts: Counts,
     /// The blocks of the snapshot.
-    pub frozen: Blocks,
+    pub snapshot_blocks: Blocks,
     /// The working memory of a scan.
     pub pending: Pending,
 }
@@ -36,20 +36,20 @@ impl Sets {
     /// - `AllocError`: allocation fails.
     pub fn new(alloc: Global, blocks: u32) -> Result<Sets, AllocError>
         requires { blocks ≤ max_blocks }
-        ensures blocks { IfOk result (λ sets. sets.blocks ≡ empty blocks) }
-        ensures inodes { IfOk result (λ sets. sets.inodes ≡ empty (block_inodes * blocks)) }
-        ensures counts { IfOk result (λ sets. sets.counts ≡ replicate (block_inodes * blocks) 0) }
-        ensures frozen { IfOk result (λ sets. sets.frozen ≡ empty blocks) }
+        ensures blocks { IfOk result (λ sets. sets.free_blocks ≡ empty blocks) }
+        ensures inodes { IfOk result (λ sets. sets.free_inodes ≡ empty (block_inodes * blocks)) }
+        ensures counts { IfOk result (λ sets. sets.link_counts ≡ replicate (block_inodes * blocks) 0) }
+        ensures snapshot_blocks { IfOk result (λ sets. sets.snapshot_blocks ≡ empty blocks) }
         ensures pending { IfOk result (λ sets. sets.pending ≡ block_inodes * blocks) }
     {
         let free = empty_sets(alloc, blocks)?;
-        let kept = counts_and_frozen(alloc, blocks)?;
+        let kept = counts_and_snapshot(alloc, blocks)?;
         let pending = Pending::new(alloc, inodes_for(blocks))?;
         Ok(Sets {
-            blocks: free.0,
-            inodes: free.1,
-            counts: kept.0,
-            frozen: kept.1,
+            free_blocks: free.0,
+            free_inodes: free.1,
+            link_counts: kept.0,
+            snapshot_blocks: kept.1,
             pending,
         })
     }
@@ -76,10 +76,10 @@ fn empty_sets(alloc: Global, blocks: u32) -> Result<(Blocks, Inodes), AllocError
 }
 
 /// Makes counts that are all 0, and an empty set for the blocks of a snapshot.
-fn counts_and_frozen(alloc: Global, blocks: u32) -> Result<(Counts, Blocks), AllocError>
+fn counts_and_snapshot(alloc: Global, blocks: u32) -> Result<(Counts, Blocks), AllocError>
     requires { blocks ≤ max_blocks }
     ensures counts { IfOk result (λ kept. kept.0 ≡ replicate (block_inodes * blocks) 0) }
-    ensures frozen { IfOk result (λ kept. kept.1 ≡ empty blocks) }
+    ensures snapshot_blocks { IfOk result (λ kept. kept.1 ≡ empty blocks) }
 {
     Ok((
         Counts::new(alloc, inodes_for(blocks))?,
@@ -91,10 +91,10 @@ fn counts_and_frozen(alloc: Global, blocks: u32) -> Result<(Counts, Blocks), All
 /// that a caller handles failed allocation in one place.
 pub(crate) fn memory_for(alloc: Global, blocks: u32) -> Result<(Sets, DirectoryCache), AllocError>
     requires { blocks ≤ max_blocks }
-    ensures blocks { IfOk result (λ memory. memory.0.blocks ≡ empty blocks) }
-    ensures inodes { IfOk result (λ memory. memory.0.inodes ≡ empty (block_inodes * blocks)) }
-    ensures counts { IfOk result (λ memory. memory.0.counts ≡ replicate (block_inodes * blocks) 0) }
-    ensures frozen { IfOk result (λ memory. memory.0.frozen ≡ empty blocks) }
+    ensures blocks { IfOk result (λ memory. memory.0.free_blocks ≡ empty blocks) }
+    ensures inodes { IfOk result (λ memory. memory.0.free_inodes ≡ empty (block_inodes * blocks)) }
+    ensures counts { IfOk result (λ memory. memory.0.link_counts ≡ replicate (block_inodes * blocks) 0) }
+    ensures snapshot_blocks { IfOk result (λ memory. memory.0.snapshot_blocks ≡ empty blocks) }
     ensures pending { IfOk result (λ memory. memory.0.pending ≡ block_inodes * blocks) }
     ensures right { IfOk result (λ memory. (image : Image) → IsCacheOf image memory.1) }
 {

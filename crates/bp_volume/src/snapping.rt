@@ -2,7 +2,7 @@
 
 ghost use Rattle.std.specs.Prelude.{◌*◌, ◌≡◌, ◌≤◌, IfErr, IfOk, OnErr, OnOk, Some, drop, false, length};
 ghost use Rattle.bp_layout.specs.Formatted.{IsSized, version_of};
-ghost use Rattle.bp_layout.specs.Trees.{AreFrozen, has_snapshot};
+ghost use Rattle.bp_layout.specs.Trees.{AreInSnapshot, has_snapshot};
 ghost use Rattle.bp_layout.specs.Whole.{IsFileSystem};
 ghost use Rattle.bp_layout.specs.Words.{block_count};
 ghost use Rattle.bp_limits.specs.Limits.{block_inodes};
@@ -12,7 +12,7 @@ ghost use Rattle.bp_plain.specs.Calls.Call.{snap, snap_list, snap_read, snap_sta
 ghost use Rattle.bp_plain.specs.Calls.Refusal.{no_snap};
 ghost use Rattle.bp_plain.specs.Plain.{on_path};
 ghost use Rattle.bp_plain.specs.Seen.{refusal_of};
-ghost use Rattle.bp_shapes.specs.Sets.{kept_of};
+ghost use Rattle.bp_shapes.specs.Sets.{in_snapshot_of};
 ghost use Rattle.bp_volume.specs.Ready.{IsReady};
 ghost use Rattle.bp_volume.specs.Seen.{list_answer_of, read_answer_of, stat_answer_of, unit_answer};
 ghost use Rattle.bp_volume.specs.Snapped.{Snaps, Unsnaps};
@@ -21,12 +21,12 @@ ghost use Rattle.bp_volume.specs.Told.{Tells};
 ghost use Rattle.pm_region.specs.Memory.{Adds, words_in, room_in};
 ghost use Rattle.bp_calls.specs.Mounted.{image_in, IsExactIn};
 
-use crate::asking::{list_at, read_at, stat_at};
+use crate::asking::{do_list, do_read, do_stat};
 use crate::rescanning::rescan;
 use bp_dirs::Scan;
 use bp_free::Parts;
 use bp_layout::{Listing, Stat};
-use bp_limits::{SUPER_ROOT, SUPER_SECOND_ROOT, SUPER_SECOND_SIZE, SUPER_SIZE, Version};
+use bp_limits::{SUPER_ROOT, SUPER_SIZE, SUPER_SNAPSHOT_ROOT, SUPER_SNAPSHOT_SIZE, Version};
 use bp_path::parse;
 use bp_plain::FsError;
 use bp_scan::{Pending, fill_others, has_second};
@@ -55,51 +55,51 @@ fn may_snap<R: Region>(region: &R) -> Result<(), FsError>
 
 /// Stores the root word and the size of the first tree as those of the second. The size comes last, since it
 /// determines whether there is a second tree.
-fn store_second<R: Region>(region: &mut R)
+fn store_snapshot<R: Region>(region: &mut R)
     requires sized { IsSized (words_in R.memory region.old) }
     requires room { 4 ≤ room_in (R.memory region.old) }
     ensures { Adds (R.memory region.old) (R.memory region.new) (snap_events (words_in R.memory region.old)) }
 {
     let root = region.load(SUPER_ROOT);
     let size = region.load(SUPER_SIZE);
-    region.store(SUPER_SECOND_ROOT, root);
+    region.store(SUPER_SNAPSHOT_ROOT, root);
     // The size makes the second tree exist, so a crash must not leave the size with an old root word.
     region.barrier();
-    region.store(SUPER_SECOND_SIZE, size);
+    region.store(SUPER_SNAPSHOT_SIZE, size);
     // A crash must not keep a store of a later call and lose the snapshot.
     region.barrier();
 }
 
 /// Sets the size of the second tree to 0, which deletes it.
-fn drop_second<R: Region>(region: &mut R)
+fn drop_snapshot<R: Region>(region: &mut R)
     requires sized { IsSized (words_in R.memory region.old) }
     requires room { 3 ≤ room_in (R.memory region.old) }
     ensures { Adds (R.memory region.old) (R.memory region.new) unsnap_events }
 {
     // The store is alone in its epoch, as the last store of each change is.
     region.barrier();
-    region.store(SUPER_SECOND_SIZE, 0);
+    region.store(SUPER_SNAPSHOT_SIZE, 0);
     // Later calls may store to the freed blocks: a crash must not keep such a store and leave the snapshot there.
     region.barrier();
 }
 
 /// Carries out `snap`, except for its end-of-call marker. It reads and copies no block: the blocks of the first tree
 /// are those of the snapshot from then on.
-pub(crate) fn snap_at<R: Region>(parts: &mut Parts<R>) -> Result<(), FsError>
+pub(crate) fn do_snap<R: Region>(parts: &mut Parts<R>) -> Result<(), FsError>
     requires ready { IsReady (R.memory parts.old.region) parts.old }
     ensures snaps { Snaps (R.memory parts.old.region) (unit_answer result) (R.memory parts.new.region) }
     ensures exact { IsExactIn R.memory parts.new }
-    ensures frozen { AreFrozen (image_in R.memory parts.new) (kept_of parts.new) }
+    ensures snapshot_blocks { AreInSnapshot (image_in R.memory parts.new) (in_snapshot_of parts.new) }
 {
     may_snap(&parts.region)?;
-    store_second(&mut parts.region);
-    fill_others(&parts.blocks, &mut parts.frozen);
+    store_snapshot(&mut parts.region);
+    fill_others(&parts.free_blocks, &mut parts.snapshot_blocks);
     Ok(())
 }
 
 /// Carries out `unsnap`, except for its end-of-call marker. A scan of the first tree determines which blocks of the
 /// snapshot are free then.
-pub(crate) fn unsnap_at<R: Region>(
+pub(crate) fn do_unsnap<R: Region>(
     parts: &mut Parts<R>,
     pending: &mut Pending,
 ) -> Result<(), FsError>
@@ -107,13 +107,13 @@ pub(crate) fn unsnap_at<R: Region>(
     requires pending { pending.old ≡ block_inodes * block_count (image_in R.memory parts.old) }
     ensures unsnaps { Unsnaps (R.memory parts.old.region) (unit_answer result) (R.memory parts.new.region) }
     ensures exact { IsExactIn R.memory parts.new }
-    ensures frozen { AreFrozen (image_in R.memory parts.new) (kept_of parts.new) }
+    ensures snapshot_blocks { AreInSnapshot (image_in R.memory parts.new) (in_snapshot_of parts.new) }
     ensures pending { pending.new ≡ pending.old }
 {
     if !has_second(&parts.region) {
         return Err(FsError::NoSnap);
     }
-    drop_second(&mut parts.region);
+    drop_snapshot(&mut parts.region);
     rescan(parts, pending);
     Ok(())
 }
@@ -129,7 +129,7 @@ fn no_snapshot(text: &[u8]) -> FsError
 }
 
 /// Returns the result of `snap_stat`.
-pub(crate) fn snap_stat_at<R: Region>(region: &R, text: &[u8]) -> Result<Stat, FsError>
+pub(crate) fn do_snap_stat<R: Region>(region: &R, text: &[u8]) -> Result<Stat, FsError>
     requires { IsFileSystem (words_in R.memory region.now) }
     ensures { Tells (words_in R.memory region.now) (snap_stat text.now) (stat_answer_of result) }
 {
@@ -137,11 +137,11 @@ pub(crate) fn snap_stat_at<R: Region>(region: &R, text: &[u8]) -> Result<Stat, F
         return Err(no_snapshot(text));
     }
     let second = Shown::second(region);
-    stat_at(&second, &mut Scan, text)
+    do_stat(&second, &mut Scan, text)
 }
 
 /// Returns the result of `snap_list`.
-pub(crate) fn snap_list_at<R: Region>(
+pub(crate) fn do_snap_list<R: Region>(
     alloc: Global,
     region: &R,
     text: &[u8],
@@ -153,18 +153,18 @@ pub(crate) fn snap_list_at<R: Region>(
         return Err(no_snapshot(text));
     }
     let second = Shown::second(region);
-    list_at(alloc, &second, &mut Scan, text)
+    do_list(alloc, &second, &mut Scan, text)
 }
 
 /// Carries out `snap_read`: reads bytes into `into` and returns their number.
-pub(crate) fn snap_read_at<R: Region>(
+pub(crate) fn do_snap_read<R: Region>(
     region: &R,
     text: &[u8],
-    off: u64,
+    offset: u64,
     into: &mut [u8],
 ) -> Result<usize, FsError>
     requires { IsFileSystem (words_in R.memory region.now) }
-    ensures told { Tells (words_in R.memory region.now) (snap_read text.now off (length into.old))
+    ensures told { Tells (words_in R.memory region.now) (snap_read text.now offset (length into.old))
         (read_answer_of result into.new) }
     ensures fits { IfOk result (λ count. count ≤ length into.new) }
     ensures rest { IfOk result (λ count. drop count into.new ≡ drop count into.old) }
@@ -174,5 +174,5 @@ pub(crate) fn snap_read_at<R: Region>(
         return Err(no_snapshot(text));
     }
     let second = Shown::second(region);
-    read_at(&second, &mut Scan, text, off, into)
+    do_read(&second, &mut Scan, text, offset, into)
 }

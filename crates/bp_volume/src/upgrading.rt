@@ -5,7 +5,7 @@ ghost use Rattle.bp_layout.specs.Formatted.{IsSized};
 ghost use Rattle.bp_volume.specs.Upgraded.{Upgrades};
 ghost use Rattle.pm_region.specs.Memory.{words_in, room_in};
 
-use bp_limits::{SUPER_MAGIC, SUPER_SECOND_ROOT, SUPER_SECOND_SIZE, Version};
+use bp_limits::{SUPER_MAGIC, SUPER_SNAPSHOT_ROOT, SUPER_SNAPSHOT_SIZE, Version};
 use bp_tree::version;
 use pm_region::Region;
 
@@ -20,8 +20,8 @@ pub(crate) fn upgrade_region<R: Region>(region: &mut R)
     if version(region) == Version::Two {
         return;
     }
-    region.store(SUPER_SECOND_ROOT, 0);
-    region.store(SUPER_SECOND_SIZE, 0);
+    region.store(SUPER_SNAPSHOT_ROOT, 0);
+    region.store(SUPER_SNAPSHOT_SIZE, 0);
     // In version 2 these words describe the snapshot, so the magic number must not be written back before them.
     region.barrier();
     region.store(SUPER_MAGIC, Version::Two.magic());

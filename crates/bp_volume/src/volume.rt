@@ -7,7 +7,7 @@ ghost use Rattle.bp_layout.specs.Formatted.{IsSized};
 ghost use Rattle.bp_layout.specs.Whole.{HasSpace, IsFileSystem, SameFiles};
 ghost use Rattle.bp_layout.specs.Words.{block_count};
 ghost use Rattle.bp_limits.specs.Limits.{block_inodes, call_room, max_pieces, max_read};
-ghost use Rattle.pm_epochs.specs.Log.{marks};
+ghost use Rattle.pm_epochs.specs.Log.{call_ends};
 ghost use Rattle.pm_epochs.specs.Replay.{IsRight, after_calls, kept_calls};
 ghost use Rattle.pm_region.specs.Memory.{crashed, current_words, drained, room_in, with_room};
 ghost use Rattle.pm_region.specs.Safe.{IsSafe};
@@ -24,21 +24,21 @@ ghost use Rattle.bp_volume.specs.FileCall.{FileCall};
 ghost use Rattle.bp_volume.specs.Laid.{formatted_memory};
 ghost use Rattle.bp_volume.specs.Seen.{links_answer, list_answer_of, read_answer_of, stat_answer_of, unit_answer};
 
-use crate::asking::{links_at, list_at, read_at, stat_at};
-use crate::batching::batch_at;
-use crate::creating::create_at;
+use crate::asking::{do_links, do_list, do_read, do_stat};
+use crate::batching::do_batch;
+use crate::creating::do_create;
 use crate::laying::lay_out;
-use crate::linking::link_at;
-use crate::removing::{rmdir_at, unlink_at};
-use crate::renaming::rename_at;
-use crate::replying::{tell_done, tell_links, tell_list, tell_read, tell_stat};
+use crate::linking::do_link;
+use crate::removing::{do_rmdir, do_unlink};
+use crate::renaming::do_rename;
+use crate::replying::{report_done, report_links, report_list, report_read, report_stat};
 use crate::rescanning::rescan;
-use crate::resizing::truncate_at;
+use crate::resizing::do_truncate;
 use crate::sets::{Sets, memory_for};
-use crate::snapping::{snap_at, snap_list_at, snap_read_at, snap_stat_at, unsnap_at};
+use crate::snapping::{do_snap, do_snap_list, do_snap_read, do_snap_stat, do_unsnap};
 use crate::space::Space;
 use crate::upgrading::upgrade_region;
-use crate::writing::write_at;
+use crate::writing::do_write;
 use bp_cache::DirectoryCache;
 use bp_free::Parts;
 use bp_layout::{Kind, Listing, Stat};
@@ -181,7 +181,7 @@ impl<R: Region> Volume<R> {
         ensures right { IsOk result ↔ IsRight self.old.events choice.now.cut }
         ensures left { OnOk result (self.new ≡ crashed self.old choice.now.cut) }
         ensures kept { IfOk result (λ kept. kept.c ≡ kept_calls self.old.events choice.now.cut) }
-        ensures of { IfOk result (λ kept. kept.n ≡ marks self.old.events) }
+        ensures of { IfOk result (λ kept. kept.n ≡ call_ends self.old.events) }
         ensures shows { IfOk result
             (λ kept. SameFiles (current_words self.new) (after_calls self.old.base self.old.events kept.c)) }
         ensures safe { IsSafe SameFiles self.new }
@@ -207,8 +207,8 @@ impl<R: Region> Volume<R> {
         ensures free { HasSpace (current_words self.now) result.free }
         ensures live { HasLive (current_words self.now) result.live }
     {
-        let free = self.parts.blocks.count();
-        let live = self.parts.blocks.room() - free - 1;
+        let free = self.parts.free_blocks.count();
+        let live = self.parts.free_blocks.room() - free - 1;
         Space { free, live }
     }
 
@@ -228,8 +228,8 @@ impl<R: Region> Volume<R> {
         ensures { FileCall self.old (create path.now) (unit_answer result) self.new }
     {
         self.make_room();
-        let made = create_at(&mut self.parts, &mut self.cache, path, Kind::File);
-        self.parts.region.mark();
+        let made = do_create(&mut self.parts, &mut self.cache, path, Kind::File);
+        self.parts.region.end_call();
         made
     }
 
@@ -249,8 +249,8 @@ impl<R: Region> Volume<R> {
         ensures { FileCall self.old (mkdir path.now) (unit_answer result) self.new }
     {
         self.make_room();
-        let made = create_at(&mut self.parts, &mut self.cache, path, Kind::Dir);
-        self.parts.region.mark();
+        let made = do_create(&mut self.parts, &mut self.cache, path, Kind::Dir);
+        self.parts.region.end_call();
         made
     }
 
@@ -271,8 +271,8 @@ impl<R: Region> Volume<R> {
         ensures { FileCall self.old (unlink path.now) (unit_answer result) self.new }
     {
         self.make_room();
-        let made = unlink_at(&mut self.parts, &mut self.cache, path);
-        self.parts.region.mark();
+        let made = do_unlink(&mut self.parts, &mut self.cache, path);
+        self.parts.region.end_call();
         made
     }
 
@@ -293,8 +293,8 @@ impl<R: Region> Volume<R> {
         ensures { FileCall self.old (rmdir path.now) (unit_answer result) self.new }
     {
         self.make_room();
-        let made = rmdir_at(&mut self.parts, &mut self.cache, path);
-        self.parts.region.mark();
+        let made = do_rmdir(&mut self.parts, &mut self.cache, path);
+        self.parts.region.end_call();
         made
     }
 
@@ -319,8 +319,8 @@ impl<R: Region> Volume<R> {
         ensures { FileCall self.old (rename from.now to.now) (unit_answer result) self.new }
     {
         self.make_room();
-        let made = rename_at(&mut self.parts, &mut self.cache, from, to);
-        self.parts.region.mark();
+        let made = do_rename(&mut self.parts, &mut self.cache, from, to);
+        self.parts.region.end_call();
         made
     }
 
@@ -342,13 +342,13 @@ impl<R: Region> Volume<R> {
         ensures { FileCall self.old (link from.now to.now) (unit_answer result) self.new }
     {
         self.make_room();
-        let made = link_at(&mut self.parts, &mut self.cache, from, to);
-        self.parts.region.mark();
+        let made = do_link(&mut self.parts, &mut self.cache, from, to);
+        self.parts.region.end_call();
         made
     }
 
-    /// Writes bytes into the file at a path, from byte `off` on. Bytes between the old end of the file and `off`
-    /// become 0. If there are no bytes, the file stays as it is, whatever `off` is.
+    /// Writes bytes into the file at a path, from byte `offset` on. Bytes between the old end of the file and `offset`
+    /// become 0. If there are no bytes, the file stays as it is, whatever `offset` is.
     ///
     /// # Errors
     ///
@@ -361,12 +361,12 @@ impl<R: Region> Volume<R> {
     /// - `IsDir`: the path finds a directory.
     /// - `TooBig`: there are bytes, and the last would lie past the greatest size of a file in this version.
     /// - `NoSpace`: fewer blocks are free than the write needs.
-    pub fn write(&mut self, path: &[u8], off: u64, bytes: &[u8]) -> Result<(), FsError>
-        ensures { FileCall self.old (write path.now off bytes.now) (unit_answer result) self.new }
+    pub fn write(&mut self, path: &[u8], offset: u64, bytes: &[u8]) -> Result<(), FsError>
+        ensures { FileCall self.old (write path.now offset bytes.now) (unit_answer result) self.new }
     {
         self.make_room();
-        let made = write_at(&mut self.parts, &mut self.cache, path, off, bytes);
-        self.parts.region.mark();
+        let made = do_write(&mut self.parts, &mut self.cache, path, offset, bytes);
+        self.parts.region.end_call();
         made
     }
 
@@ -390,8 +390,8 @@ impl<R: Region> Volume<R> {
         ensures { FileCall self.old (batch (map (piece_in text.now) pieces.now)) (unit_answer result) self.new }
     {
         self.make_room();
-        let made = batch_at(&mut self.parts, &mut self.cache, text, pieces);
-        self.parts.region.mark();
+        let made = do_batch(&mut self.parts, &mut self.cache, text, pieces);
+        self.parts.region.end_call();
         made
     }
 
@@ -412,8 +412,8 @@ impl<R: Region> Volume<R> {
         ensures { FileCall self.old (truncate path.now size) (unit_answer result) self.new }
     {
         self.make_room();
-        let made = truncate_at(&mut self.parts, &mut self.cache, path, size);
-        self.parts.region.mark();
+        let made = do_truncate(&mut self.parts, &mut self.cache, path, size);
+        self.parts.region.end_call();
         made
     }
 
@@ -427,16 +427,16 @@ impl<R: Region> Volume<R> {
     ///
     /// - Those of [`Volume::stat`].
     /// - `IsDir`: the path finds a directory.
-    pub fn read(&mut self, path: &[u8], off: u64, into: &mut [u8]) -> Result<usize, FsError>
-        ensures called { FileCall self.old (read path.now off (length into.old)) (read_answer_of result into.new)
+    pub fn read(&mut self, path: &[u8], offset: u64, into: &mut [u8]) -> Result<usize, FsError>
+        ensures called { FileCall self.old (read path.now offset (length into.old)) (read_answer_of result into.new)
             self.new }
         ensures fits { IfOk result (λ count. count ≤ length into.new) }
         ensures rest { IfOk result (λ count. drop count into.new ≡ drop count into.old) }
         ensures unread { OnErr result (into.new ≡ into.old) }
     {
         self.make_room();
-        let told = read_at(&self.parts.region, &mut self.cache, path, off, into);
-        self.parts.region.mark();
+        let told = do_read(&self.parts.region, &mut self.cache, path, offset, into);
+        self.parts.region.end_call();
         told
     }
 
@@ -451,8 +451,8 @@ impl<R: Region> Volume<R> {
         ensures { FileCall self.old (stat path.now) (stat_answer_of result) self.new }
     {
         self.make_room();
-        let told = stat_at(&self.parts.region, &mut self.cache, path);
-        self.parts.region.mark();
+        let told = do_stat(&self.parts.region, &mut self.cache, path);
+        self.parts.region.end_call();
         told
     }
 
@@ -468,8 +468,8 @@ impl<R: Region> Volume<R> {
         ensures { FileCall self.old (links path.now) (links_answer result) self.new }
     {
         self.make_room();
-        let told = links_at(&self.parts, &mut self.cache, path);
-        self.parts.region.mark();
+        let told = do_links(&self.parts, &mut self.cache, path);
+        self.parts.region.end_call();
         told
     }
 
@@ -486,8 +486,8 @@ impl<R: Region> Volume<R> {
         ensures { FileCall self.old (list path.now) (list_answer_of result) self.new }
     {
         self.make_room();
-        let told = list_at(alloc, &self.parts.region, &mut self.cache, path);
-        self.parts.region.mark();
+        let told = do_list(alloc, &self.parts.region, &mut self.cache, path);
+        self.parts.region.end_call();
         told
     }
 
@@ -498,7 +498,7 @@ impl<R: Region> Volume<R> {
     {
         self.make_room();
         upgrade_region(&mut self.parts.region);
-        self.parts.region.mark();
+        self.parts.region.end_call();
     }
 
     /// Makes a snapshot: the files and directories as they are now, which can be read until the snapshot is deleted.
@@ -515,8 +515,8 @@ impl<R: Region> Volume<R> {
         ensures { FileCall self.old snap (unit_answer result) self.new }
     {
         self.make_room();
-        let made = snap_at(&mut self.parts);
-        self.parts.region.mark();
+        let made = do_snap(&mut self.parts);
+        self.parts.region.end_call();
         made
     }
 
@@ -532,8 +532,8 @@ impl<R: Region> Volume<R> {
         ensures { FileCall self.old unsnap (unit_answer result) self.new }
     {
         self.make_room();
-        let made = unsnap_at(&mut self.parts, &mut self.pending);
-        self.parts.region.mark();
+        let made = do_unsnap(&mut self.parts, &mut self.pending);
+        self.parts.region.end_call();
         made
     }
 
@@ -546,16 +546,16 @@ impl<R: Region> Volume<R> {
     /// - `BadPath`: the text is no path.
     /// - `NoSnap`: there is no snapshot.
     /// - Those of [`Volume::read`] when the snapshot was made.
-    pub fn snap_read(&mut self, path: &[u8], off: u64, into: &mut [u8]) -> Result<usize, FsError>
-        ensures called { FileCall self.old (snap_read path.now off (length into.old)) (read_answer_of result into.new)
+    pub fn snap_read(&mut self, path: &[u8], offset: u64, into: &mut [u8]) -> Result<usize, FsError>
+        ensures called { FileCall self.old (snap_read path.now offset (length into.old)) (read_answer_of result into.new)
             self.new }
         ensures fits { IfOk result (λ count. count ≤ length into.new) }
         ensures rest { IfOk result (λ count. drop count into.new ≡ drop count into.old) }
         ensures unread { OnErr result (into.new ≡ into.old) }
     {
         self.make_room();
-        let told = snap_read_at(&self.parts.region, path, off, into);
-        self.parts.region.mark();
+        let told = do_snap_read(&self.parts.region, path, offset, into);
+        self.parts.region.end_call();
         told
     }
 
@@ -572,8 +572,8 @@ impl<R: Region> Volume<R> {
         ensures { FileCall self.old (snap_stat path.now) (stat_answer_of result) self.new }
     {
         self.make_room();
-        let told = snap_stat_at(&self.parts.region, path);
-        self.parts.region.mark();
+        let told = do_snap_stat(&self.parts.region, path);
+        self.parts.region.end_call();
         told
     }
 
@@ -591,8 +591,8 @@ impl<R: Region> Volume<R> {
         ensures { FileCall self.old (snap_list path.now) (list_answer_of result) self.new }
     {
         self.make_room();
-        let told = snap_list_at(alloc, &self.parts.region, path);
-        self.parts.region.mark();
+        let told = do_snap_list(alloc, &self.parts.region, path);
+        self.parts.region.end_call();
         told
     }
 
@@ -602,25 +602,31 @@ impl<R: Region> Volume<R> {
         ensures { FileCall self.old (call_of call.now) reply.new.answer self.new }
     {
         match call {
-            Call::Create(path) => tell_done(reply, self.create(path)),
-            Call::Mkdir(path) => tell_done(reply, self.mkdir(path)),
-            Call::Unlink(path) => tell_done(reply, self.unlink(path)),
-            Call::Rmdir(path) => tell_done(reply, self.rmdir(path)),
+            Call::Create(path) => report_done(reply, self.create(path)),
+            Call::Mkdir(path) => report_done(reply, self.mkdir(path)),
+            Call::Unlink(path) => report_done(reply, self.unlink(path)),
+            Call::Rmdir(path) => report_done(reply, self.rmdir(path)),
             Call::List(path) => self.apply_list(alloc, path, reply),
-            Call::Stat(path) => tell_stat(reply, self.stat(path)),
-            Call::Read { path, off, len } => self.apply_read(path, *off, *len, reply),
-            Call::Write { path, off, bytes } => tell_done(reply, self.write(path, *off, bytes)),
-            Call::Truncate { path, size } => tell_done(reply, self.truncate(path, *size)),
-            Call::Rename { from, to } => tell_done(reply, self.rename(from, to)),
-            Call::Link { from, to } => tell_done(reply, self.link(from, to)),
-            Call::Links(path) => tell_links(reply, self.links(path)),
+            Call::Stat(path) => report_stat(reply, self.stat(path)),
+            Call::Read { path, offset, len } => self.apply_read(path, *offset, *len, reply),
+            Call::Write {
+                path,
+                offset,
+                bytes,
+            } => report_done(reply, self.write(path, *offset, bytes)),
+            Call::Truncate { path, size } => report_done(reply, self.truncate(path, *size)),
+            Call::Rename { from, to } => report_done(reply, self.rename(from, to)),
+            Call::Link { from, to } => report_done(reply, self.link(from, to)),
+            Call::Links(path) => report_links(reply, self.links(path)),
             Call::Upgrade => self.apply_upgrade(reply),
-            Call::Batch { text, pieces } => tell_done(reply, self.batch(text, pieces)),
-            Call::Snap => tell_done(reply, self.snap()),
-            Call::Unsnap => tell_done(reply, self.unsnap()),
+            Call::Batch { text, pieces } => report_done(reply, self.batch(text, pieces)),
+            Call::Snap => report_done(reply, self.snap()),
+            Call::Unsnap => report_done(reply, self.unsnap()),
             Call::SnapList(path) => self.apply_snap_list(alloc, path, reply),
-            Call::SnapStat(path) => tell_stat(reply, self.snap_stat(path)),
-            Call::SnapRead { path, off, len } => self.apply_snap_read(path, *off, *len, reply),
+            Call::SnapStat(path) => report_stat(reply, self.snap_stat(path)),
+            Call::SnapRead { path, offset, len } => self.apply_snap_read(
+                path, *offset, *len, reply,
+            ),
         }
     }
 
@@ -637,31 +643,31 @@ impl<R: Region> Volume<R> {
         ensures { FileCall self.old (list path.now) reply.new.answer self.new }
     {
         reply.set_done();
-        tell_list(reply, self.list(alloc, path));
+        report_list(reply, self.list(alloc, path));
     }
 
     /// Reads at most `len` bytes into the first bytes of `buffer`.
     fn read_front(
         &mut self,
         path: &[u8],
-        off: u64,
+        offset: u64,
         len: usize,
         buffer: &mut [u8],
     ) -> Result<usize, FsError>
         requires { len ≤ length buffer.old }
-        ensures called { FileCall self.old (read path.now off len) (read_answer_of result buffer.new) self.new }
+        ensures called { FileCall self.old (read path.now offset len) (read_answer_of result buffer.new) self.new }
         ensures fits { IfOk result (λ count. count ≤ len) }
     {
-        self.read(path, off, &mut buffer[..len])
+        self.read(path, offset, &mut buffer[..len])
     }
 
     /// Reads bytes into the buffer of a reply, and sets the reply to the result.
-    fn apply_read(&mut self, path: &[u8], off: u64, len: usize, reply: &mut Reply)
+    fn apply_read(&mut self, path: &[u8], offset: u64, len: usize, reply: &mut Reply)
         requires { len ≤ max_read }
-        ensures { FileCall self.old (read path.now off len) reply.new.answer self.new }
+        ensures { FileCall self.old (read path.now offset len) reply.new.answer self.new }
     {
-        let told = self.read_front(path, off, len, reply.buffer());
-        tell_read(reply, told);
+        let told = self.read_front(path, offset, len, reply.buffer());
+        report_read(reply, told);
     }
 
     /// Lists the names in a directory of the snapshot in a reply. The memory of the reply's last listing is freed
@@ -670,31 +676,31 @@ impl<R: Region> Volume<R> {
         ensures { FileCall self.old (snap_list path.now) reply.new.answer self.new }
     {
         reply.set_done();
-        tell_list(reply, self.snap_list(alloc, path));
+        report_list(reply, self.snap_list(alloc, path));
     }
 
     /// Reads at most `len` bytes of the snapshot into the first bytes of `buffer`.
     fn snap_read_front(
         &mut self,
         path: &[u8],
-        off: u64,
+        offset: u64,
         len: usize,
         buffer: &mut [u8],
     ) -> Result<usize, FsError>
         requires { len ≤ length buffer.old }
-        ensures called { FileCall self.old (snap_read path.now off len) (read_answer_of result buffer.new) self.new }
+        ensures called { FileCall self.old (snap_read path.now offset len) (read_answer_of result buffer.new) self.new }
         ensures fits { IfOk result (λ count. count ≤ len) }
     {
-        self.snap_read(path, off, &mut buffer[..len])
+        self.snap_read(path, offset, &mut buffer[..len])
     }
 
     /// Reads bytes of the snapshot into the buffer of a reply, and sets the reply to the result.
-    fn apply_snap_read(&mut self, path: &[u8], off: u64, len: usize, reply: &mut Reply)
+    fn apply_snap_read(&mut self, path: &[u8], offset: u64, len: usize, reply: &mut Reply)
         requires { len ≤ max_read }
-        ensures { FileCall self.old (snap_read path.now off len) reply.new.answer self.new }
+        ensures { FileCall self.old (snap_read path.now offset len) reply.new.answer self.new }
     {
-        let told = self.snap_read_front(path, off, len, reply.buffer());
-        tell_read(reply, told);
+        let told = self.snap_read_front(path, offset, len, reply.buffer());
+        report_read(reply, told);
     }
 
     /// Makes a volume of a region with an empty log, if its image passes a scan.
@@ -702,10 +708,10 @@ impl<R: Region> Volume<R> {
         requires sized { IsSized (R.memory region).base }
         requires fresh { (R.memory region).events ≡ [] }
         requires roomy { call_room ≤ (R.memory region).capacity }
-        requires blocks { length sets.blocks ≡ block_count (R.memory region).base }
-        requires inodes { length sets.inodes ≡ block_inodes * block_count (R.memory region).base }
-        requires counts { length sets.counts ≡ block_inodes * block_count (R.memory region).base }
-        requires frozen { length sets.frozen ≡ block_count (R.memory region).base }
+        requires blocks { length sets.free_blocks ≡ block_count (R.memory region).base }
+        requires inodes { length sets.free_inodes ≡ block_inodes * block_count (R.memory region).base }
+        requires counts { length sets.link_counts ≡ block_inodes * block_count (R.memory region).base }
+        requires snapshot_blocks { length sets.snapshot_blocks ≡ block_count (R.memory region).base }
         requires pending { sets.pending ≡ block_inodes * block_count (R.memory region).base }
         requires right { IsCacheOf (R.memory region).base cache }
         ensures same { IfOk result (λ volume. volume ≡ R.memory region) }
@@ -714,27 +720,27 @@ impl<R: Region> Volume<R> {
         ensures fault { IfErr result (λ e. IsFault (R.memory region).base e.1) }
     {
         let Sets {
-            mut blocks,
-            mut inodes,
-            mut counts,
-            mut frozen,
+            mut free_blocks,
+            mut free_inodes,
+            mut link_counts,
+            mut snapshot_blocks,
             mut pending,
         } = sets;
         match scan_whole(
             &region,
-            &mut blocks,
-            &mut inodes,
-            &mut frozen,
+            &mut free_blocks,
+            &mut free_inodes,
+            &mut snapshot_blocks,
             &mut pending,
-            &mut counts,
+            &mut link_counts,
         ) {
             Ok(_) => Ok(Volume {
                 parts: Parts {
                     region,
-                    blocks,
-                    inodes,
-                    counts,
-                    frozen,
+                    free_blocks,
+                    free_inodes,
+                    link_counts,
+                    snapshot_blocks,
                 },
                 pending,
                 cache,

@@ -182,11 +182,11 @@ pub(crate) fn file_on<R: Region, F: Finder>(
     ensures refused { IfErr result (λ e. RefusesFileAt (words_in R.memory region.now) path.now (refusal_of e)) }
     ensures right { F.right finder.new (words_in R.memory region.now) }
 {
-    let i = inode_on(region, finder, path)?;
-    let inode = get(region, i);
+    let ino = inode_on(region, finder, path)?;
+    let inode = get(region, ino);
     match inode.kind {
         Kind::File => Ok(FoundFile {
-            inumber: i,
+            inumber: ino,
             size: inode.size,
         }),
         Kind::Dir => Err(FsError::IsDir),

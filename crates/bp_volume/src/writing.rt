@@ -39,8 +39,8 @@ fn file_for<R: Region>(
     ensures found { IfOk result (λ i. PathFinds (words_in R.memory region.now) text.now i) }
     ensures kind { IfOk result (λ i. IsFile (words_in R.memory region.now) i) }
     ensures short { OnOk result (length bytes.now ≤ greatest_write (version_of (words_in R.memory region.now))) }
-    ensures refused { IfErr result (λ e. (off : ℕ) → Refuses (words_in R.memory region.now)
-        (write text.now off bytes.now) (refusal_of e)) }
+    ensures refused { IfErr result (λ e. (offset : ℕ) → Refuses (words_in R.memory region.now)
+        (write text.now offset bytes.now) (refusal_of e)) }
     ensures right { IsCacheOf (words_in R.memory region.now) cache.new }
 {
     let path = parse(text).map_err(bad_path)?;
@@ -55,45 +55,45 @@ fn file_for<R: Region>(
 fn write_into<R: Region>(
     parts: &mut Parts<R>,
     text: &[u8],
-    i: u32,
-    off: u64,
+    ino: u32,
+    offset: u64,
     bytes: &[u8],
 ) -> Result<(), FsError>
     requires ready { IsReady (R.memory parts.old.region) parts.old }
-    requires at { PathFinds (image_in R.memory parts.old) text.now i }
-    requires kind { IsFile (image_in R.memory parts.old) i }
+    requires at { PathFinds (image_in R.memory parts.old) text.now ino }
+    requires kind { IsFile (image_in R.memory parts.old) ino }
     requires short { length bytes.now ≤ greatest_write (version_of (image_in R.memory parts.old)) }
-    ensures called { CarriesOut (R.memory parts.old.region) (write text.now off bytes.now) (unit_answer result)
+    ensures called { CarriesOut (R.memory parts.old.region) (write text.now offset bytes.now) (unit_answer result)
         (R.memory parts.new.region) }
-    ensures frozen { parts.new.frozen ≡ parts.old.frozen }
+    ensures snapshot_blocks { parts.new.snapshot_blocks ≡ parts.old.snapshot_blocks }
     ensures exact { IsExactIn R.memory parts.new }
     ensures names { KeepsAllNames (image_in R.memory parts.old) (image_in R.memory parts.new) }
 {
     if bytes.is_empty() {
         return Ok(());
     }
-    if off > version(&parts.region).greatest_size() - bytes.len() as u64 {
+    if offset > version(&parts.region).greatest_size() - bytes.len() as u64 {
         return Err(FsError::TooBig);
     }
-    bp_calls::write(parts, i, off, bytes).map_err(no_space)
+    bp_calls::write(parts, ino, offset, bytes).map_err(no_space)
 }
 
 /// Carries out `write`, except for its end-of-call marker.
-pub(crate) fn write_at<R: Region>(
+pub(crate) fn do_write<R: Region>(
     parts: &mut Parts<R>,
     cache: &mut DirectoryCache,
     text: &[u8],
-    off: u64,
+    offset: u64,
     bytes: &[u8],
 ) -> Result<(), FsError>
     requires ready { IsReady (R.memory parts.old.region) parts.old }
     requires right { IsCacheOf (image_in R.memory parts.old) cache.old }
-    ensures called { CarriesOut (R.memory parts.old.region) (write text.now off bytes.now) (unit_answer result)
+    ensures called { CarriesOut (R.memory parts.old.region) (write text.now offset bytes.now) (unit_answer result)
         (R.memory parts.new.region) }
-    ensures frozen { parts.new.frozen ≡ parts.old.frozen }
+    ensures snapshot_blocks { parts.new.snapshot_blocks ≡ parts.old.snapshot_blocks }
     ensures exact { IsExactIn R.memory parts.new }
     ensures right { IsCacheOf (image_in R.memory parts.new) cache.new }
 {
-    let i = file_for(&parts.region, cache, text, bytes)?;
-    write_into(parts, text, i, off, bytes)
+    let ino = file_for(&parts.region, cache, text, bytes)?;
+    write_into(parts, text, ino, offset, bytes)
 }

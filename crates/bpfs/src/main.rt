@@ -12,7 +12,7 @@ ghost use Rattle.std.specs.Prelude.{◌≡◌, IfOk, map, string_bytes};
 mod reasons;
 mod streams;
 
-use crate::reasons::{Reason, tell_reason, tell_untold, tell_usage};
+use crate::reasons::{Reason, report_reason, report_untold, report_usage};
 use crate::streams::{leads_to, output_file, take_streams};
 use bp_command::{Program, WordsFault, read_words};
 use bp_io::{DiskFiles, StdSink, StdSource};
@@ -107,7 +107,7 @@ struct LastErrors {
 }
 
 /// Prints why the program ended with this status, if standard output does not say it.
-fn tell_end<E: Eprint>(
+fn report_end<E: Eprint>(
     runtime: &E,
     alloc: Global,
     status: Status,
@@ -120,15 +120,18 @@ fn tell_end<E: Eprint>(
         files,
     } = last;
     match status {
-        Status::Usage if texts.is_empty() => tell_reason(runtime, Reason::NoText),
-        Status::Usage => tell_usage(runtime, alloc, texts),
-        Status::SourceFailed => tell_reason(runtime, Reason::Input(input)),
-        Status::SinkFailed => tell_reason(runtime, Reason::Output(output)),
-        Status::FilesFailed => tell_reason(runtime, Reason::File(known_name(alloc, texts), files)),
-        Status::LongInput => tell_reason(runtime, Reason::LongInput),
-        Status::Memory => tell_reason(runtime, Reason::Memory),
+        Status::Usage if texts.is_empty() => report_reason(runtime, Reason::NoText),
+        Status::Usage => report_usage(runtime, alloc, texts),
+        Status::SourceFailed => report_reason(runtime, Reason::Input(input)),
+        Status::SinkFailed => report_reason(runtime, Reason::Output(output)),
+        Status::FilesFailed => report_reason(
+            runtime,
+            Reason::File(known_name(alloc, texts), files),
+        ),
+        Status::LongInput => report_reason(runtime, Reason::LongInput),
+        Status::Memory => report_reason(runtime, Reason::Memory),
         Status::Missing | Status::Refused | Status::Deep if output.is_some() => {
-            tell_untold(runtime, status, known_name(alloc, texts));
+            report_untold(runtime, status, known_name(alloc, texts));
         }
         Status::Done | Status::Missing | Status::Refused | Status::Deep => {}
     }
@@ -136,7 +139,7 @@ fn tell_end<E: Eprint>(
 
 /// Prints why nothing is done, and returns the exit status for it.
 fn refuse<E: Eprint>(runtime: &E, status: Status, reason: Reason<'_>) -> ExitCode {
-    tell_reason(runtime, reason);
+    report_reason(runtime, reason);
     ExitCode::from(status.code())
 }
 
@@ -176,6 +179,6 @@ fn main(runtime: HostRuntime) -> ExitCode {
         output: sink.last_error(),
         files: files.last_error(),
     };
-    tell_end(&runtime, alloc, status, &texts, last);
+    report_end(&runtime, alloc, status, &texts, last);
     ExitCode::from(status.code())
 }

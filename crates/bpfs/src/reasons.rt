@@ -34,7 +34,7 @@ pub(crate) enum Reason<'a> {
 }
 
 /// Prints what failed, with the system's message.
-fn tell_fault<E: Eprint>(runtime: &E, device: &str, error: Option<io::Error>) -> io::Result<()> {
+fn report_fault<E: Eprint>(runtime: &E, device: &str, error: Option<io::Error>) -> io::Result<()> {
     match error {
         Some(error) => eprintln!(runtime; "bpfs: {device}: {error}"),
         None => eprintln!(runtime; "bpfs: {device}: unknown error"),
@@ -42,11 +42,11 @@ fn tell_fault<E: Eprint>(runtime: &E, device: &str, error: Option<io::Error>) ->
 }
 
 /// Prints the reason as one line, as far as standard error takes it.
-pub(crate) fn tell_reason<E: Eprint>(runtime: &E, reason: Reason<'_>) {
+pub(crate) fn report_reason<E: Eprint>(runtime: &E, reason: Reason<'_>) {
     let _ = match reason {
-        Reason::Input(error) => tell_fault(runtime, "standard input", error),
-        Reason::Output(error) => tell_fault(runtime, "standard output", error),
-        Reason::File(name, error) => tell_fault(runtime, name, error),
+        Reason::Input(error) => report_fault(runtime, "standard input", error),
+        Reason::Output(error) => report_fault(runtime, "standard output", error),
+        Reason::File(name, error) => report_fault(runtime, name, error),
         Reason::OwnOutput(name) => eprintln!(runtime;
             "bpfs: {name}: standard output is the image itself"
         ),
@@ -63,22 +63,22 @@ pub(crate) fn tell_reason<E: Eprint>(runtime: &E, reason: Reason<'_>) {
 }
 
 /// Prints why the program ended so, if its one line says that and standard output did not take the line.
-pub(crate) fn tell_untold<E: Eprint>(runtime: &E, status: Status, name: &str) {
+pub(crate) fn report_untold<E: Eprint>(runtime: &E, status: Status, name: &str) {
     match status {
-        Status::Missing => tell_reason(runtime, Reason::Missing(name)),
-        Status::Refused => tell_reason(runtime, Reason::Refused(name)),
-        Status::Deep => tell_reason(runtime, Reason::Deep(name)),
+        Status::Missing => report_reason(runtime, Reason::Missing(name)),
+        Status::Refused => report_reason(runtime, Reason::Refused(name)),
+        Status::Deep => report_reason(runtime, Reason::Deep(name)),
         _ => {}
     }
 }
 
 /// Prints why the arguments are no command: the help that they ask for, or the mistake in them. Prints nothing if
 /// memory for that lacks.
-pub(crate) fn tell_usage<E: Eprint>(runtime: &E, alloc: Global, words: &[&str]) {
+pub(crate) fn report_usage<E: Eprint>(runtime: &E, alloc: Global, words: &[&str]) {
     match read_words(alloc, words) {
         Err(WordsFault::Usage(mistake)) if mistake.use_stderr() => {
             if let Ok(line) = mistake_line(alloc, &mistake) {
-                tell_reason(runtime, Reason::Words(line.as_str()));
+                report_reason(runtime, Reason::Words(line.as_str()));
             }
         }
         Err(WordsFault::Usage(help)) => {

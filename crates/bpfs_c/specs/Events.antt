@@ -1,7 +1,7 @@
 -- The log as C sees it: one record for each event.
 use Rattle.std.specs.Prelude.{◌≡◌, ◌+◌, ◌-◌, ◌%◌, ◌^◌, ℕ, List, [], Option, None, Some, drop, length, map, min, take}
 use Rattle.pm_epochs.specs.declared.event.Event.{Event}
-use Rattle.pm_epochs.specs.declared.event.Event.TheVariants.{Barrier, Mark, Store}
+use Rattle.pm_epochs.specs.declared.event.Event.TheVariants.{Barrier, CallEnd, Store}
 use Rattle.pm_region.specs.Memory.{drained}
 use Rattle.bpfs_c.specs.declared.logging.Logged.{Logged}
 use Rattle.bpfs_c.specs.declared.mounted.Mounted.{Mounted}
@@ -9,7 +9,7 @@ use Rattle.bpfs_c.specs.declared.mounted.Mounted.{Mounted}
 abbrev pub seen_event : Event → Logged
 seen_event (Store word value) = record { kind = 0; word = word; value = value }
 seen_event Barrier = record { kind = 1; word = 0; value = 0 }
-seen_event Mark = record { kind = 2; word = 0; value = 0 }
+seen_event CallEnd = record { kind = 2; word = 0; value = 0 }
 
 -- The log of the volume that a handle holds. A handle without a volume has none.
 abbrev pub held_events : Option Mounted → List Event

@@ -11,7 +11,7 @@ use Rattle.bpfs_c.specs.declared.batching.Patch.{Patch}
 abbrev pub piece_of : Patch → Piece
 piece_of patch = record {
   path = record { at = patch.path_at; len = patch.path_length };
-  off = patch.offset;
+  offset = patch.offset;
   bytes = record { at = patch.bytes_at; len = patch.bytes_length };
 }
 

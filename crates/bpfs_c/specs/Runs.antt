@@ -3,13 +3,13 @@ use Rattle.std.specs.Prelude.{◌≡◌, ◌≤◌, ◌<◌, ℕ, List, length}
 use Rattle.pm_epochs.specs.declared.event.Event.{Event}
 use Rattle.pm_runs.specs.Runs.{TellsRun, run_length}
 use Rattle.pm_runs.specs.declared.pieces.Run.{Run}
-use Rattle.pm_runs.specs.declared.pieces.Run.TheVariants.{Barrier, Mark, Stores}
+use Rattle.pm_runs.specs.declared.pieces.Run.TheVariants.{Barrier, CallEnd, Stores}
 use Rattle.bpfs_c.specs.declared.running.Told.{Told}
 
 abbrev pub seen_run : Run → Told
 seen_run (Stores word count) = record { kind = 0; word = word }
 seen_run Barrier = record { kind = 1; word = 0 }
-seen_run Mark = record { kind = 2; word = 0 }
+seen_run CallEnd = record { kind = 2; word = 0 }
 
 -- The run of the log that begins with an event is written to the caller's variables, and the result is its number of
 -- events: 0 for stores where the array has no room for a value. Where the log has no such event, the result is 0 too,

@@ -25,7 +25,7 @@ pub struct Found {
 }
 
 /// Stores the number of bytes that were read, and returns the number of the call's end.
-pub(crate) fn tell_count(ending: Result<usize, FsError>, count: &mut usize) -> u32
+pub(crate) fn report_count(ending: Result<usize, FsError>, count: &mut usize) -> u32
     ensures { TellsCount ending count.old result count.new }
 {
     match ending {
@@ -43,18 +43,18 @@ pub extern "C" fn bpfs_read(
     alloc: Global,
     handle: &mut Handle,
     path: &[u8],
-    off: u64,
+    offset: u64,
     into: &mut [u8],
     count: &mut usize,
 ) -> u32
-    ensures { ExportsRead handle.old.held (read path.now off (length into.old)) into.old count.old
+    ensures { ExportsRead handle.old.held (read path.now offset (length into.old)) into.old count.old
         result into.new count.new handle.new.held }
 {
     let Some(mut mounted) = handle.take(alloc) else {
         return CLOSED;
     };
     let code = if has_room(&mounted) {
-        tell_count(mounted.volume.read(path, off, into), count)
+        report_count(mounted.volume.read(path, offset, into), count)
     } else {
         LOG_FULL
     };
@@ -63,7 +63,7 @@ pub extern "C" fn bpfs_read(
 }
 
 /// Stores the size and the kind at a path, and returns the number of the call's end.
-pub(crate) fn tell_found(ending: Result<Stat, FsError>, found: &mut Found) -> u32
+pub(crate) fn report_found(ending: Result<Stat, FsError>, found: &mut Found) -> u32
     ensures { TellsFound (stat_answer_of ending) found.old result found.new }
 {
     match ending {
@@ -99,7 +99,7 @@ pub extern "C" fn bpfs_stat(
         return CLOSED;
     };
     let code = if has_room(&mounted) {
-        tell_found(mounted.volume.stat(path), found)
+        report_found(mounted.volume.stat(path), found)
     } else {
         LOG_FULL
     };
@@ -108,7 +108,7 @@ pub extern "C" fn bpfs_stat(
 }
 
 /// Stores the number of links of a file, and returns the number of the call's end.
-fn tell_links(ending: Result<u32, FsError>, count: &mut u32) -> u32
+fn report_links(ending: Result<u32, FsError>, count: &mut u32) -> u32
     ensures { TellsLinks (links_answer ending) count.old result count.new }
 {
     match ending {
@@ -135,7 +135,7 @@ pub extern "C" fn bpfs_links(
         return CLOSED;
     };
     let code = if has_room(&mounted) {
-        tell_links(mounted.volume.links(path), count)
+        report_links(mounted.volume.links(path), count)
     } else {
         LOG_FULL
     };

@@ -38,7 +38,7 @@ fn as_piece(patch: &Patch) -> Piece
             at: patch.path_at,
             len: patch.path_length,
         },
-        off: patch.offset,
+        offset: patch.offset,
         bytes: Span {
             at: patch.bytes_at,
             len: patch.bytes_length,

@@ -124,13 +124,18 @@ pub extern "C" fn bpfs_write(
     alloc: Global,
     handle: &mut Handle,
     path: &[u8],
-    off: u64,
+    offset: u64,
     bytes: &[u8],
     lack: &mut Lack,
 ) -> u32
-    ensures { ExportsChange handle.old.held (write path.now off bytes.now) lack.old result lack.new handle.new.held }
+    ensures { ExportsChange handle.old.held (write path.now offset bytes.now) lack.old result lack.new handle.new.held }
 {
-    change(alloc, handle, lack, |volume| volume.write(path, off, bytes))
+    change(
+        alloc,
+        handle,
+        lack,
+        |volume| volume.write(path, offset, bytes),
+    )
 }
 
 /// Changes the size of a file.

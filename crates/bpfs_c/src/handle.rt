@@ -6,7 +6,7 @@ ghost use Rattle.bpfs_c.specs.Ownership.{handle_owns};
 ghost use Rattle.bpfs_c.specs.declared.mounted.Mounted.{Mounted};
 
 use crate::mounted::Mounted;
-use bp_loose::Loose;
+use bp_loose::RawBox;
 use std::alloc::Global;
 use std::marker::Model;
 use std::mem::replace;
@@ -36,10 +36,10 @@ impl Handle {
     }
 
     /// Makes a handle that holds this volume.
-    fn seal(loose: Loose<Mounted, Global>) -> Handle
+    fn seal(loose: RawBox<Mounted, Global>) -> Handle
         ensures { result.held ≡ Some loose.value }
     {
-        let Loose { at, alloc: _ } = loose;
+        let RawBox { at, alloc: _ } = loose;
         Handle {
             at: at as *mut u8,
             is_open: true,
@@ -47,12 +47,12 @@ impl Handle {
     }
 
     /// Takes the volume out of a handle, as its pointer.
-    fn unseal(self, alloc: Global) -> Option<Loose<Mounted, Global>>
+    fn unseal(self, alloc: Global) -> Option<RawBox<Mounted, Global>>
         ensures { IsSealed self.held result }
     {
         let Handle { at, is_open } = self;
         if is_open {
-            Some(Loose {
+            Some(RawBox {
                 at: at as *mut Mounted,
                 alloc,
             })
@@ -83,6 +83,6 @@ impl Handle {
     pub fn put(&mut self, alloc: Global, mounted: Box<Mounted>)
         ensures { self.new.held ≡ Some mounted.value }
     {
-        let _ = replace(self, Handle::seal(Loose::of(mounted))).into_held(alloc);
+        let _ = replace(self, Handle::seal(RawBox::of(mounted))).into_held(alloc);
     }
 }

@@ -49,7 +49,7 @@ fn seen(event: Event) -> Logged
             word: 0,
             value: 0,
         },
-        Event::Mark => Logged {
+        Event::CallEnd => Logged {
             kind: MARK,
             word: 0,
             value: 0,

@@ -22,7 +22,7 @@ pub struct Told {
 }
 
 /// Stores a run as C sees it, and returns its number of events.
-fn tell_run(run: Run, told: &mut Told) -> usize
+fn report_run(run: Run, told: &mut Told) -> usize
     ensures told { told.new ≡ seen_run run }
     ensures count { result ≡ run_length run }
 {
@@ -38,7 +38,7 @@ fn tell_run(run: Run, told: &mut Told) -> usize
             };
             1
         }
-        Run::Mark => {
+        Run::CallEnd => {
             *told = Told {
                 kind: MARK,
                 word: 0,
@@ -55,7 +55,7 @@ fn copy_run(region: &RedoRegion, first: usize, told: &mut Told, values: &mut [u6
     if region.event_count() <= first {
         return 0;
     }
-    tell_run(run_at(region, first, values), told)
+    report_run(run_at(region, first, values), told)
 }
 
 /// Gets the run of the log that begins with event `first`, and returns its number of events.

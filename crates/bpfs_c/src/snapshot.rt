@@ -7,7 +7,7 @@ ghost use Rattle.bpfs_c.specs.Codes.{IsEndedBy, IsListed};
 ghost use Rattle.bpfs_c.specs.Exports.{ExportsFound, ExportsRead};
 ghost use Rattle.bpfs_c.specs.Serves.{Exported};
 
-use crate::asking::{Found, tell_count, tell_found};
+use crate::asking::{Found, report_count, report_found};
 use crate::codes::{CLOSED, LOG_FULL, OK, number_of};
 use crate::handle::Handle;
 use crate::listing::keep;
@@ -65,18 +65,18 @@ pub extern "C" fn bpfs_snap_read(
     alloc: Global,
     handle: &mut Handle,
     path: &[u8],
-    off: u64,
+    offset: u64,
     into: &mut [u8],
     count: &mut usize,
 ) -> u32
-    ensures { ExportsRead handle.old.held (snap_read path.now off (length into.old)) into.old count.old
+    ensures { ExportsRead handle.old.held (snap_read path.now offset (length into.old)) into.old count.old
         result into.new count.new handle.new.held }
 {
     let Some(mut mounted) = handle.take(alloc) else {
         return CLOSED;
     };
     let code = if has_room(&mounted) {
-        tell_count(mounted.volume.snap_read(path, off, into), count)
+        report_count(mounted.volume.snap_read(path, offset, into), count)
     } else {
         LOG_FULL
     };
@@ -98,7 +98,7 @@ pub extern "C" fn bpfs_snap_stat(
         return CLOSED;
     };
     let code = if has_room(&mounted) {
-        tell_found(mounted.volume.snap_stat(path), found)
+        report_found(mounted.volume.snap_stat(path), found)
     } else {
         LOG_FULL
     };

@@ -4,7 +4,7 @@ use Rattle.std.specs.List.{slice_get}
 use Rattle.std.proofs.lemmas.Bool.{cases_Bool, cases_eq, eq-eqb, ne_eqb, eqb-true, and_right, and_parts}
 use Rattle.std.proofs.lemmas.Option.{slice_get-get_or}
 use Rattle.pm_epochs.specs.declared.event.Event.{Event}
-use Rattle.pm_epochs.specs.declared.event.Event.TheVariants.{Store as Set, Barrier as Fence, Mark}
+use Rattle.pm_epochs.specs.declared.event.Event.TheVariants.{Store as Set, Barrier as Fence, CallEnd}
 use Rattle.pm_epochs.specs.Log.{words_after, barriers, epoch_stores}
 use Rattle.pm_epochs.specs.Replay.{IsRight, stores_of, replay}
 use Rattle.pm_cores.specs.declared.entry.Entry.{Entry}
@@ -14,36 +14,36 @@ use Rattle.pm_cores.specs.Log.{core_barriers, epoch_at, words_back, IsStore}
 use Rattle.pm_cores.specs.Caches.{Caches, memory_over}
 use Rattle.pm_cores.specs.Order.{IsCoherent}
 use Rattle.pm_cores.specs.Choice.{first_epoch, dirty_epoch, flag_in, mask_to, cut_at}
-use Rattle.pm_cores.specs.Played.{unmarked, done_by_first, IsPlayed}
+use Rattle.pm_cores.specs.Played.{without_call_ends, done_by_first, IsPlayed}
 use Rattle.pm_cores.proofs.Lists.{get_within}
 use Rattle.pm_cores.proofs.Logs.{epoch_at-most, core_barriers-append}
 use Rattle.pm_cores.proofs.Flags.{first_epoch_most, first_epoch_own}
 
 -- ## Marks are nothing
 
-unmarked_stores : (epoch : ℕ) (mask : List Bool) (events : List Event) → stores_of epoch mask (unmarked events) ≡ stores_of epoch mask events
-unmarked_stores epoch mask [] = refl
-unmarked_stores zero [] (Set word value ∷ events) = refl
-unmarked_stores zero (true ∷ mask) (Set word value ∷ events) = ap (λ es. Set word value ∷ es) (unmarked_stores zero mask events)
-unmarked_stores zero (false ∷ mask) (Set word value ∷ events) = unmarked_stores zero mask events
-unmarked_stores (suc epoch) mask (Set word value ∷ events) = ap (λ es. Set word value ∷ es) (unmarked_stores (suc epoch) mask events)
-unmarked_stores zero mask (Fence ∷ events) = refl
-unmarked_stores (suc epoch) mask (Fence ∷ events) = unmarked_stores epoch mask events
-unmarked_stores epoch mask (Mark ∷ events) = unmarked_stores epoch mask events
+stores_without_call_ends : (epoch : ℕ) (mask : List Bool) (events : List Event) → stores_of epoch mask (without_call_ends events) ≡ stores_of epoch mask events
+stores_without_call_ends epoch mask [] = refl
+stores_without_call_ends zero [] (Set word value ∷ events) = refl
+stores_without_call_ends zero (true ∷ mask) (Set word value ∷ events) = ap (λ es. Set word value ∷ es) (stores_without_call_ends zero mask events)
+stores_without_call_ends zero (false ∷ mask) (Set word value ∷ events) = stores_without_call_ends zero mask events
+stores_without_call_ends (suc epoch) mask (Set word value ∷ events) = ap (λ es. Set word value ∷ es) (stores_without_call_ends (suc epoch) mask events)
+stores_without_call_ends zero mask (Fence ∷ events) = refl
+stores_without_call_ends (suc epoch) mask (Fence ∷ events) = stores_without_call_ends epoch mask events
+stores_without_call_ends epoch mask (CallEnd ∷ events) = stores_without_call_ends epoch mask events
 
-unmarked_barriers : (events : List Event) → barriers (unmarked events) ≡ barriers events
-unmarked_barriers [] = refl
-unmarked_barriers (Set word value ∷ events) = unmarked_barriers events
-unmarked_barriers (Fence ∷ events) = ap suc (unmarked_barriers events)
-unmarked_barriers (Mark ∷ events) = unmarked_barriers events
+barriers_without_call_ends : (events : List Event) → barriers (without_call_ends events) ≡ barriers events
+barriers_without_call_ends [] = refl
+barriers_without_call_ends (Set word value ∷ events) = barriers_without_call_ends events
+barriers_without_call_ends (Fence ∷ events) = ap suc (barriers_without_call_ends events)
+barriers_without_call_ends (CallEnd ∷ events) = barriers_without_call_ends events
 
-unmarked_epoch : (epoch : ℕ) (events : List Event) → epoch_stores epoch (unmarked events) ≡ epoch_stores epoch events
-unmarked_epoch epoch [] = refl
-unmarked_epoch zero (Set word value ∷ events) = ap suc (unmarked_epoch zero events)
-unmarked_epoch (suc epoch) (Set word value ∷ events) = unmarked_epoch (suc epoch) events
-unmarked_epoch zero (Fence ∷ events) = refl
-unmarked_epoch (suc epoch) (Fence ∷ events) = unmarked_epoch epoch events
-unmarked_epoch epoch (Mark ∷ events) = unmarked_epoch epoch events
+epoch_without_call_ends : (epoch : ℕ) (events : List Event) → epoch_stores epoch (without_call_ends events) ≡ epoch_stores epoch events
+epoch_without_call_ends epoch [] = refl
+epoch_without_call_ends zero (Set word value ∷ events) = ap suc (epoch_without_call_ends zero events)
+epoch_without_call_ends (suc epoch) (Set word value ∷ events) = epoch_without_call_ends (suc epoch) events
+epoch_without_call_ends zero (Fence ∷ events) = refl
+epoch_without_call_ends (suc epoch) (Fence ∷ events) = epoch_without_call_ends epoch events
+epoch_without_call_ends epoch (CallEnd ∷ events) = epoch_without_call_ends epoch events
 
 -- ## The mask, from the front
 
@@ -302,13 +302,13 @@ module _ (caches : Caches) (coherent : IsCoherent caches) where
           let most = first_epoch_most 0 (core_barriers 0 caches.log) caches.owners in
           let same = done_barriers caches.log in
           let by = ap barriers played.same in
-          let marks = unmarked_barriers (take moment events) in
+          let call_ends = barriers_without_call_ends (take moment events) in
           omega arith;
       mask =
           let most = few (dirty_epoch 0 caches) (dirty_epoch 0 caches) 0 caches.log caches.back (omega arith) in
           let size = ap length (mask_is_seen (dirty_epoch 0 caches) caches.log caches.back coherent.flags) in
           let by = ap (epoch_stores (dirty_epoch 0 caches)) played.same in
-          let marks = unmarked_epoch (dirty_epoch 0 caches) (take moment events) in
+          let call_ends = epoch_without_call_ends (dirty_epoch 0 caches) (take moment events) in
           omega arith;
     }
 
@@ -320,4 +320,4 @@ module _ (caches : Caches) (coherent : IsCoherent caches) where
         sym (stays
         ∙ ap (λ (m : List Bool). words_after base (stores_of (dirty_epoch 0 caches) m (done_by_first caches.log))) (sym (mask_is_seen (dirty_epoch 0 caches) caches.log caches.back coherent.flags))
         ∙ ap (λ (es : List Event). words_after base (stores_of (dirty_epoch 0 caches) mask es)) (sym played.same)
-        ∙ ap (words_after base) (unmarked_stores (dirty_epoch 0 caches) mask (take moment events)))
+        ∙ ap (words_after base) (stores_without_call_ends (dirty_epoch 0 caches) mask (take moment events)))

@@ -1,10 +1,10 @@
--- What crashes leave of joined logs, of a preparation with its commit, and of a mark.
+-- What crashes leave of joined logs, of a preparation with its commit, and of a marker.
 use Rattle.std.proofs.Common.{◌≡◌, ℕ, zero, suc, ◌+◌, ◌≤◌, ◌⊎◌, inl, inr, Bool, true, false, List, [], ◌∷◌, ◌++◌, length, take, set, refl, sym, ◌∙◌, ap, arith}
 use Rattle.std.proofs.lemmas.List.{take-append-le, append_assoc, length-append, length-set}
 use Rattle.pm_epochs.specs.declared.event.Event.{Event}
-use Rattle.pm_epochs.specs.declared.event.Event.TheVariants.{Store, Barrier, Mark}
-use Rattle.pm_epochs.specs.Log.{words_after, stores, barriers, marks, up_to_mark, IsClosed}
-use Rattle.pm_epochs.specs.Replay.{stores_of, marks_of, after_calls, IsReplay}
+use Rattle.pm_epochs.specs.declared.event.Event.TheVariants.{Store, Barrier, CallEnd}
+use Rattle.pm_epochs.specs.Log.{words_after, stores, barriers, call_ends, up_to_call_end, IsClosed}
+use Rattle.pm_epochs.specs.Replay.{stores_of, call_ends_of, after_calls, IsReplay}
 use Rattle.pm_epochs.specs.Crash.{Likeness, IsTransitive, CrashRight, IsQuiet, commit}
 use Rattle.pm_epochs.proofs.Cuts.{kept_stores_right, right_cut, joined}
 
@@ -14,13 +14,13 @@ pub words_after-append : (words : List ℕ) (first rest : List Event) → words_
 words_after-append words [] rest = refl
 words_after-append words (Store word value ∷ first) rest = words_after-append (set words word value) first rest
 words_after-append words (Barrier ∷ first) rest = words_after-append words first rest
-words_after-append words (Mark ∷ first) rest = words_after-append words first rest
+words_after-append words (CallEnd ∷ first) rest = words_after-append words first rest
 
 pub words_after-stores : (words : List ℕ) (events : List Event) → words_after words (stores events) ≡ words_after words events
 words_after-stores words [] = refl
 words_after-stores words (Store word value ∷ events) = words_after-stores (set words word value) events
 words_after-stores words (Barrier ∷ events) = words_after-stores words events
-words_after-stores words (Mark ∷ events) = words_after-stores words events
+words_after-stores words (CallEnd ∷ events) = words_after-stores words events
 
 -- what a log that goes on from a whole one leaves
 words_after_whole : (words : List ℕ) (first kept : List Event) → words_after words (stores first ++ kept) ≡ words_after (words_after words first) kept
@@ -32,26 +32,26 @@ pub barriers-append : (first rest : List Event) → barriers (first ++ rest) ≡
 barriers-append [] rest = omega arith
 barriers-append (Store word value ∷ first) rest = barriers-append first rest
 barriers-append (Barrier ∷ first) rest = let e = barriers-append first rest in omega arith
-barriers-append (Mark ∷ first) rest = barriers-append first rest
+barriers-append (CallEnd ∷ first) rest = barriers-append first rest
 
-pub marks-append : (first rest : List Event) → marks (first ++ rest) ≡ marks first + marks rest
-marks-append [] rest = omega arith
-marks-append (Store word value ∷ first) rest = marks-append first rest
-marks-append (Barrier ∷ first) rest = marks-append first rest
-marks-append (Mark ∷ first) rest = let e = marks-append first rest in omega arith
+pub call_ends-append : (first rest : List Event) → call_ends (first ++ rest) ≡ call_ends first + call_ends rest
+call_ends-append [] rest = omega arith
+call_ends-append (Store word value ∷ first) rest = call_ends-append first rest
+call_ends-append (Barrier ∷ first) rest = call_ends-append first rest
+call_ends-append (CallEnd ∷ first) rest = let e = call_ends-append first rest in omega arith
 
 pub IsClosed-append : (first rest : List Event) → IsClosed first → IsClosed rest → IsClosed (first ++ rest)
 IsClosed-append [] rest closed closed_rest = closed_rest
 IsClosed-append (Store word value ∷ first) rest closed closed_rest = (omega (arith, barriers-append first rest, closed.0), IsClosed-append first rest closed.1 closed_rest)
 IsClosed-append (Barrier ∷ first) rest closed closed_rest = IsClosed-append first rest closed closed_rest
-IsClosed-append (Mark ∷ first) rest closed closed_rest = IsClosed-append first rest closed closed_rest
+IsClosed-append (CallEnd ∷ first) rest closed closed_rest = IsClosed-append first rest closed closed_rest
 
 -- a barrier closes any log
 pub IsClosed-barrier : (events rest : List Event) → IsClosed rest → IsClosed (events ++ Barrier ∷ rest)
 IsClosed-barrier [] rest closed = closed
 IsClosed-barrier (Store word value ∷ events) rest closed = (omega (arith, barriers-append events (Barrier ∷ rest)), IsClosed-barrier events rest closed)
 IsClosed-barrier (Barrier ∷ events) rest closed = IsClosed-barrier events rest closed
-IsClosed-barrier (Mark ∷ events) rest closed = IsClosed-barrier events rest closed
+IsClosed-barrier (CallEnd ∷ events) rest closed = IsClosed-barrier events rest closed
 
 -- ## Cuts
 
@@ -60,47 +60,47 @@ stores_of_all : (events : List Event) → stores_of (suc (barriers events)) [] e
 stores_of_all [] = refl
 stores_of_all (Store word value ∷ events) = ap (λ es. Store word value ∷ es) (stores_of_all events)
 stores_of_all (Barrier ∷ events) = stores_of_all events
-stores_of_all (Mark ∷ events) = stores_of_all events
+stores_of_all (CallEnd ∷ events) = stores_of_all events
 
-marks_of_all : (events : List Event) → marks_of (suc (barriers events)) [] events ≡ marks events
-marks_of_all [] = refl
-marks_of_all (Store word value ∷ events) = marks_of_all events
-marks_of_all (Barrier ∷ events) = marks_of_all events
-marks_of_all (Mark ∷ events) = ap suc (marks_of_all events)
+call_ends_of_all : (events : List Event) → call_ends_of (suc (barriers events)) [] events ≡ call_ends events
+call_ends_of_all [] = refl
+call_ends_of_all (Store word value ∷ events) = call_ends_of_all events
+call_ends_of_all (Barrier ∷ events) = call_ends_of_all events
+call_ends_of_all (CallEnd ∷ events) = ap suc (call_ends_of_all events)
 
-pub marks_of-le : (events : List Event) (epoch : ℕ) (mask : List Bool) → marks_of epoch mask events ≤ marks events
-marks_of-le [] epoch mask = omega arith
-marks_of-le (Store word value ∷ events) zero [] = omega arith
-marks_of-le (Store word value ∷ events) zero (true ∷ mask) = marks_of-le events zero mask
-marks_of-le (Store word value ∷ events) zero (false ∷ mask) = omega arith
-marks_of-le (Store word value ∷ events) (suc epoch) mask = marks_of-le events (suc epoch) mask
-marks_of-le (Barrier ∷ events) zero mask = marks_of-le events zero []
-marks_of-le (Barrier ∷ events) (suc epoch) mask = marks_of-le events epoch mask
-marks_of-le (Mark ∷ events) epoch mask = let low = marks_of-le events epoch mask in omega arith
+pub call_ends_of-le : (events : List Event) (epoch : ℕ) (mask : List Bool) → call_ends_of epoch mask events ≤ call_ends events
+call_ends_of-le [] epoch mask = omega arith
+call_ends_of-le (Store word value ∷ events) zero [] = omega arith
+call_ends_of-le (Store word value ∷ events) zero (true ∷ mask) = call_ends_of-le events zero mask
+call_ends_of-le (Store word value ∷ events) zero (false ∷ mask) = omega arith
+call_ends_of-le (Store word value ∷ events) (suc epoch) mask = call_ends_of-le events (suc epoch) mask
+call_ends_of-le (Barrier ∷ events) zero mask = call_ends_of-le events zero []
+call_ends_of-le (Barrier ∷ events) (suc epoch) mask = call_ends_of-le events epoch mask
+call_ends_of-le (CallEnd ∷ events) epoch mask = let low = call_ends_of-le events epoch mask in omega arith
 
-pub up_to_mark-append : (first rest : List Event) (count : ℕ) → count ≤ marks first → up_to_mark count (first ++ rest) ≡ up_to_mark count first
-up_to_mark-append first rest zero low = refl
-up_to_mark-append [] rest (suc count) low = absurd (omega arith)
-up_to_mark-append (Store word value ∷ first) rest (suc count) low = ap (λ es. Store word value ∷ es) (up_to_mark-append first rest (suc count) low)
-up_to_mark-append (Barrier ∷ first) rest (suc count) low = ap (λ es. Barrier ∷ es) (up_to_mark-append first rest (suc count) low)
-up_to_mark-append (Mark ∷ first) rest (suc count) low = ap (λ es. Mark ∷ es) (up_to_mark-append first rest count (omega arith))
+pub up_to_call_end-append : (first rest : List Event) (count : ℕ) → count ≤ call_ends first → up_to_call_end count (first ++ rest) ≡ up_to_call_end count first
+up_to_call_end-append first rest zero low = refl
+up_to_call_end-append [] rest (suc count) low = absurd (omega arith)
+up_to_call_end-append (Store word value ∷ first) rest (suc count) low = ap (λ es. Store word value ∷ es) (up_to_call_end-append first rest (suc count) low)
+up_to_call_end-append (Barrier ∷ first) rest (suc count) low = ap (λ es. Barrier ∷ es) (up_to_call_end-append first rest (suc count) low)
+up_to_call_end-append (CallEnd ∷ first) rest (suc count) low = ap (λ es. CallEnd ∷ es) (up_to_call_end-append first rest count (omega arith))
 
-pub up_to_mark_behind : (first rest : List Event) (count more : ℕ) → count ≡ marks first + suc more → up_to_mark count (first ++ rest) ≡ first ++ up_to_mark (suc more) rest
-up_to_mark_behind first rest zero more e = absurd (omega arith)
-up_to_mark_behind [] rest (suc count) more e = ap (λ n. up_to_mark n rest) (let k : suc count ≡ suc more = omega arith in k)
-up_to_mark_behind (Store word value ∷ first) rest (suc count) more e = ap (λ es. Store word value ∷ es) (up_to_mark_behind first rest (suc count) more e)
-up_to_mark_behind (Barrier ∷ first) rest (suc count) more e = ap (λ es. Barrier ∷ es) (up_to_mark_behind first rest (suc count) more e)
-up_to_mark_behind (Mark ∷ first) rest (suc count) more e = ap (λ es. Mark ∷ es) (up_to_mark_behind first rest count more (omega arith))
+pub up_to_call_end_behind : (first rest : List Event) (count more : ℕ) → count ≡ call_ends first + suc more → up_to_call_end count (first ++ rest) ≡ first ++ up_to_call_end (suc more) rest
+up_to_call_end_behind first rest zero more e = absurd (omega arith)
+up_to_call_end_behind [] rest (suc count) more e = ap (λ n. up_to_call_end n rest) (let k : suc count ≡ suc more = omega arith in k)
+up_to_call_end_behind (Store word value ∷ first) rest (suc count) more e = ap (λ es. Store word value ∷ es) (up_to_call_end_behind first rest (suc count) more e)
+up_to_call_end_behind (Barrier ∷ first) rest (suc count) more e = ap (λ es. Barrier ∷ es) (up_to_call_end_behind first rest (suc count) more e)
+up_to_call_end_behind (CallEnd ∷ first) rest (suc count) more e = ap (λ es. CallEnd ∷ es) (up_to_call_end_behind first rest count more (omega arith))
 
 -- ## What is right at each right cut is right for any epochs and mask, and the other way round
 
 module _ (Same : Likeness) (base : List ℕ) (events : List Event) where
-  crash_right_at : CrashRight Same base events → (epoch : ℕ) (mask : List Bool) → Same (words_after base (stores_of epoch mask events)) (after_calls base events (marks_of epoch mask events))
+  crash_right_at : CrashRight Same base events → (epoch : ℕ) (mask : List Bool) → Same (words_after base (stores_of epoch mask events)) (after_calls base events (call_ends_of epoch mask events))
   crash_right_at right epoch mask =
       let found = right_cut events epoch mask in
       rw (found.kept, found.calls) at (right.each found.cut found.right)
 
-  crash_right_from : ((epoch : ℕ) (mask : List Bool) → Same (words_after base (stores_of epoch mask events)) (after_calls base events (marks_of epoch mask events))) → CrashRight Same base events
+  crash_right_from : ((epoch : ℕ) (mask : List Bool) → Same (words_after base (stores_of epoch mask events)) (after_calls base events (call_ends_of epoch mask events))) → CrashRight Same base events
   crash_right_from holds = record { each = λ cut right. rw (kept_stores_right events cut right) (holds cut.epoch cut.mask) }
 
   quiet_at : IsQuiet Same base events → (epoch : ℕ) (mask : List Bool) → Same (words_after base (stores_of epoch mask events)) base
@@ -112,9 +112,9 @@ module _ (Same : Likeness) (base : List ℕ) (events : List Event) where
   quiet_from holds = record { each = λ cut right. rw (kept_stores_right events cut right) (holds cut.epoch cut.mask) }
 
   -- with all kept
-  crash_right_whole : CrashRight Same base events → Same (words_after base events) (after_calls base events (marks events))
+  crash_right_whole : CrashRight Same base events → Same (words_after base events) (after_calls base events (call_ends events))
   crash_right_whole right =
-      rw (stores_of_all events, marks_of_all events, words_after-stores base events) at (crash_right_at right (suc (barriers events)) [])
+      rw (stores_of_all events, call_ends_of_all events, words_after-stores base events) at (crash_right_at right (suc (barriers events)) [])
 
   pub quiet_whole : IsQuiet Same base events → Same (words_after base events) base
   quiet_whole quiet =
@@ -133,12 +133,12 @@ module _ (Same : Likeness) (trans : IsTransitive Same) where
       ])
 
   -- the calls of a log that goes on from a whole one
-  after_behind : (base : List ℕ) (first rest : List Event) → CrashRight Same base first → (image : List ℕ) (count : ℕ) → Same image (after_calls (words_after base first) rest count) → Same image (after_calls base (first ++ rest) (marks first + count))
+  after_behind : (base : List ℕ) (first rest : List Event) → CrashRight Same base first → (image : List ℕ) (count : ℕ) → Same image (after_calls (words_after base first) rest count) → Same image (after_calls base (first ++ rest) (call_ends first + count))
   after_behind base first rest right image zero same =
-      let none : marks first + 0 ≡ marks first = omega arith in
-      rw (none, up_to_mark-append first rest (marks first) (omega arith)) (trans _ _ _ same (crash_right_whole Same base first right))
+      let none : call_ends first + 0 ≡ call_ends first = omega arith in
+      rw (none, up_to_call_end-append first rest (call_ends first) (omega arith)) (trans _ _ _ same (crash_right_whole Same base first right))
   after_behind base first rest right image (suc count) same =
-      rw (up_to_mark_behind first rest (marks first + suc count) count refl, words_after-append base first (up_to_mark (suc count) rest)) same
+      rw (up_to_call_end_behind first rest (call_ends first + suc count) count refl, words_after-append base first (up_to_call_end (suc count) rest)) same
 
   -- a log that is right goes on with one that is right from where it ends
   pub crash_right-append : (base : List ℕ) (first rest : List Event) → IsClosed first → CrashRight Same base first → CrashRight Same (words_after base first) rest → CrashRight Same base (first ++ rest)
@@ -146,16 +146,16 @@ module _ (Same : Likeness) (trans : IsTransitive Same) where
       elim (joined first rest epoch mask closed) [
         | inl p ↦ rw (p.kept, p.calls, words_after_whole base first (stores_of p.new_epoch p.new_mask rest))
             (after_behind base first rest right _ _ (crash_right_at Same (words_after base first) rest right_rest p.new_epoch p.new_mask))
-        | inr s ↦ rw (s.kept, s.calls, up_to_mark-append first rest (marks_of epoch mask first) (marks_of-le first epoch mask))
+        | inr s ↦ rw (s.kept, s.calls, up_to_call_end-append first rest (call_ends_of epoch mask first) (call_ends_of-le first epoch mask))
             (crash_right_at Same base first right epoch mask)
       ])
 
 -- ## The commit
 
--- what is kept of a commit's store, behind its first barrier, and of the mark that ends the call
+-- what is kept of a commit's store, behind its first barrier, and of the marker that ends the call
 commit_or_not : (epoch : ℕ) (mask : List Bool) (word value : ℕ) →
-    ((stores_of epoch mask (Store word value ∷ Barrier ∷ Mark ∷ []) ≡ []) × (marks_of epoch mask (Store word value ∷ Barrier ∷ Mark ∷ []) ≡ 0))
-    ⊎ ((stores_of epoch mask (Store word value ∷ Barrier ∷ Mark ∷ []) ≡ Store word value ∷ []) × (marks_of epoch mask (Store word value ∷ Barrier ∷ Mark ∷ []) ≡ 1))
+    ((stores_of epoch mask (Store word value ∷ Barrier ∷ CallEnd ∷ []) ≡ []) × (call_ends_of epoch mask (Store word value ∷ Barrier ∷ CallEnd ∷ []) ≡ 0))
+    ⊎ ((stores_of epoch mask (Store word value ∷ Barrier ∷ CallEnd ∷ []) ≡ Store word value ∷ []) × (call_ends_of epoch mask (Store word value ∷ Barrier ∷ CallEnd ∷ []) ≡ 1))
 commit_or_not zero [] word value = inl (refl, refl)
 commit_or_not zero (true ∷ mask) word value = inr (refl, refl)
 commit_or_not zero (false ∷ mask) word value = inl (refl, refl)
@@ -170,7 +170,7 @@ stores_of-barrier (Store word value ∷ events) zero (false ∷ mask) = stores_o
 stores_of-barrier (Store word value ∷ events) (suc epoch) mask = ap (λ es. Store word value ∷ es) (stores_of-barrier events (suc epoch) mask)
 stores_of-barrier (Barrier ∷ events) zero mask = refl
 stores_of-barrier (Barrier ∷ events) (suc epoch) mask = stores_of-barrier events epoch mask
-stores_of-barrier (Mark ∷ events) epoch mask = stores_of-barrier events epoch mask
+stores_of-barrier (CallEnd ∷ events) epoch mask = stores_of-barrier events epoch mask
 
 module _ (Same : Likeness) (base : List ℕ) (events : List Event) (word value : ℕ) where
   before_commit : words_after base (events ++ Barrier ∷ []) ≡ words_after base events
@@ -179,34 +179,34 @@ module _ (Same : Likeness) (base : List ℕ) (events : List Event) (word value :
   after_commit : words_after (words_after base events) (Store word value ∷ []) ≡ words_after base (events ++ commit word value)
   after_commit = sym (words_after-append base events (commit word value))
 
-  no_marks : marks events ≡ 0 → marks (events ++ Barrier ∷ []) ≡ 0
-  no_marks none = omega (arith, marks-append events (Barrier ∷ []))
+  no_call_ends : call_ends events ≡ 0 → call_ends (events ++ Barrier ∷ []) ≡ 0
+  no_call_ends none = omega (arith, call_ends-append events (Barrier ∷ []))
 
-  after_one : marks events ≡ 0 → after_calls base (events ++ commit word value ++ Mark ∷ []) 1 ≡ words_after base (events ++ commit word value)
+  after_one : call_ends events ≡ 0 → after_calls base (events ++ commit word value ++ CallEnd ∷ []) 1 ≡ words_after base (events ++ commit word value)
   after_one none =
-      let one : 1 ≡ marks (events ++ commit word value) + 1 = omega (arith, marks-append events (commit word value)) in
-      rw (up_to_mark_behind (events ++ commit word value) (Mark ∷ []) 1 0 one) (words_after-append base (events ++ commit word value) (Mark ∷ []))
+      let one : 1 ≡ call_ends (events ++ commit word value) + 1 = omega (arith, call_ends-append events (commit word value)) in
+      rw (up_to_call_end_behind (events ++ commit word value) (CallEnd ∷ []) 1 0 one) (words_after-append base (events ++ commit word value) (CallEnd ∷ []))
 
   abbrev call : List Event
-  call = events ++ commit word value ++ Mark ∷ []
+  call = events ++ commit word value ++ CallEnd ∷ []
 
   -- what a cut leaves, by what it keeps
-  outcome : (epoch : ℕ) (mask : List Bool) (kept : List Event) (calls : ℕ) → stores_of epoch mask call ≡ kept → marks_of epoch mask call ≡ calls →
+  outcome : (epoch : ℕ) (mask : List Bool) (kept : List Event) (calls : ℕ) → stores_of epoch mask call ≡ kept → call_ends_of epoch mask call ≡ calls →
       Same (words_after base kept) (after_calls base call calls) →
-      Same (words_after base (stores_of epoch mask call)) (after_calls base call (marks_of epoch mask call))
+      Same (words_after base (stores_of epoch mask call)) (after_calls base call (call_ends_of epoch mask call))
   outcome epoch mask kept calls kept_is calls_is same = rw (kept_is, calls_is) same
 
   -- a preparation that is quiet, then the one store alone in its epoch, then the end of the call
-  pub crash_right_commit : marks events ≡ 0 → IsQuiet Same base events → Same (words_after base (events ++ commit word value)) (words_after base (events ++ commit word value)) → CrashRight Same base (events ++ commit word value ++ Mark ∷ [])
-  crash_right_commit none quiet same = crash_right_from Same base (events ++ commit word value ++ Mark ∷ []) (λ epoch mask.
+  pub crash_right_commit : call_ends events ≡ 0 → IsQuiet Same base events → Same (words_after base (events ++ commit word value)) (words_after base (events ++ commit word value)) → CrashRight Same base (events ++ commit word value ++ CallEnd ∷ [])
+  crash_right_commit none quiet same = crash_right_from Same base (events ++ commit word value ++ CallEnd ∷ []) (λ epoch mask.
       let first = events ++ Barrier ∷ [] in
-      let behind = Store word value ∷ Barrier ∷ Mark ∷ [] in
-      let parts : events ++ commit word value ++ Mark ∷ [] ≡ first ++ behind = simp append_assoc in
-      let unmarked = no_marks none in
+      let behind = Store word value ∷ Barrier ∷ CallEnd ∷ [] in
+      let parts : events ++ commit word value ++ CallEnd ∷ [] ≡ first ++ behind = simp append_assoc in
+      let no_call_end = no_call_ends none in
       elim (joined first behind epoch mask (IsClosed-barrier events [] tt)) [
         | inl p ↦
-            let calls : marks_of epoch mask (events ++ commit word value ++ Mark ∷ []) ≡ marks_of p.new_epoch p.new_mask behind = rw parts (omega (arith, p.calls, unmarked)) in
-            let kept : (es : List Event) → stores_of p.new_epoch p.new_mask behind ≡ es → stores_of epoch mask (events ++ commit word value ++ Mark ∷ []) ≡ stores first ++ es =
+            let calls : call_ends_of epoch mask (events ++ commit word value ++ CallEnd ∷ []) ≡ call_ends_of p.new_epoch p.new_mask behind = rw parts (omega (arith, p.calls, no_call_end)) in
+            let kept : (es : List Event) → stores_of p.new_epoch p.new_mask behind ≡ es → stores_of epoch mask (events ++ commit word value ++ CallEnd ∷ []) ≡ stores first ++ es =
             λ es e. ap (stores_of epoch mask) parts ∙ p.kept ∙ ap (λ rest. stores first ++ rest) e in
             elim (commit_or_not p.new_epoch p.new_mask word value) [
               | inl c ↦ outcome epoch mask (stores first ++ []) 0 (kept [] c.0) (calls ∙ c.1)
@@ -215,11 +215,11 @@ module _ (Same : Likeness) (base : List ℕ) (events : List Event) (word value :
                   (rw (words_after_whole base first (Store word value ∷ []), before_commit, after_commit, after_one none) same)
             ]
         | inr s ↦
-            let low = marks_of-le first epoch mask in
-            let calls : marks_of epoch mask (first ++ behind) ≡ 0 = omega (arith, s.calls) in
+            let low = call_ends_of-le first epoch mask in
+            let calls : call_ends_of epoch mask (first ++ behind) ≡ 0 = omega (arith, s.calls) in
             outcome epoch mask (stores_of epoch mask events) 0
             (ap (stores_of epoch mask) parts ∙ s.kept ∙ stores_of-barrier events epoch mask)
-            (ap (marks_of epoch mask) parts ∙ calls)
+            (ap (call_ends_of epoch mask) parts ∙ calls)
             (quiet_at Same base events quiet epoch mask)
       ])
 
@@ -251,10 +251,10 @@ quiet-commit Same base events word value quiet same = quiet_from Same base (even
       | inr s ↦ at (stores_of epoch mask events) (s.kept ∙ stores_of-barrier events epoch mask) (quiet_at Same base events quiet epoch mask)
     ])
 
--- ## A mark, and nothing
+-- ## A marker, and nothing
 
-pub crash_right_mark : (Same : Likeness) (base : List ℕ) → Same base base → CrashRight Same base (Mark ∷ [])
-crash_right_mark Same base same = crash_right_from Same base (Mark ∷ []) (λ epoch mask. same)
+pub crash_right_call_end : (Same : Likeness) (base : List ℕ) → Same base base → CrashRight Same base (CallEnd ∷ [])
+crash_right_call_end Same base same = crash_right_from Same base (CallEnd ∷ []) (λ epoch mask. same)
 
 pub crash_right_none : (Same : Likeness) (base : List ℕ) → Same base base → CrashRight Same base []
 crash_right_none Same base same = crash_right_from Same base [] (λ epoch mask. same)
@@ -270,7 +270,7 @@ pub length-words_after : (words : List ℕ) (events : List Event) → length (wo
 length-words_after words [] = refl
 length-words_after words (Store word value ∷ events) = length-words_after (set words word value) events ∙ length-set words word value
 length-words_after words (Barrier ∷ events) = length-words_after words events
-length-words_after words (Mark ∷ events) = length-words_after words events
+length-words_after words (CallEnd ∷ events) = length-words_after words events
 
 -- ## Replays of joined logs
 
@@ -293,10 +293,10 @@ joined_replays base first rest closed image found =
     ]
 
 -- what a committed call leaves is closed
-pub IsClosed-commit : (prepared : List Event) (word value : ℕ) → IsClosed (prepared ++ commit word value ++ Mark ∷ [])
+pub IsClosed-commit : (prepared : List Event) (word value : ℕ) → IsClosed (prepared ++ commit word value ++ CallEnd ∷ [])
 IsClosed-commit prepared word value =
-    let tail : IsClosed (Store word value ∷ Barrier ∷ Mark ∷ []) = (omega arith, tt) in
-    rw append_assoc (IsClosed-barrier prepared (Store word value ∷ Barrier ∷ Mark ∷ []) tail)
+    let tail : IsClosed (Store word value ∷ Barrier ∷ CallEnd ∷ []) = (omega arith, tt) in
+    rw append_assoc (IsClosed-barrier prepared (Store word value ∷ Barrier ∷ CallEnd ∷ []) tail)
 
 -- a replay of a front of a log is a replay of the log
 pub replay_of_front : (base : List ℕ) (front rest : List Event) (image : List ℕ) → IsReplay base front image → IsReplay base (front ++ rest) image

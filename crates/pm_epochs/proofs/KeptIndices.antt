@@ -5,7 +5,7 @@ use Rattle.std.specs.List.{range_with_len}
 use Rattle.std.proofs.lemmas.List.{length-take, get_or-take, take-take}
 use Rattle.std.proofs.Math.Dec.{leb-suc-zero, leb-suc-suc, leb-zero, eqb-suc-zero, eqb-suc-suc}
 use Rattle.pm_epochs.specs.declared.event.Event.{Event}
-use Rattle.pm_epochs.specs.declared.event.Event.TheVariants.{Store, Barrier, Mark}
+use Rattle.pm_epochs.specs.declared.event.Event.TheVariants.{Store, Barrier, CallEnd}
 use Rattle.pm_epochs.specs.Log.{epoch_stores}
 use Rattle.pm_epochs.specs.Replay.{PowerCut, stores_of, kept_stores, is_store_at, epoch_of, place_in_epoch, is_back, is_kept, kept_indices, events_at}
 
@@ -72,9 +72,9 @@ behind_early_store cut_epoch mask (suc epoch) events word value = refl
 behind_barrier : (cut_epoch : ℕ) (mask : List Bool) (epoch place : ℕ) → is_back (suc cut_epoch) mask (suc epoch) place ≡ is_back cut_epoch mask epoch place
 behind_barrier cut_epoch mask epoch place = rw (leb-suc-suc, eqb-suc-suc) refl
 
-behind_mark : (cut_epoch : ℕ) (mask : List Bool) (epoch : ℕ) (events : List Event) → is_back cut_epoch mask epoch (epoch_stores epoch (Mark ∷ events)) ≡ is_back cut_epoch mask epoch (epoch_stores epoch events)
-behind_mark cut_epoch mask zero events = refl
-behind_mark cut_epoch mask (suc epoch) events = refl
+behind_call_end : (cut_epoch : ℕ) (mask : List Bool) (epoch : ℕ) (events : List Event) → is_back cut_epoch mask epoch (epoch_stores epoch (CallEnd ∷ events)) ≡ is_back cut_epoch mask epoch (epoch_stores epoch events)
+behind_call_end cut_epoch mask zero events = refl
+behind_call_end cut_epoch mask (suc epoch) events = refl
 
 none_past : (mask : List Bool) (epoch place : ℕ) → is_back 0 mask (suc epoch) place ≡ false
 none_past mask epoch place = rw (leb-suc-zero, eqb-suc-zero) refl
@@ -126,9 +126,9 @@ stores_picked zero mask (Barrier ∷ events) = sym (picked-none (is_stored 0 mas
 stores_picked (suc epoch) mask (Barrier ∷ events) =
     stores_picked epoch mask events
     ∙ picked_behind (suc epoch) epoch mask mask Barrier events (λ i. behind_barrier epoch mask (epoch_of events i) (place_in_epoch events i))
-stores_picked epoch mask (Mark ∷ events) =
+stores_picked epoch mask (CallEnd ∷ events) =
     stores_picked epoch mask events
-    ∙ picked_behind epoch epoch mask mask Mark events (λ i. behind_mark epoch mask (epoch_of events i) (take i events))
+    ∙ picked_behind epoch epoch mask mask CallEnd events (λ i. behind_call_end epoch mask (epoch_of events i) (take i events))
 
 -- a front has the tests of the whole log
 stored_in_front : (epoch : ℕ) (mask : List Bool) (moment : ℕ) (events : List Event) (i : ℕ) → i < length (take moment events) → is_stored epoch mask (take moment events) i ≡ is_stored epoch mask events i
@@ -136,7 +136,7 @@ unfolding is_stored
 stored_in_front epoch mask moment events i low =
     let short : i < moment = omega (arith, length-take moment events) in
     let before : take i (take moment events) ≡ take i events = take-take i moment events (omega arith) in
-    rw (before, get_or-take moment events i Mark short) refl
+    rw (before, get_or-take moment events i CallEnd short) refl
 
 none_more : (i : ℕ) → 0 + i ≡ i
 none_more i = omega arith

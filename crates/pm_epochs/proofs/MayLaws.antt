@@ -3,7 +3,7 @@ use Rattle.std.proofs.Common.{◌≡◌, ℕ, zero, suc, ◌<◌, ◌≤◌, ◌
 use Rattle.std.proofs.lemmas.List.{length-set, set_past}
 use Rattle.std.proofs.lemmas.Bool.{cases_eq, cases_lt}
 use Rattle.pm_epochs.specs.declared.event.Event.{Event}
-use Rattle.pm_epochs.specs.declared.event.Event.TheVariants.{Store, Barrier, Mark}
+use Rattle.pm_epochs.specs.declared.event.Event.TheVariants.{Store, Barrier, CallEnd}
 use Rattle.pm_epochs.specs.Log.{words_after}
 use Rattle.pm_epochs.specs.Replay.{stores_of}
 use Rattle.pm_epochs.specs.Crash.{Likeness, IsPartialEquivalence, IsQuiet}
@@ -16,21 +16,21 @@ pub StoresMay-weaker : (May Other : ℕ → ℕ → Type 0) → ((word value : �
 StoresMay-weaker May Other weaker [] may = tt
 StoresMay-weaker May Other weaker (Store word value ∷ events) may = (weaker word value may.0, StoresMay-weaker May Other weaker events may.1)
 StoresMay-weaker May Other weaker (Barrier ∷ events) may = StoresMay-weaker May Other weaker events may
-StoresMay-weaker May Other weaker (Mark ∷ events) may = StoresMay-weaker May Other weaker events may
+StoresMay-weaker May Other weaker (CallEnd ∷ events) may = StoresMay-weaker May Other weaker events may
 
 module _ (May : ℕ → ℕ → Type 0) where
   pub StoresMay-append : (first rest : List Event) → StoresMay May first → StoresMay May rest → StoresMay May (first ++ rest)
   StoresMay-append [] rest may more = more
   StoresMay-append (Store word value ∷ first) rest may more = (may.0, StoresMay-append first rest may.1 more)
   StoresMay-append (Barrier ∷ first) rest may more = StoresMay-append first rest may more
-  StoresMay-append (Mark ∷ first) rest may more = StoresMay-append first rest may more
+  StoresMay-append (CallEnd ∷ first) rest may more = StoresMay-append first rest may more
 
   pub StoresMay-take : (count : ℕ) (events : List Event) → StoresMay May events → StoresMay May (take count events)
   StoresMay-take zero events may = tt
   StoresMay-take (suc count) [] may = tt
   StoresMay-take (suc count) (Store word value ∷ events) may = (may.0, StoresMay-take count events may.1)
   StoresMay-take (suc count) (Barrier ∷ events) may = StoresMay-take count events may
-  StoresMay-take (suc count) (Mark ∷ events) may = StoresMay-take count events may
+  StoresMay-take (suc count) (CallEnd ∷ events) may = StoresMay-take count events may
 
   -- what a crash keeps of them is of them
   pub StoresMay-stores_of : (events : List Event) (epoch : ℕ) (mask : List Bool) → StoresMay May events → StoresMay May (stores_of epoch mask events)
@@ -41,7 +41,7 @@ module _ (May : ℕ → ℕ → Type 0) where
   StoresMay-stores_of (Store word value ∷ events) (suc epoch) mask may = (may.0, StoresMay-stores_of events (suc epoch) mask may.1)
   StoresMay-stores_of (Barrier ∷ events) zero mask may = tt
   StoresMay-stores_of (Barrier ∷ events) (suc epoch) mask may = StoresMay-stores_of events epoch mask may
-  StoresMay-stores_of (Mark ∷ events) epoch mask may = StoresMay-stores_of events epoch mask may
+  StoresMay-stores_of (CallEnd ∷ events) epoch mask may = StoresMay-stores_of events epoch mask may
 
   pub EachMay-none : (words : List ℕ) → EachMay May words words
   EachMay-none words = record { size = refl; each = λ word. inl refl }
@@ -64,7 +64,7 @@ module _ (May : ℕ → ℕ → Type 0) where
   EachMay-words_after old new [] may all = all
   EachMay-words_after old new (Store word value ∷ events) may all = EachMay-words_after old (set new word value) events may.1 (EachMay-set old new word value may.0 all)
   EachMay-words_after old new (Barrier ∷ events) may all = EachMay-words_after old new events may all
-  EachMay-words_after old new (Mark ∷ events) may all = EachMay-words_after old new events may all
+  EachMay-words_after old new (CallEnd ∷ events) may all = EachMay-words_after old new events may all
 
   pub EachMay-stored : (words : List ℕ) (events : List Event) → StoresMay May events → EachMay May words (words_after words events)
   EachMay-stored words events may = EachMay-words_after words words events may (EachMay-none words)

@@ -2,7 +2,7 @@
 -- tree".
 use Rattle.std.specs.Prelude.{ℕ, List, [], ◌∷◌, ◌++◌}
 use Rattle.pm_epochs.specs.declared.event.Event.{Event}
-use Rattle.pm_epochs.specs.declared.event.Event.TheVariants.{Store, Barrier, Mark}
+use Rattle.pm_epochs.specs.declared.event.Event.TheVariants.{Store, Barrier, CallEnd}
 use Rattle.pm_epochs.specs.Log.{words_after}
 use Rattle.pm_epochs.specs.Replay.{PowerCut, IsRight, replay, kept_calls, after_calls}
 
@@ -53,4 +53,4 @@ abbrev pub CommitsRight : Likeness → List ℕ → List Event → ℕ → ℕ �
 CommitsRight Same base prepared word value =
     IsQuiet Same base prepared →
     Same (words_after base (prepared ++ commit word value)) (words_after base (prepared ++ commit word value)) →
-    CrashRight Same base (prepared ++ commit word value ++ Mark ∷ [])
+    CrashRight Same base (prepared ++ commit word value ++ CallEnd ∷ [])

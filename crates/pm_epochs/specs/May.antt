@@ -1,7 +1,7 @@
 -- Stores of values that are allowed at their words, and stores of which a crash may keep any subset.
 use Rattle.std.specs.Prelude.{◌≡◌, ◌⊎◌, ℕ, Bool, IsTrue, List, [], ◌∷◌, length, slice_index, slice_set}
 use Rattle.pm_epochs.specs.declared.event.Event.{Event}
-use Rattle.pm_epochs.specs.declared.event.Event.TheVariants.{Store, Barrier, Mark}
+use Rattle.pm_epochs.specs.declared.event.Event.TheVariants.{Store, Barrier, CallEnd}
 use Rattle.pm_epochs.specs.Crash.{IsQuiet, Likeness}
 
 -- Each store of the log writes a value that is allowed at its word.
@@ -9,7 +9,7 @@ abbrev pub StoresMay : (ℕ → ℕ → Type 0) → List Event → Type 0
 StoresMay May [] = Unit {0}
 StoresMay May (Store word value ∷ events) = May word value × StoresMay May events
 StoresMay May (Barrier ∷ events) = StoresMay May events
-StoresMay May (Mark ∷ events) = StoresMay May events
+StoresMay May (CallEnd ∷ events) = StoresMay May events
 
 -- Any value is allowed at these words.
 abbrev pub AnyAt : (ℕ → Type 0) → ℕ → ℕ → Type 0

@@ -11,7 +11,7 @@ pub enum Event {
     /// Each store before the barrier reaches memory before any store after it.
     Barrier,
     /// The end-of-call marker. It does nothing to memory.
-    Mark,
+    CallEnd,
 }
 
 /// The kind of an event: all of it except the value that a store brings.
@@ -22,7 +22,7 @@ pub enum EventKind {
     /// A barrier.
     Barrier,
     /// An end-of-call marker.
-    Mark,
+    CallEnd,
 }
 
 impl Event {
@@ -34,7 +34,7 @@ impl Event {
         match self {
             Event::Store { word, .. } => EventKind::Store(word),
             Event::Barrier => EventKind::Barrier,
-            Event::Mark => EventKind::Mark,
+            Event::CallEnd => EventKind::CallEnd,
         }
     }
 }

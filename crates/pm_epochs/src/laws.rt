@@ -6,8 +6,8 @@
 
 ghost use Rattle.std.specs.Prelude.{◌≡◌, ℕ, Bool, List, [], ◌∷◌, ◌++◌};
 ghost use Rattle.pm_epochs.specs.declared.event.Event.{Event};
-ghost use Rattle.pm_epochs.specs.declared.event.Event.TheVariants.{Barrier, Mark};
-ghost use Rattle.pm_epochs.specs.Log.{marks, IsClosed};
+ghost use Rattle.pm_epochs.specs.declared.event.Event.TheVariants.{Barrier, CallEnd};
+ghost use Rattle.pm_epochs.specs.Log.{call_ends, IsClosed};
 ghost use Rattle.pm_epochs.specs.Replay.{PowerCut, IsRight, IsReplay, SplitsReplays, kept_calls, kept_stores, kept_indices, events_at, IsGreatestKept};
 ghost use Rattle.pm_epochs.specs.Crash.{CommitsRight, CrashRight, IsQuiet, IsQuietIfSame, StaysQuiet, StaysRight, commit};
 ghost use Rattle.pm_epochs.specs.May.{AnyOf, IsQuietByTest, links_of};
@@ -73,14 +73,14 @@ pub fn right_logs_in_a_row<L: Likeness>()
 
 /// States that a call that prepares quietly and then commits by one store alone in its epoch is right and closed.
 pub fn committed_call<L: Likeness>()
-    ensures right { (base : List ℕ) (prepared : List Event) (word value : ℕ) → marks prepared ≡ 0 →
+    ensures right { (base : List ℕ) (prepared : List Event) (word value : ℕ) → call_ends prepared ≡ 0 →
         CommitsRight L.same base prepared word value }
-    ensures closed { (prepared : List Event) (word value : ℕ) → IsClosed (prepared ++ commit word value ++ Mark ∷ []) }
+    ensures closed { (prepared : List Event) (word value : ℕ) → IsClosed (prepared ++ commit word value ++ CallEnd ∷ []) }
 {}
 
 /// States that a call without a store is right, and that the empty log is.
 pub fn call_without_store<L: Likeness>()
-    ensures mark { (base : List ℕ) → L.same base base → CrashRight L.same base (Mark ∷ []) }
+    ensures end_call { (base : List ℕ) → L.same base base → CrashRight L.same base (CallEnd ∷ []) }
     ensures nothing { (base : List ℕ) → L.same base base → CrashRight L.same base [] }
 {}
 

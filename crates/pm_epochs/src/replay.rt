@@ -2,9 +2,9 @@
 
 ghost use Rattle.std.specs.Prelude.{◌≡◌, ◌+◌, ◌-◌, ◌<◌, ◌≤◌, ◌↔◌, if◌then◌else◌, [], ◌∷◌, ◌++◌, IsOk, IfOk};
 ghost use Rattle.std.specs.Prelude.{MatchOption, List};
-ghost use Rattle.pm_epochs.specs.Log.{word_after, barriers, marks, epoch_stores};
+ghost use Rattle.pm_epochs.specs.Log.{word_after, barriers, call_ends, epoch_stores};
 ghost use Rattle.pm_epochs.specs.Keeping.{calls_by, calls_from, kept_by};
-ghost use Rattle.pm_epochs.specs.Replay.{IsRight, LeavesWord, stores_of, marks_of, kept_calls as kept_calls_of};
+ghost use Rattle.pm_epochs.specs.Replay.{IsRight, LeavesWord, stores_of, call_ends_of, kept_calls as kept_calls_of};
 
 use super::choice::{BadChoice, Choice};
 use super::event::Event;
@@ -34,7 +34,7 @@ impl Keeper<'_> {
     pub fn keeps(&mut self, event: Event) -> bool
         ensures stores { (rest : List Event) → kept_by self.old (event ∷ rest) ≡
             (if result then event ∷ [] else []) ++ kept_by self.new rest }
-        ensures marks { (rest : List Event) →
+        ensures call_ends { (rest : List Event) →
             calls_by self.old (event ∷ rest) ≡ calls_from event result (calls_by self.new rest) }
         ensures epoch { self.new.epoch ≡ self.old.epoch - barriers (event ∷ []) }
     {
@@ -59,7 +59,7 @@ impl Keeper<'_> {
                 }
                 false
             }
-            Event::Mark => false,
+            Event::CallEnd => false,
         }
     }
 }
@@ -84,7 +84,7 @@ fn epoch_len(events: &[Event], epoch: usize) -> Option<usize>
                 }
                 left -= 1;
             }
-            Event::Mark => {}
+            Event::CallEnd => {}
         }
     }
     if left == 0 { Some(count) } else { None }
@@ -110,7 +110,7 @@ fn word_of(base: u64, events: &[Event], epoch: usize, mask: &[bool], word: u64) 
 
 /// Returns the number of end-of-call markers before the first lost store.
 fn calls_of(events: &[Event], epoch: usize, mask: &[bool]) -> usize
-    ensures { result ≡ marks_of epoch mask.now events.now }
+    ensures { result ≡ call_ends_of epoch mask.now events.now }
 {
     let mut keeper = Keeper { epoch, mask };
     let mut calls = 0;
@@ -123,18 +123,18 @@ fn calls_of(events: &[Event], epoch: usize, mask: &[bool]) -> usize
                 }
             }
             Event::Barrier => {}
-            Event::Mark => calls += 1,
+            Event::CallEnd => calls += 1,
         }
     }
     calls
 }
 
-fn mark_count(events: &[Event]) -> usize
-    ensures { result ≡ marks events.now }
+fn call_end_count(events: &[Event]) -> usize
+    ensures { result ≡ call_ends events.now }
 {
     let mut count = 0;
     for event in events {
-        if let Event::Mark = event {
+        if let Event::CallEnd = event {
             count += 1;
         }
     }
@@ -190,11 +190,11 @@ pub fn replay_word(
 pub fn kept_calls(events: &[Event], choice: &Choice) -> Result<Kept, BadChoice>
     ensures right { IsOk result ↔ IsRight events.now choice.now.cut }
     ensures kept { IfOk result (λ kept. kept.c ≡ kept_calls_of events.now choice.now.cut) }
-    ensures of { IfOk result (λ kept. kept.n ≡ marks events.now) }
+    ensures of { IfOk result (λ kept. kept.n ≡ call_ends events.now) }
 {
     check_choice(events, choice)?;
     Ok(Kept {
         c: calls_of(events, choice.epoch(), choice.mask()),
-        n: mark_count(events),
+        n: call_end_count(events),
     })
 }

@@ -2,11 +2,11 @@
 use Rattle.std.proofs.Common.{◌≡◌, ℕ, zero, suc, ◌+◌, Bool, true, false, List, [], ◌∷◌, length, take, drop, get_or, Some, refl, sym, ◌∙◌, ap, arith, subst}
 use Rattle.std.specs.Prelude.{◌↔◌, option_map, slice_get}
 use Rattle.pm_epochs.specs.declared.event.Event.{Event}
-use Rattle.pm_epochs.specs.declared.event.Event.TheVariants.{Store, Barrier, Mark}
+use Rattle.pm_epochs.specs.declared.event.Event.TheVariants.{Store, Barrier, CallEnd}
 use Rattle.pm_epochs.specs.declared.event.EventKind.{EventKind}
 use Rattle.pm_epochs.specs.Kind.{event_kind, event_of, event_value, value_at}
-use Rattle.pm_epochs.specs.Log.{barriers, epoch_stores, marks}
-use Rattle.pm_epochs.specs.Replay.{IsRight, PowerCut, marks_of}
+use Rattle.pm_epochs.specs.Log.{barriers, epoch_stores, call_ends}
+use Rattle.pm_epochs.specs.Replay.{IsRight, PowerCut, call_ends_of}
 use Rattle.pm_region.specs.Epochs.{epoch_start}
 use Rattle.pm_region.specs.Memory.{AreInRow, AreWithin, Follows}
 use Rattle.pm_region.proofs.KindLaws.{kind_get}
@@ -16,13 +16,13 @@ pub erased-events : (now : List ℕ) (undos : List Event) → erased (events_fro
 erased-events now [] = refl
 erased-events now (Store word saved ∷ undos) = ap (λ es. Store word 0 ∷ es) (erased-events now undos)
 erased-events now (Barrier ∷ undos) = ap (λ es. Barrier ∷ es) (erased-events now undos)
-erased-events now (Mark ∷ undos) = ap (λ es. Mark ∷ es) (erased-events now undos)
+erased-events now (CallEnd ∷ undos) = ap (λ es. CallEnd ∷ es) (erased-events now undos)
 
 pub erased-undo : (words : List ℕ) (events : List Event) → erased (undo_of words events) ≡ erased events
 erased-undo words [] = refl
 erased-undo words (Store word value ∷ events) = ap (λ es. Store word 0 ∷ es) (erased-undo _ events)
 erased-undo words (Barrier ∷ events) = ap (λ es. Barrier ∷ es) (erased-undo words events)
-erased-undo words (Mark ∷ events) = ap (λ es. Mark ∷ es) (erased-undo words events)
+erased-undo words (CallEnd ∷ events) = ap (λ es. CallEnd ∷ es) (erased-undo words events)
 
 -- ## What depends on the kinds of the events alone
 
@@ -34,20 +34,20 @@ barriers-erased : (events : List Event) → barriers (erased events) ≡ barrier
 barriers-erased [] = refl
 barriers-erased (Store word value ∷ events) = barriers-erased events
 barriers-erased (Barrier ∷ events) = ap suc (barriers-erased events)
-barriers-erased (Mark ∷ events) = barriers-erased events
+barriers-erased (CallEnd ∷ events) = barriers-erased events
 
-marks-erased : (events : List Event) → marks (erased events) ≡ marks events
-marks-erased [] = refl
-marks-erased (Store word value ∷ events) = marks-erased events
-marks-erased (Barrier ∷ events) = marks-erased events
-marks-erased (Mark ∷ events) = ap suc (marks-erased events)
+call_ends-erased : (events : List Event) → call_ends (erased events) ≡ call_ends events
+call_ends-erased [] = refl
+call_ends-erased (Store word value ∷ events) = call_ends-erased events
+call_ends-erased (Barrier ∷ events) = call_ends-erased events
+call_ends-erased (CallEnd ∷ events) = ap suc (call_ends-erased events)
 
 start-erased : (epoch : ℕ) (events : List Event) → epoch_start epoch (erased events) ≡ epoch_start epoch events
 start-erased zero events = refl
 start-erased (suc epoch) [] = refl
 start-erased (suc epoch) (Store word value ∷ events) = ap suc (start-erased (suc epoch) events)
 start-erased (suc epoch) (Barrier ∷ events) = ap suc (start-erased epoch events)
-start-erased (suc epoch) (Mark ∷ events) = ap suc (start-erased (suc epoch) events)
+start-erased (suc epoch) (CallEnd ∷ events) = ap suc (start-erased (suc epoch) events)
 
 stores-erased : (epoch : ℕ) (events : List Event) → epoch_stores epoch (erased events) ≡ epoch_stores epoch events
 stores-erased epoch [] = refl
@@ -55,10 +55,10 @@ stores-erased zero (Store word value ∷ events) = ap suc (stores-erased zero ev
 stores-erased (suc epoch) (Store word value ∷ events) = stores-erased (suc epoch) events
 stores-erased zero (Barrier ∷ events) = refl
 stores-erased (suc epoch) (Barrier ∷ events) = stores-erased epoch events
-stores-erased zero (Mark ∷ events) = stores-erased zero events
-stores-erased (suc epoch) (Mark ∷ events) = stores-erased (suc epoch) events
+stores-erased zero (CallEnd ∷ events) = stores-erased zero events
+stores-erased (suc epoch) (CallEnd ∷ events) = stores-erased (suc epoch) events
 
-calls-erased : (epoch : ℕ) (mask : List Bool) (events : List Event) → marks_of epoch mask (erased events) ≡ marks_of epoch mask events
+calls-erased : (epoch : ℕ) (mask : List Bool) (events : List Event) → call_ends_of epoch mask (erased events) ≡ call_ends_of epoch mask events
 calls-erased zero mask [] = refl
 calls-erased (suc epoch) mask [] = refl
 calls-erased zero [] (Store word value ∷ events) = refl
@@ -69,16 +69,16 @@ calls-erased zero [] (Barrier ∷ events) = calls-erased zero [] events
 calls-erased zero (true ∷ mask) (Barrier ∷ events) = calls-erased zero [] events
 calls-erased zero (false ∷ mask) (Barrier ∷ events) = calls-erased zero [] events
 calls-erased (suc epoch) mask (Barrier ∷ events) = calls-erased epoch mask events
-calls-erased zero [] (Mark ∷ events) = ap suc (calls-erased zero [] events)
-calls-erased zero (true ∷ mask) (Mark ∷ events) = ap suc (calls-erased zero (true ∷ mask) events)
-calls-erased zero (false ∷ mask) (Mark ∷ events) = ap suc (calls-erased zero (false ∷ mask) events)
-calls-erased (suc epoch) mask (Mark ∷ events) = ap suc (calls-erased (suc epoch) mask events)
+calls-erased zero [] (CallEnd ∷ events) = ap suc (calls-erased zero [] events)
+calls-erased zero (true ∷ mask) (CallEnd ∷ events) = ap suc (calls-erased zero (true ∷ mask) events)
+calls-erased zero (false ∷ mask) (CallEnd ∷ events) = ap suc (calls-erased zero (false ∷ mask) events)
+calls-erased (suc epoch) mask (CallEnd ∷ events) = ap suc (calls-erased (suc epoch) mask events)
 
 kind-erased : (i : ℕ) (events : List Event) → option_map event_kind (slice_get (erased events) i) ≡ option_map event_kind (slice_get events i)
 kind-erased i [] = refl
 kind-erased zero (Store word value ∷ events) = refl
 kind-erased zero (Barrier ∷ events) = refl
-kind-erased zero (Mark ∷ events) = refl
+kind-erased zero (CallEnd ∷ events) = refl
 kind-erased (suc i) (event ∷ events) = kind-erased i events
 
 take-erased : (n : ℕ) (events : List Event) → erased (take n events) ≡ take n (erased events)
@@ -98,8 +98,8 @@ module _ (events others : List Event) (same : erased events ≡ erased others) w
   pub barriers-kinds : barriers events ≡ barriers others
   barriers-kinds = by-kinds barriers barriers-erased
 
-  pub marks-kinds : marks events ≡ marks others
-  marks-kinds = by-kinds marks marks-erased
+  pub call_ends-kinds : call_ends events ≡ call_ends others
+  call_ends-kinds = by-kinds call_ends call_ends-erased
 
   pub start-kinds : (epoch : ℕ) → epoch_start epoch events ≡ epoch_start epoch others
   start-kinds epoch = by-kinds (epoch_start epoch) (start-erased epoch)
@@ -107,8 +107,8 @@ module _ (events others : List Event) (same : erased events ≡ erased others) w
   pub stores-kinds : (epoch : ℕ) → epoch_stores epoch events ≡ epoch_stores epoch others
   stores-kinds epoch = by-kinds (epoch_stores epoch) (stores-erased epoch)
 
-  pub calls-kinds : (epoch : ℕ) (mask : List Bool) → marks_of epoch mask events ≡ marks_of epoch mask others
-  calls-kinds epoch mask = by-kinds (marks_of epoch mask) (calls-erased epoch mask)
+  pub calls-kinds : (epoch : ℕ) (mask : List Bool) → call_ends_of epoch mask events ≡ call_ends_of epoch mask others
+  calls-kinds epoch mask = by-kinds (call_ends_of epoch mask) (calls-erased epoch mask)
 
   pub kind-kinds : (i : ℕ) → option_map event_kind (slice_get events i) ≡ option_map event_kind (slice_get others i)
   kind-kinds i = by-kinds (λ es. option_map event_kind (slice_get es i)) (kind-erased i)
@@ -136,13 +136,13 @@ within-erased : (count : ℕ) (events : List Event) → AreWithin count events �
 within-erased count [] within = tt
 within-erased count (Store word value ∷ events) within = (within.0, within-erased count events within.1)
 within-erased count (Barrier ∷ events) within = within-erased count events within
-within-erased count (Mark ∷ events) within = within-erased count events within
+within-erased count (CallEnd ∷ events) within = within-erased count events within
 
 within-told : (count : ℕ) (events : List Event) → AreWithin count (erased events) → AreWithin count events
 within-told count [] within = tt
 within-told count (Store word value ∷ events) within = (within.0, within-told count events within.1)
 within-told count (Barrier ∷ events) within = within-told count events within
-within-told count (Mark ∷ events) within = within-told count events within
+within-told count (CallEnd ∷ events) within = within-told count events within
 
 pub within-kinds : (count : ℕ) (events others : List Event) → erased events ≡ erased others → AreWithin count events → AreWithin count others
 within-kinds count events others same within = within-told count others (subst (AreWithin count) same (within-erased count events within))
@@ -150,16 +150,16 @@ within-kinds count events others same within = within-told count others (subst (
 follows-erased : (event next : Event) → Follows event next → Follows (erased_event event) (erased_event next)
 follows-erased (Store word value) (Store place other) follows = follows
 follows-erased (Store word value) Barrier follows = follows
-follows-erased (Store word value) Mark follows = follows
+follows-erased (Store word value) CallEnd follows = follows
 follows-erased Barrier next follows = follows
-follows-erased Mark next follows = follows
+follows-erased CallEnd next follows = follows
 
 follows-told : (event next : Event) → Follows (erased_event event) (erased_event next) → Follows event next
 follows-told (Store word value) (Store place other) follows = follows
 follows-told (Store word value) Barrier follows = follows
-follows-told (Store word value) Mark follows = follows
+follows-told (Store word value) CallEnd follows = follows
 follows-told Barrier next follows = follows
-follows-told Mark next follows = follows
+follows-told CallEnd next follows = follows
 
 follows-kinds : (event next other after : Event) → erased_event event ≡ erased_event other → erased_event next ≡ erased_event after → Follows event next → Follows other after
 follows-kinds event next other after event_is next_is follows =
@@ -172,7 +172,7 @@ at-kinds [] (next ∷ others) same i other here = let no : 0 ≡ suc (length (er
 at-kinds (event ∷ events) [] same i other here = let no : suc (length (erased events)) ≡ 0 = ap length same in absurd (omega (arith, no))
 at-kinds (event ∷ events) (next ∷ others) same zero other here =
     let is : next ≡ other = cc in
-    (event, (refl, ap (λ es. get_or es 0 Mark) same ∙ ap erased_event is))
+    (event, (refl, ap (λ es. get_or es 0 CallEnd) same ∙ ap erased_event is))
 at-kinds (event ∷ events) (next ∷ others) same (suc i) other here = at-kinds events others (ap (drop 1) same) i other here
 
 pub row-kinds : (events others : List Event) (first count : ℕ) → erased events ≡ erased others → AreInRow events first count → AreInRow others first count
@@ -190,7 +190,7 @@ kind-of (event ∷ events) (suc i) kind is = kind-of events i kind is
 whole : (event : Event) → event ≡ event_of (event_kind event) (event_value event)
 whole (Store word value) = refl
 whole Barrier = refl
-whole Mark = refl
+whole CallEnd = refl
 
 pub kind-told : (events : List Event) (i : ℕ) (kind : EventKind) → option_map event_kind (slice_get events i) ≡ Some kind → slice_get events i ≡ Some (event_of kind (value_at events i))
 kind-told events i kind is =

@@ -3,10 +3,10 @@ use Rattle.std.proofs.Common.{◌≡◌, ℕ, zero, suc, ◌+◌, ◌<◌, ◌�
 use Rattle.std.proofs.lemmas.Bool.Decides.{leb_tells}
 use Rattle.std.proofs.lemmas.List.{drop_all, drop_more, length-append, length-drop}
 use Rattle.pm_epochs.specs.declared.event.Event.{Event}
-use Rattle.pm_epochs.specs.declared.event.Event.TheVariants.{Store, Barrier, Mark}
+use Rattle.pm_epochs.specs.declared.event.Event.TheVariants.{Store, Barrier, CallEnd}
 use Rattle.pm_epochs.specs.Log.{epoch_stores, words_after}
 use Rattle.pm_epochs.proofs.CrashLaws.{words_after-append}
-use Rattle.pm_epochs.specs.Replay.{marks_of, stores_of}
+use Rattle.pm_epochs.specs.Replay.{call_ends_of, stores_of}
 use Rattle.pm_region.specs.Memory.{stores_from}
 use Rattle.pm_region.proofs.MemoryLaws.{length-stores_from}
 use Rattle.pm_raw.specs.Pieces.{all_kept, keeps}
@@ -35,24 +35,24 @@ keeps-fits (suc n) [] kept = absurd (true≢false (sym kept))
 keeps-fits (suc n) (true ∷ mask) kept = let rest = keeps-fits n mask kept in omega arith
 keeps-fits (suc n) (false ∷ mask) kept = absurd (true≢false (sym kept))
 
-marks_of-kept : (mask : List Bool) (word : ℕ) (values : List ℕ) (rest : List Event) → keeps (length values) mask ≡ true → marks_of 0 mask (stores_from word values ++ rest) ≡ marks_of 0 (drop (length values) mask) rest
-marks_of-kept mask word [] rest all = refl
-marks_of-kept [] word (value ∷ values) rest all = absurd (true≢false (sym all))
-marks_of-kept (true ∷ mask) word (value ∷ values) rest all = marks_of-kept mask (word + 1) values rest all
-marks_of-kept (false ∷ mask) word (value ∷ values) rest all = absurd (true≢false (sym all))
+call_ends_of-kept : (mask : List Bool) (word : ℕ) (values : List ℕ) (rest : List Event) → keeps (length values) mask ≡ true → call_ends_of 0 mask (stores_from word values ++ rest) ≡ call_ends_of 0 (drop (length values) mask) rest
+call_ends_of-kept mask word [] rest all = refl
+call_ends_of-kept [] word (value ∷ values) rest all = absurd (true≢false (sym all))
+call_ends_of-kept (true ∷ mask) word (value ∷ values) rest all = call_ends_of-kept mask (word + 1) values rest all
+call_ends_of-kept (false ∷ mask) word (value ∷ values) rest all = absurd (true≢false (sym all))
 
-marks_of-lost : (mask : List Bool) (word : ℕ) (values : List ℕ) (rest : List Event) → keeps (length values) mask ≡ false → marks_of 0 mask (stores_from word values ++ rest) ≡ 0
-marks_of-lost mask word [] rest lost = absurd (true≢false lost)
-marks_of-lost [] word (value ∷ values) rest lost = refl
-marks_of-lost (true ∷ mask) word (value ∷ values) rest lost = marks_of-lost mask (word + 1) values rest lost
-marks_of-lost (false ∷ mask) word (value ∷ values) rest lost = refl
+call_ends_of-lost : (mask : List Bool) (word : ℕ) (values : List ℕ) (rest : List Event) → keeps (length values) mask ≡ false → call_ends_of 0 mask (stores_from word values ++ rest) ≡ 0
+call_ends_of-lost mask word [] rest lost = absurd (true≢false lost)
+call_ends_of-lost [] word (value ∷ values) rest lost = refl
+call_ends_of-lost (true ∷ mask) word (value ∷ values) rest lost = call_ends_of-lost mask (word + 1) values rest lost
+call_ends_of-lost (false ∷ mask) word (value ∷ values) rest lost = refl
 
 -- a mask that has ended keeps none
 pub stores_of-none : (events : List Event) → stores_of 0 [] events ≡ []
 stores_of-none [] = refl
 stores_of-none (Store word value ∷ events) = refl
 stores_of-none (Barrier ∷ events) = refl
-stores_of-none (Mark ∷ events) = stores_of-none events
+stores_of-none (CallEnd ∷ events) = stores_of-none events
 
 pub stores_of-run : (mask : List Bool) (word : ℕ) (values : List ℕ) (rest : List Event) → stores_of 0 mask (stores_from word values ++ rest) ≡ stores_of 0 mask (stores_from word values) ++ stores_of 0 (drop (length values) mask) rest
 stores_of-run mask word [] rest = refl
@@ -68,11 +68,11 @@ module _ (events rest : List Event) (word : ℕ) (values : List ℕ) (are : even
   pub run-counted : epoch_stores 0 events ≡ length values + epoch_stores 0 rest
   run-counted = ap (epoch_stores 0) are ∙ epoch_stores-run word values rest
 
-  pub run-kept : (mask left : List Bool) → keeps (length values) mask ≡ true → left ≡ drop (length values) mask → marks_of 0 mask events ≡ marks_of 0 left rest
-  run-kept mask left kept left_is = ap (marks_of 0 mask) are ∙ marks_of-kept mask word values rest kept ∙ ap (λ m. marks_of 0 m rest) (sym left_is)
+  pub run-kept : (mask left : List Bool) → keeps (length values) mask ≡ true → left ≡ drop (length values) mask → call_ends_of 0 mask events ≡ call_ends_of 0 left rest
+  run-kept mask left kept left_is = ap (call_ends_of 0 mask) are ∙ call_ends_of-kept mask word values rest kept ∙ ap (λ m. call_ends_of 0 m rest) (sym left_is)
 
-  pub run-lost : (mask : List Bool) → keeps (length values) mask ≡ false → marks_of 0 mask events ≡ 0
-  run-lost mask lost = ap (marks_of 0 mask) are ∙ marks_of-lost mask word values rest lost
+  pub run-lost : (mask : List Bool) → keeps (length values) mask ≡ false → call_ends_of 0 mask events ≡ 0
+  run-lost mask lost = ap (call_ends_of 0 mask) are ∙ call_ends_of-lost mask word values rest lost
 
   pub run-within : (mask : List Bool) → keeps (length values) mask ≡ true → length values ≤ length mask
   run-within mask kept = keeps-fits (length values) mask kept
@@ -94,18 +94,18 @@ module _ (events rest : List Event) (word : ℕ) (values : List ℕ) (are : even
       ]
 
 -- a log that begins with a signal
-pub marks_of-barrier : (mask : List Bool) (events rest : List Event) → events ≡ Barrier ∷ rest → marks_of 0 mask events ≡ marks_of 0 [] rest
-marks_of-barrier mask events rest are = ap (marks_of 0 mask) are ∙ go mask
+pub call_ends_of-barrier : (mask : List Bool) (events rest : List Event) → events ≡ Barrier ∷ rest → call_ends_of 0 mask events ≡ call_ends_of 0 [] rest
+call_ends_of-barrier mask events rest are = ap (call_ends_of 0 mask) are ∙ go mask
   where
-    go : (mask : List Bool) → marks_of 0 mask (Barrier ∷ rest) ≡ marks_of 0 [] rest
+    go : (mask : List Bool) → call_ends_of 0 mask (Barrier ∷ rest) ≡ call_ends_of 0 [] rest
     go [] = refl
     go (true ∷ mask) = refl
     go (false ∷ mask) = refl
 
-pub marks_of-mark : (mask : List Bool) (events rest : List Event) → events ≡ Mark ∷ rest → marks_of 0 mask events ≡ suc (marks_of 0 mask rest)
-marks_of-mark mask events rest are = ap (marks_of 0 mask) are ∙ go mask
+pub call_ends_of-call_end : (mask : List Bool) (events rest : List Event) → events ≡ CallEnd ∷ rest → call_ends_of 0 mask events ≡ suc (call_ends_of 0 mask rest)
+call_ends_of-call_end mask events rest are = ap (call_ends_of 0 mask) are ∙ go mask
   where
-    go : (mask : List Bool) → marks_of 0 mask (Mark ∷ rest) ≡ suc (marks_of 0 mask rest)
+    go : (mask : List Bool) → call_ends_of 0 mask (CallEnd ∷ rest) ≡ suc (call_ends_of 0 mask rest)
     go [] = refl
     go (true ∷ mask) = refl
     go (false ∷ mask) = refl
@@ -118,10 +118,10 @@ stores_of-barrier words mask events rest are = ap (λ es. words_after words (sto
     go (true ∷ mask) = refl
     go (false ∷ mask) = refl
 
-pub stores_of-mark : (mask : List Bool) (events rest : List Event) → events ≡ Mark ∷ rest → stores_of 0 mask events ≡ stores_of 0 mask rest
-stores_of-mark mask events rest are = ap (stores_of 0 mask) are ∙ go mask
+pub stores_of-call_end : (mask : List Bool) (events rest : List Event) → events ≡ CallEnd ∷ rest → stores_of 0 mask events ≡ stores_of 0 mask rest
+stores_of-call_end mask events rest are = ap (stores_of 0 mask) are ∙ go mask
   where
-    go : (mask : List Bool) → stores_of 0 mask (Mark ∷ rest) ≡ stores_of 0 mask rest
+    go : (mask : List Bool) → stores_of 0 mask (CallEnd ∷ rest) ≡ stores_of 0 mask rest
     go [] = refl
     go (true ∷ mask) = refl
     go (false ∷ mask) = refl

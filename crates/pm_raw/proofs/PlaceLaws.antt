@@ -3,12 +3,12 @@ use Rattle.std.proofs.Common.{◌≡◌, ℕ, zero, suc, ◌+◌, ◌<◌, ◌�
 use Rattle.std.proofs.lemmas.Bool.Decides.{nat_tests}
 use Rattle.std.proofs.lemmas.List.{append-nil}
 use Rattle.pm_epochs.specs.declared.event.Event.{Event}
-use Rattle.pm_epochs.specs.declared.event.Event.TheVariants.{Store, Barrier, Mark}
-use Rattle.pm_epochs.specs.Log.{barriers, marks}
+use Rattle.pm_epochs.specs.declared.event.Event.TheVariants.{Store, Barrier, CallEnd}
+use Rattle.pm_epochs.specs.Log.{barriers, call_ends}
 use Rattle.pm_region.specs.Epochs.{epoch_start}
 use Rattle.pm_region.specs.Memory.{stores_from}
 use Rattle.pm_region.proofs.EpochLaws.{epoch_start-low}
-use Rattle.pm_raw.specs.Places.{Placed, noted, places_where, is_barrier, is_mark, count_below, start_behind}
+use Rattle.pm_raw.specs.Places.{Placed, noted, places_where, is_barrier, is_call_end, count_below, start_behind}
 
 noted-append : (is_one : Bool) (at : ℕ) (places more : List ℕ) → noted is_one at (places ++ more) ≡ noted is_one at places ++ more
 noted-append true at places more = refl
@@ -56,23 +56,23 @@ pub barriers-places : (at : ℕ) (log : List Event) → length (places_where is_
 barriers-places at [] = refl
 barriers-places at (Store word value ∷ log) = barriers-places (suc at) log
 barriers-places at (Barrier ∷ log) = ap suc (barriers-places (suc at) log)
-barriers-places at (Mark ∷ log) = barriers-places (suc at) log
+barriers-places at (CallEnd ∷ log) = barriers-places (suc at) log
 
-pub marks-places : (at : ℕ) (log : List Event) → length (places_where is_mark at log) ≡ marks log
-marks-places at [] = refl
-marks-places at (Store word value ∷ log) = marks-places (suc at) log
-marks-places at (Barrier ∷ log) = marks-places (suc at) log
-marks-places at (Mark ∷ log) = ap suc (marks-places (suc at) log)
+pub call_ends-places : (at : ℕ) (log : List Event) → length (places_where is_call_end at log) ≡ call_ends log
+call_ends-places at [] = refl
+call_ends-places at (Store word value ∷ log) = call_ends-places (suc at) log
+call_ends-places at (Barrier ∷ log) = call_ends-places (suc at) log
+call_ends-places at (CallEnd ∷ log) = ap suc (call_ends-places (suc at) log)
 
 pub barriers-below : (log : List Event) (places : List ℕ) (n : ℕ) → places ≡ places_where is_barrier 0 log → count_below n places ≡ barriers (take n log)
 barriers-below log places n are =
     let from_start : n ≡ 0 + n = omega arith in
     ap (count_below n) are ∙ ap (λ bound. count_below bound (places_where is_barrier 0 log)) from_start ∙ below-front is_barrier 0 n log ∙ barriers-places 0 (take n log)
 
-pub marks-below : (log : List Event) (places : List ℕ) (n : ℕ) → places ≡ places_where is_mark 0 log → count_below n places ≡ marks (take n log)
-marks-below log places n are =
+pub call_ends-below : (log : List Event) (places : List ℕ) (n : ℕ) → places ≡ places_where is_call_end 0 log → count_below n places ≡ call_ends (take n log)
+call_ends-below log places n are =
     let from_start : n ≡ 0 + n = omega arith in
-    ap (count_below n) are ∙ ap (λ bound. count_below bound (places_where is_mark 0 log)) from_start ∙ below-front is_mark 0 n log ∙ marks-places 0 (take n log)
+    ap (count_below n) are ∙ ap (λ bound. count_below bound (places_where is_call_end 0 log)) from_start ∙ below-front is_call_end 0 n log ∙ call_ends-places 0 (take n log)
 
 -- an epoch begins behind the barrier with its number
 start-at : (epoch at : ℕ) (log : List Event) → epoch < barriers log → at + epoch_start (suc epoch) log ≡ suc (get_or (places_where is_barrier at log) epoch 0)
@@ -80,7 +80,7 @@ start-at epoch at [] begun = absurd (omega arith)
 start-at epoch at (Store word value ∷ log) begun = let rest = start-at epoch (suc at) log begun in omega arith
 start-at zero at (Barrier ∷ log) begun = omega arith
 start-at (suc epoch) at (Barrier ∷ log) begun = let rest = start-at epoch (suc at) log (omega arith) in omega arith
-start-at epoch at (Mark ∷ log) begun = let rest = start-at epoch (suc at) log begun in omega arith
+start-at epoch at (CallEnd ∷ log) begun = let rest = start-at epoch (suc at) log begun in omega arith
 
 -- so the places of a log's barriers tell where each of its epochs begins, which is no later than its end
 pub start-places : (epoch : ℕ) (log : List Event) (places : List ℕ) → places ≡ places_where is_barrier 0 log → epoch ≤ barriers log → start_behind places epoch ≡ epoch_start epoch log

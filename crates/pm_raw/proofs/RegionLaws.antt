@@ -11,8 +11,8 @@ use Rattle.pm_region.proofs.MemoryLaws.{with_values-none}
 use Rattle.pm_region.proofs.WithinLaws.{within-append, within-none, within-run, within-same}
 use Rattle.pm_raw.specs.declared.region.RawRegion.TheInside.{Inside}
 use Rattle.pm_raw.specs.Entries.{Entered, events_of}
-use Rattle.pm_raw.specs.Places.{is_barrier, is_mark}
-use Rattle.pm_raw.specs.RawRegion.{IsConsistent, barriers_of, marks_placed, raw_memory, undos_of}
+use Rattle.pm_raw.specs.Places.{is_barrier, is_call_end}
+use Rattle.pm_raw.specs.RawRegion.{IsConsistent, barriers_of, call_ends_placed, raw_memory, undos_of}
 use Rattle.pm_raw.specs.Unwound.{base_from, erased, events_from, undo_of}
 use Rattle.pm_raw.proofs.EntryLaws.{events_of-run, length_events, log-pushed}
 use Rattle.pm_raw.proofs.KindLaws.{erased-events}
@@ -85,14 +85,14 @@ module _ (region next : Inside) (words saved : List ℕ) (step : IsConsistent re
   undos-pushed = log-pushed region.entries.words region.entries.saved _ _ words saved step.counted pushed.words_are pushed.saved_are
 
   -- the next region is consistent, where its barriers and marks are known
-  pub consistent-pushed : next.barriers ≡ barriers_of next → next.marks ≡ marks_placed next → IsConsistent next
-  consistent-pushed barriers marks =
+  pub consistent-pushed : next.barriers ≡ barriers_of next → next.call_ends ≡ call_ends_placed next → IsConsistent next
+  consistent-pushed barriers call_ends =
       let long = ap length pushed.words_are ∙ length-append region.entries.words words in
       let saved_long = ap length pushed.saved_are ∙ length-append region.entries.saved saved in
       let all = within-append (length region.current) (undos_of region) (events_of words saved) step.within pushed.within in
       record {
         barriers = barriers;
-        marks = marks;
+        call_ends = call_ends;
         within = within-same (length region.current) _ (undos_of region ++ events_of words saved) _ (sym pushed.same) (sym undos-pushed) all;
         few = omega (arith, pushed.same, step.few);
         counted = omega (arith, long, saved_long, pushed.each, step.counted);
@@ -109,7 +109,7 @@ pub record IsStored (region next : Inside) (first : ℕ) (run : List ℕ) : Type
   pub saved : next.entries.saved ≡ region.entries.saved ++ take (length run) (drop first region.current)
   pub room : next.entries.room ≡ region.entries.room
   pub barriers : next.barriers ≡ region.barriers
-  pub marks : next.marks ≡ region.marks
+  pub call_ends : next.call_ends ≡ region.call_ends
   pub drains : next.drains ≡ region.drains
 
 module _ (region next : Inside) (first : ℕ) (run : List ℕ) (step : IsConsistent region) (stored : IsStored region next first run) where
@@ -151,8 +151,8 @@ module _ (region next : Inside) (first : ℕ) (run : List ℕ) (step : IsConsist
   consistent-stored = consistent-pushed region next (range_with_len first (length run)) olds step run-pushed
       (stored.barriers ∙ placed-stores is_barrier region.barriers (undos_of region) (undos_of next) first olds region.entries.room next.entries.room
       (λ place value. refl) undos-stored stored.room step.barriers)
-      (stored.marks ∙ placed-stores is_mark region.marks (undos_of region) (undos_of next) first olds region.entries.room next.entries.room
-      (λ place value. refl) undos-stored stored.room step.marks)
+      (stored.call_ends ∙ placed-stores is_call_end region.call_ends (undos_of region) (undos_of next) first olds region.entries.room next.entries.room
+      (λ place value. refl) undos-stored stored.room step.call_ends)
 
   -- and its memory has the run in its log
   pub memory-stored : (memory : Memory) → raw_memory region ≡ memory → raw_memory next ≡ record memory { events = memory.events ++ stores_from first run }
@@ -174,14 +174,14 @@ memory-emptied now entries size room drains none size_is =
 -- a region stays consistent where its log is emptied
 pub consistent-emptied : (region next : Inside) (size : ℕ) → IsConsistent region → length next.current ≡ length region.current
     → next.entries ≡ record { words = []; saved = []; room = size } → size ≡ region.entries.room
-    → next.barriers ≡ record { items = []; room = region.barriers.room } → next.marks ≡ record { items = []; room = region.marks.room }
+    → next.barriers ≡ record { items = []; room = region.barriers.room } → next.call_ends ≡ record { items = []; room = region.call_ends.room }
     → IsConsistent next
-consistent-emptied region next size step same cleared size_is barriers marks =
+consistent-emptied region next size step same cleared size_is barriers call_ends =
     let none = ap (λ (e : Entered). events_of e.words e.saved) cleared in
     let room = ap (λ (e : Entered). e.room) cleared ∙ size_is in
     record {
       barriers = placed-none is_barrier region.barriers next.barriers (undos_of region) (undos_of next) region.entries.room _ none room step.barriers barriers;
-      marks = placed-none is_mark region.marks next.marks (undos_of region) (undos_of next) region.entries.room _ none room step.marks marks;
+      call_ends = placed-none is_call_end region.call_ends next.call_ends (undos_of region) (undos_of next) region.entries.room _ none room step.call_ends call_ends;
       within = within-none (length next.current) (undos_of next) none;
       few = omega (arith, same, step.few);
       counted = ap (λ (e : Entered). length e.saved) cleared ∙ sym (ap (λ (e : Entered). length e.words) cleared);

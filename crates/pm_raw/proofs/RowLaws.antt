@@ -3,7 +3,7 @@ use Rattle.std.proofs.Common.{◌≡◌, ℕ, zero, suc, ◌+◌, ◌-◌, ◌<�
 use Rattle.std.specs.List.{range_with_len}
 use Rattle.std.proofs.lemmas.List.{drop-drop, drop_all, drop_at, drop-take, length-drop, length-take-le, take-append-drop, take-append-le, take-take, take_at}
 use Rattle.pm_epochs.specs.declared.event.Event.{Event}
-use Rattle.pm_epochs.specs.declared.event.Event.TheVariants.{Store, Barrier, Mark}
+use Rattle.pm_epochs.specs.declared.event.Event.TheVariants.{Store, Barrier, CallEnd}
 use Rattle.pm_epochs.proofs.MayLaws.{StoresMay-take}
 use Rattle.pm_region.specs.Memory.{AreWithin, stores_from}
 use Rattle.pm_raw.specs.Entries.{no_word, signal_of, events_of}
@@ -17,7 +17,7 @@ within-drop count zero events within = within
 within-drop count (suc n) [] within = tt
 within-drop count (suc n) (Store word value ∷ events) within = within-drop count n events within.1
 within-drop count (suc n) (Barrier ∷ events) within = within-drop count n events within
-within-drop count (suc n) (Mark ∷ events) within = within-drop count n events within
+within-drop count (suc n) (CallEnd ∷ events) within = within-drop count n events within
 
 within-part : (count from n : ℕ) (events : List Event) → AreWithin count events → AreWithin count (take n (drop from events))
 within-part count from n events within = StoresMay-take (λ word value. word < count) n (drop from events) (within-drop count from events within)

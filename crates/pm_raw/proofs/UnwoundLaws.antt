@@ -3,7 +3,7 @@ use Rattle.std.proofs.Common.{◌≡◌, ℕ, zero, suc, ◌+◌, ◌-◌, ◌<�
 use Rattle.std.proofs.lemmas.Bool.Decides.{eqb_tells}
 use Rattle.std.proofs.lemmas.List.{drop_more, drop-set-lt, get_or-set_same, get_or-set_other, length-set, set-get_or, set-set}
 use Rattle.pm_epochs.specs.declared.event.Event.{Event}
-use Rattle.pm_epochs.specs.declared.event.Event.TheVariants.{Store, Barrier, Mark}
+use Rattle.pm_epochs.specs.declared.event.Event.TheVariants.{Store, Barrier, CallEnd}
 use Rattle.pm_epochs.specs.Log.{words_after}
 use Rattle.pm_region.specs.Memory.{AreWithin, stores_from}
 use Rattle.pm_raw.specs.Entries.{signal_of}
@@ -13,20 +13,20 @@ pub length-base : (now : List ℕ) (undos : List Event) → length (base_from no
 length-base now [] = refl
 length-base now (Store word saved ∷ undos) = length-set (base_from now undos) word saved ∙ length-base now undos
 length-base now (Barrier ∷ undos) = length-base now undos
-length-base now (Mark ∷ undos) = length-base now undos
+length-base now (CallEnd ∷ undos) = length-base now undos
 
 pub length-events : (now : List ℕ) (undos : List Event) → length (events_from now undos) ≡ length undos
 length-events now [] = refl
 length-events now (Store word saved ∷ undos) = ap suc (length-events now undos)
 length-events now (Barrier ∷ undos) = ap suc (length-events now undos)
-length-events now (Mark ∷ undos) = ap suc (length-events now undos)
+length-events now (CallEnd ∷ undos) = ap suc (length-events now undos)
 
 -- the end of a log is undone first
 pub base-append : (now : List ℕ) (first rest : List Event) → base_from now (first ++ rest) ≡ base_from (base_from now rest) first
 base-append now [] rest = refl
 base-append now (Store word saved ∷ first) rest = ap (λ ws. set ws word saved) (base-append now first rest)
 base-append now (Barrier ∷ first) rest = base-append now first rest
-base-append now (Mark ∷ first) rest = base-append now first rest
+base-append now (CallEnd ∷ first) rest = base-append now first rest
 
 pub events-append : (now : List ℕ) (first rest : List Event) → events_from now (first ++ rest) ≡ events_from (base_from now rest) first ++ events_from now rest
 events-append now [] rest = refl
@@ -34,7 +34,7 @@ events-append now (Store word saved ∷ first) rest =
     ap (λ ws. Store word (get_or ws word 0) ∷ events_from now (first ++ rest)) (base-append now first rest)
     ∙ ap (λ es. Store word (get_or (base_from (base_from now rest) first) word 0) ∷ es) (events-append now first rest)
 events-append now (Barrier ∷ first) rest = ap (λ es. Barrier ∷ es) (events-append now first rest)
-events-append now (Mark ∷ first) rest = ap (λ es. Mark ∷ es) (events-append now first rest)
+events-append now (CallEnd ∷ first) rest = ap (λ es. CallEnd ∷ es) (events-append now first rest)
 
 -- a store undone and done again
 redone : (words : List ℕ) (word saved : ℕ) → set (set words word saved) word (get_or words word 0) ≡ words
@@ -48,7 +48,7 @@ words-front (suc n) now (Store word saved ∷ undos) =
     let behind = base_from now undos in
     ap (λ ws. words_after ws (take n (events_from now undos))) (redone behind word saved) ∙ words-front n now undos
 words-front (suc n) now (Barrier ∷ undos) = words-front n now undos
-words-front (suc n) now (Mark ∷ undos) = words-front n now undos
+words-front (suc n) now (CallEnd ∷ undos) = words-front n now undos
 
 -- the words behind all events are those now
 pub words-now : (now : List ℕ) (undos : List Event) → words_after (base_from now undos) (events_from now undos) ≡ now
@@ -57,7 +57,7 @@ words-now now (Store word saved ∷ undos) =
     let behind = base_from now undos in
     ap (λ ws. words_after ws (events_from now undos)) (redone behind word saved) ∙ words-now now undos
 words-now now (Barrier ∷ undos) = words-now now undos
-words-now now (Mark ∷ undos) = words-now now undos
+words-now now (CallEnd ∷ undos) = words-now now undos
 
 -- the events from one on need no event before it
 pub events-drop : (n : ℕ) (now : List ℕ) (undos : List Event) → drop n (events_from now undos) ≡ events_from now (drop n undos)
@@ -65,7 +65,7 @@ events-drop zero now undos = refl
 events-drop (suc n) now [] = refl
 events-drop (suc n) now (Store word saved ∷ undos) = events-drop n now undos
 events-drop (suc n) now (Barrier ∷ undos) = events-drop n now undos
-events-drop (suc n) now (Mark ∷ undos) = events-drop n now undos
+events-drop (suc n) now (CallEnd ∷ undos) = events-drop n now undos
 
 -- ## Events that are done
 
@@ -75,7 +75,7 @@ base-undone words (Store word value ∷ events) =
     ap (λ ws. set ws word (get_or words word 0)) (base-undone (set words word value) events)
     ∙ redone words word value
 base-undone words (Barrier ∷ events) = base-undone words events
-base-undone words (Mark ∷ events) = base-undone words events
+base-undone words (CallEnd ∷ events) = base-undone words events
 
 pub events-undone : (words : List ℕ) (events : List Event) → AreWithin (length words) events → events_from (words_after words events) (undo_of words events) ≡ events
 events-undone words [] within = refl
@@ -86,7 +86,7 @@ events-undone words (Store word value ∷ events) within =
     ∙ ap (λ v. Store word v ∷ events_from (words_after next events) (undo_of next events)) (get_or-set_same words word value 0 within.0)
     ∙ ap (λ es. Store word value ∷ es) (events-undone next events (rw long within.1))
 events-undone words (Barrier ∷ events) within = ap (λ es. Barrier ∷ es) (events-undone words events within)
-events-undone words (Mark ∷ events) within = ap (λ es. Mark ∷ es) (events-undone words events within)
+events-undone words (CallEnd ∷ events) within = ap (λ es. CallEnd ∷ es) (events-undone words events within)
 
 -- what a run of stores replaces
 pub undo-run : (words values : List ℕ) (first : ℕ) → first + length values ≤ length words → undo_of words (stores_from first values) ≡ stores_from first (take (length values) (drop first words))

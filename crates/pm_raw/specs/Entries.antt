@@ -2,7 +2,7 @@
 -- as runs, and the values in a vector.
 use Rattle.std.specs.Prelude.{ℕ, ◌==◌, if◌then◌else◌, List, [], ◌∷◌}
 use Rattle.pm_epochs.specs.declared.event.Event.{Event}
-use Rattle.pm_epochs.specs.declared.event.Event.TheVariants.{Store, Barrier, Mark}
+use Rattle.pm_epochs.specs.declared.event.Event.TheVariants.{Store, Barrier, CallEnd}
 
 -- The largest number of 32 bits, which is no word of a region. It represents an event that is no store.
 abbrev pub no_word : ℕ
@@ -10,7 +10,7 @@ no_word = 2199023255551
 
 -- The event that is no store, by its value.
 abbrev pub signal_of : ℕ → Event
-signal_of value = if value == 0 then Barrier else Mark
+signal_of value = if value == 0 then Barrier else CallEnd
 
 abbrev pub event_of : ℕ → ℕ → Event
 event_of word value = if word == no_word then signal_of value else Store word value

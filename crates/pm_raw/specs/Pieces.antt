@@ -4,12 +4,12 @@ use Rattle.pm_epochs.specs.declared.event.Event.{Event}
 use Rattle.pm_epochs.specs.declared.event.Event.TheVariants as event
 use Rattle.pm_region.specs.Memory.{stores_from}
 use Rattle.pm_raw.specs.declared.log.Piece.{Piece}
-use Rattle.pm_raw.specs.declared.log.Piece.TheVariants.{Stores, Barrier, Mark}
+use Rattle.pm_raw.specs.declared.log.Piece.TheVariants.{Stores, Barrier, CallEnd}
 
 abbrev pub piece_events : Piece → List Event
 piece_events (Stores word values) = stores_from word values.now
 piece_events Barrier = event.Barrier ∷ []
-piece_events Mark = event.Mark ∷ []
+piece_events CallEnd = event.CallEnd ∷ []
 
 -- Whether all of these are true.
 abbrev pub all_kept : List Bool → Bool
@@ -28,4 +28,4 @@ keeps (suc n) (false ∷ mask) = false
 abbrev pub piece_end : Piece → ℕ
 piece_end (Stores word values) = word + length values.now
 piece_end Barrier = 0
-piece_end Mark = 0
+piece_end CallEnd = 0

@@ -2,7 +2,7 @@
 use Rattle.std.specs.Prelude.{ℕ, Bool, true, false, nat_lt, if◌then◌else◌, List, [], ◌∷◌, slice_index}
 use Rattle.std.proofs.Common.{zero, suc}
 use Rattle.pm_epochs.specs.declared.event.Event.{Event}
-use Rattle.pm_epochs.specs.declared.event.Event.TheVariants.{Store, Barrier, Mark}
+use Rattle.pm_epochs.specs.declared.event.Event.TheVariants.{Store, Barrier, CallEnd}
 
 -- The positions that a `Places` has, and the number of positions that it has memory for.
 pub record Placed : Type 0 where
@@ -23,12 +23,12 @@ places_where is_one at (event ∷ events) = noted (is_one event) at (places_wher
 abbrev pub is_barrier : Event → Bool
 is_barrier (Store word value) = false
 is_barrier Barrier = true
-is_barrier Mark = false
+is_barrier CallEnd = false
 
-abbrev pub is_mark : Event → Bool
-is_mark (Store word value) = false
-is_mark Barrier = false
-is_mark Mark = true
+abbrev pub is_call_end : Event → Bool
+is_call_end (Store word value) = false
+is_call_end Barrier = false
+is_call_end CallEnd = true
 
 -- The start of an epoch in a log with barriers at these positions: after the barrier before it.
 abbrev pub start_behind : List ℕ → ℕ → ℕ

@@ -1,12 +1,12 @@
 //! What a power failure leaves of a log, and how many calls survive.
 
 ghost use Rattle.std.specs.Prelude.{◌≡◌, ◌+◌, ◌^◌, ◌<◌, ◌≤◌, ◌↔◌, true, false, IsOk, IfOk, length, slice_set};
-ghost use Rattle.pm_epochs.specs.Log.{epoch_stores, marks, words_after};
-ghost use Rattle.pm_epochs.specs.Replay.{IsRight, kept_calls as kept_calls_of, marks_of, stores_of};
+ghost use Rattle.pm_epochs.specs.Log.{epoch_stores, call_ends, words_after};
+ghost use Rattle.pm_epochs.specs.Replay.{IsRight, kept_calls as kept_calls_of, call_ends_of, stores_of};
 ghost use Rattle.pm_region.specs.Epochs.{epoch_start};
 ghost use Rattle.pm_region.specs.Memory.{stores_from};
 ghost use Rattle.pm_raw.specs.Pieces.{all_kept, keeps};
-ghost use Rattle.pm_raw.specs.Places.{is_barrier, is_mark, places_where, start_behind};
+ghost use Rattle.pm_raw.specs.Places.{is_barrier, is_call_end, places_where, start_behind};
 
 use super::log::{Log, Piece};
 use super::places::Places;
@@ -23,7 +23,7 @@ fn first_stores(log: Log<'_>) -> usize
         match rest.take_first() {
             Piece::Stores { values, .. } => count += values.len(),
             Piece::Barrier => return count,
-            Piece::Mark => {}
+            Piece::CallEnd => {}
         }
     }
     count
@@ -55,7 +55,7 @@ fn keeps_first(mask: &[bool], wanted: usize) -> bool
 
 /// Returns the number of end-of-call markers before the first lost store, if the mask is for the first epoch.
 fn calls_of(log: Log<'_>, mask: &[bool]) -> usize
-    ensures { result ≡ marks_of 0 mask.now log.entry }
+    ensures { result ≡ call_ends_of 0 mask.now log.entry }
 {
     let _events = log.len();
     let mut rest = log;
@@ -70,7 +70,7 @@ fn calls_of(log: Log<'_>, mask: &[bool]) -> usize
                 mask = &mask[values.len()..];
             }
             Piece::Barrier => mask = &[],
-            Piece::Mark => calls += 1,
+            Piece::CallEnd => calls += 1,
         }
     }
     calls
@@ -114,16 +114,16 @@ pub fn start_of(log: &Log<'_>, barrier_places: &Places, choice: &Choice) -> Resu
 
 /// Returns how many calls survive a crash that keeps the stores before `start`, where its epoch begins, and how many
 /// calls there are. The log has these end-of-call markers.
-pub fn kept_calls(log: &Log<'_>, mark_places: &Places, start: usize, choice: &Choice) -> Kept
-    requires places { mark_places.now.items ≡ places_where is_mark 0 log.now }
+pub fn kept_calls(log: &Log<'_>, call_end_places: &Places, start: usize, choice: &Choice) -> Kept
+    requires places { call_end_places.now.items ≡ places_where is_call_end 0 log.now }
     requires start { start ≡ epoch_start choice.now.cut.epoch log.now }
     requires small { length log.now < 2 ^ 64 }
     ensures kept { result.c ≡ kept_calls_of log.now choice.now.cut }
-    ensures of { result.n ≡ marks log.now }
+    ensures of { result.n ≡ call_ends log.now }
 {
     Kept {
-        c: mark_places.before(start) + calls_of(log.behind(start), choice.mask()),
-        n: mark_places.len(),
+        c: call_end_places.before(start) + calls_of(log.behind(start), choice.mask()),
+        n: call_end_places.len(),
     }
 }
 
@@ -163,7 +163,7 @@ pub fn apply_first(words: &mut [u64], log: Log<'_>, mask: &[bool])
                 mask = &mask[values.len().min(mask.len())..];
             }
             Piece::Barrier => return,
-            Piece::Mark => {}
+            Piece::CallEnd => {}
         }
     }
 }

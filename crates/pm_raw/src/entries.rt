@@ -45,7 +45,7 @@ fn read_kind(word: u64, number: u64) -> EventKind
         if number == BARRIER {
             EventKind::Barrier
         } else {
-            EventKind::Mark
+            EventKind::CallEnd
         }
     } else {
         EventKind::Store(word)

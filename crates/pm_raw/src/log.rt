@@ -26,7 +26,7 @@ pub enum Piece<'a> {
     /// A barrier.
     Barrier,
     /// An end-of-call marker.
-    Mark,
+    CallEnd,
 }
 
 /// A part of a log as it is stored in memory: the runs of words, each by its first word and the index of its first
@@ -94,7 +94,7 @@ fn signal_piece<'a>(value: u64) -> Piece<'a>
     if value == BARRIER {
         Piece::Barrier
     } else {
-        Piece::Mark
+        Piece::CallEnd
     }
 }
 

@@ -3,7 +3,7 @@
 ghost use Rattle.std.specs.Prelude.{◌≡◌, ◌+◌, ◌^◌, ◌<◌, [], ◌∷◌, ◌++◌, ◌≤◌, IfOk, length, replicate};
 ghost use Rattle.pm_region.specs.Memory.{with_values};
 ghost use Rattle.pm_raw.specs.Entries.{signal_of};
-ghost use Rattle.pm_raw.specs.Places.{is_barrier, is_mark, places_where};
+ghost use Rattle.pm_raw.specs.Places.{is_barrier, is_call_end, places_where};
 
 use super::array::RawArray;
 use super::crash::{apply_first, kept_calls, start_of, start_of_epoch};
@@ -29,7 +29,7 @@ pub struct RawRegion {
     current: RawArray<u64>,
     entries: Entries,
     barriers: Places,
-    marks: Places,
+    call_ends: Places,
     drains: u64,
 }
 
@@ -54,20 +54,20 @@ fn overwrite(words: &mut [u64], first: usize, values: &[u64])
 }
 
 /// Records the position of an event that is no store, by its value.
-fn note_signal(barriers: &mut Places, marks: &mut Places, place: usize, value: u64)
+fn note_signal(barriers: &mut Places, call_ends: &mut Places, place: usize, value: u64)
     requires barriers_room { length barriers.old.items < barriers.old.room }
-    requires marks_room { length marks.old.items < marks.old.room }
+    requires call_ends_room { length call_ends.old.items < call_ends.old.room }
     ensures barriers { barriers.new ≡ record barriers.old {
       items = barriers.old.items ++ places_where is_barrier place (signal_of value ∷ []);
     } }
-    ensures marks { marks.new ≡ record marks.old {
-      items = marks.old.items ++ places_where is_mark place (signal_of value ∷ []);
+    ensures call_ends { call_ends.new ≡ record call_ends.old {
+      items = call_ends.old.items ++ places_where is_call_end place (signal_of value ∷ []);
     } }
 {
     if value == BARRIER {
         barriers.push(place);
     } else {
-        marks.push(place);
+        call_ends.push(place);
     }
 }
 
@@ -92,12 +92,12 @@ impl RawRegion {
         let current = RawArray::new(alloc, size as usize, 0)?;
         let entries = Entries::new(alloc, capacity)?;
         let barriers = Places::new(alloc, capacity)?;
-        let marks = Places::new(alloc, capacity)?;
+        let call_ends = Places::new(alloc, capacity)?;
         Ok(RawRegion {
             current,
             entries,
             barriers,
-            marks,
+            call_ends,
             drains: 0,
         })
     }
@@ -118,7 +118,7 @@ impl RawRegion {
         ensures { self.new ≡ record self.old { events = self.old.events ++ signal_of value ∷ [] } }
     {
         let place = self.entries.len();
-        note_signal(&mut self.barriers, &mut self.marks, place, value);
+        note_signal(&mut self.barriers, &mut self.call_ends, place, value);
         self.entries.push(NO_WORD, value);
     }
 }
@@ -165,14 +165,14 @@ impl Region for RawRegion {
     }
 
     #[inline(always)]
-    fn mark(&mut self) {
+    fn end_call(&mut self) {
         self.push_signal(MARK);
     }
 
     fn drain(&mut self) {
         self.entries.clear();
         self.barriers.clear();
-        self.marks.clear();
+        self.call_ends.clear();
         self.drains = self.drains.saturating_add(1);
     }
 
@@ -211,7 +211,7 @@ impl Region for RawRegion {
     fn crash_to(&mut self, choice: &Choice) -> Result<Kept, BadChoice> {
         let log = self.entries.log();
         let start = start_of(&log, &self.barriers, choice)?;
-        let kept = kept_calls(&log, &self.marks, start, choice);
+        let kept = kept_calls(&log, &self.call_ends, start, choice);
         self.entries.unwind(self.current.as_mut_slice(), start);
         // The log's stores from there on now have the values that they brought.
         let log = self.entries.log();
@@ -222,7 +222,7 @@ impl Region for RawRegion {
         );
         self.entries.clear();
         self.barriers.clear();
-        self.marks.clear();
+        self.call_ends.clear();
         Ok(kept)
     }
 }

@@ -33,7 +33,7 @@ pub fn word_before(words: &[u64], undos: Log<'_>, word: u64) -> u64
                 }
             }
             Piece::Barrier => {}
-            Piece::Mark => {}
+            Piece::CallEnd => {}
         }
     }
     words[word as usize]

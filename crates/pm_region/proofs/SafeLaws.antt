@@ -1,11 +1,11 @@
 -- Each call keeps a memory safe: one that commits by a store alone in its epoch, one without a store, a drain and a crash.
 use Rattle.std.proofs.Common.{◌≡◌, ℕ, ◌+◌, ◌≤◌, List, [], ◌∷◌, ◌++◌, refl, ◌∙◌, arith}
 use Rattle.pm_epochs.specs.declared.event.Event.{Event}
-use Rattle.pm_epochs.specs.declared.event.Event.TheVariants.{Mark}
-use Rattle.pm_epochs.specs.Log.{words_after, marks, IsClosed}
+use Rattle.pm_epochs.specs.declared.event.Event.TheVariants.{CallEnd}
+use Rattle.pm_epochs.specs.Log.{words_after, call_ends, IsClosed}
 use Rattle.pm_epochs.specs.Replay.{PowerCut, IsRight, replay}
 use Rattle.pm_epochs.specs.Crash.{Likeness, IsPartialEquivalence, CrashRight, commit}
-use Rattle.pm_epochs.proofs.CrashLaws.{words_after-append, marks-append, IsClosed-append, IsClosed-commit, crash_right-append, crash_right_commit, crash_right_mark, crash_right_none}
+use Rattle.pm_epochs.proofs.CrashLaws.{words_after-append, call_ends-append, IsClosed-append, IsClosed-commit, crash_right-append, crash_right_commit, crash_right_call_end, crash_right_none}
 use Rattle.pm_region.specs.Memory.{Memory, current_words, room_in, Adds}
 use Rattle.pm_region.specs.Safe.{IsSafe, AddsQuiet, AddsCommit}
 use Rattle.pm_region.proofs.MemoryLaws.{adds_both, current_words-adds, room_in-piece}
@@ -26,8 +26,8 @@ module _ (Same : Likeness) (equivalence : IsPartialEquivalence Same) where
   })
 
   -- a call without a store
-  pub safe_mark : (old new : Memory) → IsSafe Same old → Adds old new (Mark ∷ []) → IsSafe Same new
-  safe_mark old new safe added = safe_call old new (Mark ∷ []) safe added (crash_right_mark Same (current_words old) safe.well) tt safe.well
+  pub safe_call_end : (old new : Memory) → IsSafe Same old → Adds old new (CallEnd ∷ []) → IsSafe Same new
+  safe_call_end old new safe added = safe_call old new (CallEnd ∷ []) safe added (crash_right_call_end Same (current_words old) safe.well) tt safe.well
 
   -- a memory with an empty log
   pub safe_empty : (memory : Memory) → memory.events ≡ [] → Same memory.base memory.base → IsSafe Same memory
@@ -57,14 +57,14 @@ room_after_commit Same word value most_barriers most_stores old new done = room_
 
 module _ (Same : Likeness) (equivalence : IsPartialEquivalence Same) (word value most_barriers most_stores : ℕ) where
   -- the end of a call that committed
-  pub safe_committed : (old middle new : Memory) → IsSafe Same old → AddsCommit Same word value most_barriers most_stores old middle → Adds middle new (Mark ∷ []) → Same (current_words new) (current_words new) → IsSafe Same new
+  pub safe_committed : (old middle new : Memory) → IsSafe Same old → AddsCommit Same word value most_barriers most_stores old middle → Adds middle new (CallEnd ∷ []) → Same (current_words new) (current_words new) → IsSafe Same new
   safe_committed old middle new safe done ends well =
       let events = done.prepared ++ commit word value in
-      let all = adds_both old middle new events (Mark ∷ []) done.adds ends in
-      let unmarked : marks done.prepared ≡ 0 = omega (arith, done.piece.unmarked, marks-append done.prepared (commit word value)) in
-      let after = words_after-append (current_words old) events (Mark ∷ []) in
+      let all = adds_both old middle new events (CallEnd ∷ []) done.adds ends in
+      let no_call_end : call_ends done.prepared ≡ 0 = omega (arith, done.piece.no_call_end, call_ends-append done.prepared (commit word value)) in
+      let after = words_after-append (current_words old) events (CallEnd ∷ []) in
       let words = current_words-adds old new _ all in
-      safe_call Same equivalence old new (events ++ Mark ∷ []) safe all
-      (crash_right_commit Same (current_words old) done.prepared word value unmarked done.quiet (rw (words ∙ after) at well))
+      safe_call Same equivalence old new (events ++ CallEnd ∷ []) safe all
+      (crash_right_commit Same (current_words old) done.prepared word value no_call_end done.quiet (rw (words ∙ after) at well))
       (IsClosed-commit done.prepared word value)
       (rw words at well)

@@ -2,7 +2,7 @@
 use Rattle.std.specs.Prelude.{◌≡◌, ℕ, ◌+◌, ◌-◌, ◌^◌, ◌<◌, min, nat_lt, if◌then◌else◌, List, [], ◌∷◌, ◌++◌, Some, length, drop, slice_get}
 use Rattle.std.specs.List.{splice}
 use Rattle.pm_epochs.specs.declared.event.Event.{Event}
-use Rattle.pm_epochs.specs.declared.event.Event.TheVariants.{Barrier, Mark, Store}
+use Rattle.pm_epochs.specs.declared.event.Event.TheVariants.{Barrier, CallEnd, Store}
 use Rattle.pm_epochs.specs.Log.{words_after}
 use Rattle.pm_epochs.specs.May.{StoresMay}
 use Rattle.pm_epochs.specs.Replay.{PowerCut, replay}
@@ -64,9 +64,9 @@ with_values words first values = splice words first (first + length values) valu
 abbrev pub Follows : Event → Event → Type 0
 Follows (Store word value) (Store next other) = next ≡ word + 1
 Follows (Store word value) Barrier = ⊥
-Follows (Store word value) Mark = ⊥
+Follows (Store word value) CallEnd = ⊥
 Follows Barrier event = ⊥
-Follows Mark event = ⊥
+Follows CallEnd event = ⊥
 
 -- Of this number of events from one on, each except the first follows the one before it.
 abbrev pub AreInRow : List Event → ℕ → ℕ → Type 0

@@ -94,8 +94,8 @@ impl Region for ListRegion {
         self.push(Event::Barrier);
     }
 
-    fn mark(&mut self) {
-        self.push(Event::Mark);
+    fn end_call(&mut self) {
+        self.push(Event::CallEnd);
     }
 
     fn drain(&mut self) {

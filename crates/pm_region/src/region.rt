@@ -1,9 +1,9 @@
 //! The calls of a region.
 
 ghost use Rattle.std.specs.Prelude.{◌≡◌, ◌+◌, ◌^◌, ◌<◌, ◌≤◌, ◌↔◌, [], ◌∷◌, length, take, slice_get, slice_index, slice_index_or, slice_range, Some, IsOk, IfOk, OnOk, OnErr};
-ghost use Rattle.pm_epochs.specs.declared.event.Event.TheVariants.{Store, Barrier, Mark};
+ghost use Rattle.pm_epochs.specs.declared.event.Event.TheVariants.{Store, Barrier, CallEnd};
 ghost use Rattle.pm_epochs.specs.Kind.{event_of, value_at};
-ghost use Rattle.pm_epochs.specs.Log.{barriers, marks, words_after};
+ghost use Rattle.pm_epochs.specs.Log.{barriers, call_ends, words_after};
 ghost use Rattle.pm_epochs.specs.Replay.{IsRight, kept_calls};
 ghost use Rattle.pm_region.specs.Epochs.{epoch_start};
 ghost use Rattle.pm_region.specs.Memory.{Memory, crashed, current_words, room_in, drained, stores_from, AreInRow, AreWithin, Adds};
@@ -69,9 +69,9 @@ pub trait Region {
         ensures { Adds (memory self.old) (memory self.new) (Barrier ∷ []) };
 
     /// Ends a call with an end-of-call marker. Takes one entry of the log.
-    fn mark(&mut self)
+    fn end_call(&mut self)
         requires { 0 < room_in (memory self.old) }
-        ensures { Adds (memory self.old) (memory self.new) (Mark ∷ []) };
+        ensures { Adds (memory self.old) (memory self.new) (CallEnd ∷ []) };
 
     /// Waits until each store is written back, and empties the log.
     fn drain(&mut self)
@@ -115,7 +115,7 @@ pub trait Region {
                 value: self.word_at(i + 1, word),
             },
             EventKind::Barrier => Event::Barrier,
-            EventKind::Mark => Event::Mark,
+            EventKind::CallEnd => Event::CallEnd,
         }
     }
 
@@ -145,7 +145,7 @@ pub trait Region {
             match self.kind(i) {
                 EventKind::Store(_) => {}
                 EventKind::Barrier => count += 1,
-                EventKind::Mark => {}
+                EventKind::CallEnd => {}
             }
         }
         count
@@ -164,7 +164,7 @@ pub trait Region {
             match self.kind(i) {
                 EventKind::Store(_) => {}
                 EventKind::Barrier => left -= 1,
-                EventKind::Mark => {}
+                EventKind::CallEnd => {}
             }
         }
         self.event_count()
@@ -187,6 +187,6 @@ pub trait Region {
         ensures right { IsOk result ↔ IsRight (memory self.old).events choice.now.cut }
         ensures left { OnOk result (memory self.new ≡ crashed (memory self.old) choice.now.cut) }
         ensures kept { IfOk result (λ kept. kept.c ≡ kept_calls (memory self.old).events choice.now.cut) }
-        ensures of { IfOk result (λ kept. kept.n ≡ marks (memory self.old).events) }
+        ensures of { IfOk result (λ kept. kept.n ≡ call_ends (memory self.old).events) }
         ensures err { OnErr result (memory self.new ≡ memory self.old) };
 }

@@ -34,7 +34,7 @@ pub fn apply_event(words: &mut [u64], event: Event)
     match event {
         Event::Store { word, value } => set_word(words, word, value),
         Event::Barrier => {}
-        Event::Mark => {}
+        Event::CallEnd => {}
     }
 }
 
@@ -84,7 +84,7 @@ pub fn put_back(words: &mut [u64], from: &[u64], events: &[Event])
         match event {
             Event::Store { word, .. } => put_back_word(words, from, *word),
             Event::Barrier => {}
-            Event::Mark => {}
+            Event::CallEnd => {}
         }
     }
 }

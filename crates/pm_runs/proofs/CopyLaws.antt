@@ -2,7 +2,7 @@
 use Rattle.std.proofs.Common.{◌≡◌, ℕ, zero, suc, ◌+◌, ◌-◌, ◌<◌, ◌≤◌, List, [], ◌∷◌, ◌++◌, length, take, drop, get_or, set, refl, sym, ap, ◌∙◌, subst, arith, add-one}
 use Rattle.std.proofs.lemmas.List.{append_assoc, drop_more, length-append, length-take-le, set-append_right, take_all, take_more}
 use Rattle.pm_epochs.specs.declared.event.Event.{Event}
-use Rattle.pm_epochs.specs.declared.event.Event.TheVariants.{Store, Barrier, Mark}
+use Rattle.pm_epochs.specs.declared.event.Event.TheVariants.{Store, Barrier, CallEnd}
 use Rattle.pm_epochs.specs.Log.{words_after}
 use Rattle.pm_epochs.proofs.CrashLaws.{words_after-append, length-words_after}
 use Rattle.pm_region.specs.Memory.{AreWithin, stores_from, with_values}
@@ -35,7 +35,7 @@ within-append count [] ys within = (tt, within)
 within-append count (Store word value ∷ xs) ys within =
     let rest = within-append count xs ys within.1 in ((within.0, rest.0), rest.1)
 within-append count (Barrier ∷ xs) ys within = within-append count xs ys within
-within-append count (Mark ∷ xs) ys within = within-append count xs ys within
+within-append count (CallEnd ∷ xs) ys within = within-append count xs ys within
 
 -- each word of a run is one of the words
 within-run : (count word : ℕ) (values : List ℕ) → AreWithin count (stores_from word values) → (i : ℕ) → i < length values → word + i < count
@@ -77,4 +77,4 @@ copied-runs words ((run.Stores word count, values) ∷ runs) within =
     ∙ copied-runs (words_after words events) runs (subst (λ n. AreWithin n (runs_events runs)) same both.1)
     ∙ sym (words_after-append words events (runs_events runs))
 copied-runs words ((run.Barrier, values) ∷ runs) within = copied-runs words runs within
-copied-runs words ((run.Mark, values) ∷ runs) within = copied-runs words runs within
+copied-runs words ((run.CallEnd, values) ∷ runs) within = copied-runs words runs within

@@ -5,7 +5,7 @@ use Rattle.std.proofs.lemmas.List.{drop-drop, drop-map, drop-set-lt, get_or-drop
 use Rattle.std.proofs.lemmas.Slice.{drop-append-drop}
 use Rattle.std.proofs.Math.Seq.{take-append_seam}
 use Rattle.pm_epochs.specs.declared.event.Event.{Event}
-use Rattle.pm_epochs.specs.declared.event.Event.TheVariants.{Store, Barrier, Mark}
+use Rattle.pm_epochs.specs.declared.event.Event.TheVariants.{Store, Barrier, CallEnd}
 use Rattle.pm_epochs.specs.Kind.{event_value, value_at}
 use Rattle.pm_region.specs.Memory.{AreInRow, Follows, stores_from}
 use Rattle.pm_runs.specs.Runs.{TellsRun}
@@ -56,7 +56,7 @@ stores-behind word value (suc count) (Store next other ∷ events) fits row =
     ap (λ w. Store w other ∷ take count events) follows
     ∙ ap (λ es. Store (word + 1) other ∷ es) (rest ∙ ap (λ w. stores_from (w + 1) (take count (map event_value events))) follows)
 stores-behind word value (suc count) (Barrier ∷ events) fits row = absurd (row 0 (Store word value) Barrier (omega arith) refl refl)
-stores-behind word value (suc count) (Mark ∷ events) fits row = absurd (row 0 (Store word value) Mark (omega arith) refl refl)
+stores-behind word value (suc count) (CallEnd ∷ events) fits row = absurd (row 0 (Store word value) CallEnd (omega arith) refl refl)
 
 stores-first : (word value count : ℕ) (events : List Event) → slice_get events 0 ≡ Some (Store word value) → count ≤ length events → AreNext events count → take count events ≡ stores_from word (take count (map event_value events))
 stores-first word value zero events is fits row = refl
@@ -66,7 +66,7 @@ stores-first word value (suc count) (Store place other ∷ events) is fits row =
     ap (λ w. Store w other ∷ take count events) same
     ∙ ap (λ es. Store word other ∷ es) (stores-behind place other count events (omega arith) row ∙ ap (λ w. stores_from (w + 1) (take count (map event_value events))) same)
 stores-first word value (suc count) (Barrier ∷ events) is fits row = cc
-stores-first word value (suc count) (Mark ∷ events) is fits row = cc
+stores-first word value (suc count) (CallEnd ∷ events) is fits row = cc
 
 -- so many events from one on are the stores of their values to words in a row
 pub row-stores : (events : List Event) (first count word value : ℕ) → slice_get events first ≡ Some (Store word value) → first + count ≤ length events → AreInRow events first count

@@ -2,7 +2,7 @@
 use Rattle.std.specs.Prelude.{◌≡◌, ◌≤◌, ◌<◌, ◌+◌, ℕ, List, [], ◌∷◌, ◌++◌, Some, drop, length, slice_get, take}
 use Rattle.pm_epochs.specs.Kind.{event_of, value_at}
 use Rattle.pm_epochs.specs.declared.event.Event.{Event}
-use Rattle.pm_epochs.specs.declared.event.Event.TheVariants.{Barrier, Mark}
+use Rattle.pm_epochs.specs.declared.event.Event.TheVariants.{Barrier, CallEnd}
 use Rattle.pm_epochs.specs.declared.event.EventKind.{EventKind}
 use Rattle.pm_epochs.specs.declared.event.EventKind.TheVariants as kinds
 use Rattle.pm_epochs.specs.Log.{words_after}
@@ -14,24 +14,24 @@ use Rattle.pm_runs.specs.declared.pieces.Run.TheVariants as run
 abbrev pub run_length : Run → ℕ
 run_length (run.Stores word count) = count
 run_length run.Barrier = 1
-run_length run.Mark = 1
+run_length run.CallEnd = 1
 
 abbrev pub value_count : Run → ℕ
 value_count (run.Stores word count) = count
 value_count run.Barrier = 0
-value_count run.Mark = 0
+value_count run.CallEnd = 0
 
 -- The events of a run, whose values are the first of these.
 abbrev pub run_events : Run → List ℕ → List Event
 run_events (run.Stores word count) values = stores_from word (take count values)
 run_events run.Barrier values = Barrier ∷ []
-run_events run.Mark values = Mark ∷ []
+run_events run.CallEnd values = CallEnd ∷ []
 
 -- The kind of the event with which a run begins: a store to its first word, even if the run has no value.
 abbrev pub first_kind : Run → EventKind
 first_kind (run.Stores word count) = kinds.Store word
 first_kind run.Barrier = kinds.Barrier
-first_kind run.Mark = kinds.Mark
+first_kind run.CallEnd = kinds.CallEnd
 
 -- The run has exactly the events of a log from one on, as many as its length: at least one if there is room for a
 -- value. So a barrier and a marker are returned in any room, and of stores at least the first word. No other value has
@@ -57,7 +57,7 @@ words_after_runs words runs = words_after words (runs_events runs)
 abbrev pub copied_run : List ℕ → Run → List ℕ → List ℕ
 copied_run words (run.Stores word count) values = with_values words word (take count values)
 copied_run words run.Barrier values = words
-copied_run words run.Mark values = words
+copied_run words run.CallEnd values = words
 
 -- The words with the values of runs copied to their places, one run after the other.
 abbrev pub copied : List ℕ → List (Run × List ℕ) → List ℕ

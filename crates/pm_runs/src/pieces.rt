@@ -20,7 +20,7 @@ pub enum Run {
     /// A barrier.
     Barrier,
     /// An end-of-call marker.
-    Mark,
+    CallEnd,
 }
 
 /// Copies the first of these values over the first of `into`, as many as there is room for, and returns their number.
@@ -47,6 +47,6 @@ pub fn run_at(region: &RedoRegion, first: usize, values: &mut [u64]) -> Run
             count: copy_front(&region.values()[first..first + len], values),
         },
         EventKind::Barrier => Run::Barrier,
-        EventKind::Mark => Run::Mark,
+        EventKind::CallEnd => Run::CallEnd,
     }
 }

@@ -105,8 +105,8 @@ impl Region for RedoRegion {
     }
 
     #[inline(always)]
-    fn mark(&mut self) {
-        self.region.mark();
+    fn end_call(&mut self) {
+        self.region.end_call();
         self.values.push_reserved(0);
     }
 
@@ -138,7 +138,7 @@ impl Region for RedoRegion {
                 value: self.values[i],
             },
             EventKind::Barrier => Event::Barrier,
-            EventKind::Mark => Event::Mark,
+            EventKind::CallEnd => Event::CallEnd,
         }
     }
 

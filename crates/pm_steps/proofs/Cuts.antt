@@ -2,12 +2,12 @@
 use Rattle.std.proofs.Common.{◌≡◌, ℕ, zero, suc, ◌≤◌, inl, Bool, true, false, Some, List, [], ◌∷◌, length, take, refl, sym, ◌∙◌, ap, arith}
 use Rattle.std.specs.List.{slice_get, items_where_true}
 use Rattle.pm_epochs.specs.declared.event.Event.{Event}
-use Rattle.pm_epochs.specs.declared.event.Event.TheVariants.{Store, Barrier, Mark}
+use Rattle.pm_epochs.specs.declared.event.Event.TheVariants.{Store, Barrier, CallEnd}
 use Rattle.pm_epochs.specs.Log.{words_after, barriers, epoch_stores}
-use Rattle.pm_epochs.specs.Replay.{IsRight, stores_of, kept_stores, marks_of, replay, kept_calls, after_calls, epoch_of}
+use Rattle.pm_epochs.specs.Replay.{IsRight, stores_of, kept_stores, call_ends_of, replay, kept_calls, after_calls, epoch_of}
 use Rattle.pm_epochs.proofs.Cuts.{stores_of_none, kept_stores_right}
 use Rattle.pm_epochs.specs.Crash.{Likeness, CrashRight}
-use Rattle.pm_steps.specs.Machine.{MachineState, MachineStep, machine_over, StepsTo, is_some_store, IsInOrder, open_epoch, epoch_flags, waiting_marks, cut_of}
+use Rattle.pm_steps.specs.Machine.{MachineState, MachineStep, machine_over, StepsTo, is_some_store, IsInOrder, open_epoch, epoch_flags, waiting_call_ends, cut_of}
 use Rattle.pm_steps.proofs.FirstLaws.{ComesFirst-behind}
 use Rattle.pm_steps.proofs.Order.{store_is, IsReached, reached}
 
@@ -41,8 +41,8 @@ first_epoch (Store word value ∷ events) (true ∷ back) first = ap (λ es. Sto
 first_epoch (Store word value ∷ events) (false ∷ back) first = first_epoch events back (record { stores = λ i is. first.stores (suc i) is; early = λ i is. first.early (suc i) is })
 first_epoch (Barrier ∷ events) (true ∷ back) first = let is = first.stores 0 refl in cc
 first_epoch (Barrier ∷ events) (false ∷ back) first = sym (none_back back events (λ i is. absurd (omega (arith, first.early (suc i) is))))
-first_epoch (Mark ∷ events) (true ∷ back) first = let is = first.stores 0 refl in cc
-first_epoch (Mark ∷ events) (false ∷ back) first = first_epoch events back (record { stores = λ i is. first.stores (suc i) is; early = λ i is. first.early (suc i) is })
+first_epoch (CallEnd ∷ events) (true ∷ back) first = let is = first.stores 0 refl in cc
+first_epoch (CallEnd ∷ events) (false ∷ back) first = first_epoch events back (record { stores = λ i is. first.stores (suc i) is; early = λ i is. first.early (suc i) is })
 
 -- behind a store that waits, what is back is of its epoch
 behind_waiting : (word value : ℕ) (events : List Event) (back : List Bool) → IsInOrder (Store word value ∷ events) (false ∷ back) → IsFirstEpoch events back
@@ -72,8 +72,8 @@ stores_of_open (Store word value ∷ events) (true ∷ back) order = kept_first 
 stores_of_open (Store word value ∷ events) (false ∷ back) order = first_epoch events back (behind_waiting word value events back order)
 stores_of_open (Barrier ∷ events) (true ∷ back) order = let is = order.stores 0 refl in cc
 stores_of_open (Barrier ∷ events) (false ∷ back) order = stores_of_open events back (IsInOrder-tail Barrier events false back order)
-stores_of_open (Mark ∷ events) (true ∷ back) order = let is = order.stores 0 refl in cc
-stores_of_open (Mark ∷ events) (false ∷ back) order = stores_of_open events back (IsInOrder-tail Mark events false back order)
+stores_of_open (CallEnd ∷ events) (true ∷ back) order = let is = order.stores 0 refl in cc
+stores_of_open (CallEnd ∷ events) (false ∷ back) order = stores_of_open events back (IsInOrder-tail CallEnd events false back order)
 
 open_epoch-le : (events : List Event) (back : List Bool) → open_epoch events back ≤ barriers (take (length back) events)
 open_epoch-le [] back = omega arith
@@ -81,7 +81,7 @@ open_epoch-le (event ∷ events) [] = omega arith
 open_epoch-le (Store word value ∷ events) (true ∷ back) = open_epoch-le events back
 open_epoch-le (Store word value ∷ events) (false ∷ back) = omega arith
 open_epoch-le (Barrier ∷ events) (flag ∷ back) = let low = open_epoch-le events back in omega arith
-open_epoch-le (Mark ∷ events) (flag ∷ back) = open_epoch-le events back
+open_epoch-le (CallEnd ∷ events) (flag ∷ back) = open_epoch-le events back
 
 length-epoch_flags : (epoch : ℕ) (events : List Event) (back : List Bool) → length (epoch_flags epoch events back) ≤ epoch_stores epoch (take (length back) events)
 length-epoch_flags epoch [] back = omega arith
@@ -90,7 +90,7 @@ length-epoch_flags zero (Store word value ∷ events) (flag ∷ back) = let low 
 length-epoch_flags (suc epoch) (Store word value ∷ events) (flag ∷ back) = length-epoch_flags (suc epoch) events back
 length-epoch_flags zero (Barrier ∷ events) (flag ∷ back) = omega arith
 length-epoch_flags (suc epoch) (Barrier ∷ events) (flag ∷ back) = length-epoch_flags epoch events back
-length-epoch_flags epoch (Mark ∷ events) (flag ∷ back) = length-epoch_flags epoch events back
+length-epoch_flags epoch (CallEnd ∷ events) (flag ∷ back) = length-epoch_flags epoch events back
 
 pub right_open : (events : List Event) (back : List Bool) → IsInOrder events back → IsRight events (cut_of events back)
 right_open events back order = record {
@@ -111,23 +111,23 @@ run_replay base events state found = found.words ∙ ap (words_after base) (sym 
 
 -- ## The calls
 
-waiting_marks-none : (events : List Event) → waiting_marks events [] ≡ marks_of 0 [] events
-waiting_marks-none [] = refl
-waiting_marks-none (Store word value ∷ events) = refl
-waiting_marks-none (Barrier ∷ events) = waiting_marks-none events
-waiting_marks-none (Mark ∷ events) = ap suc (waiting_marks-none events)
+waiting_call_ends-none : (events : List Event) → waiting_call_ends events [] ≡ call_ends_of 0 [] events
+waiting_call_ends-none [] = refl
+waiting_call_ends-none (Store word value ∷ events) = refl
+waiting_call_ends-none (Barrier ∷ events) = waiting_call_ends-none events
+waiting_call_ends-none (CallEnd ∷ events) = ap suc (waiting_call_ends-none events)
 
-marks_first : (word value epoch : ℕ) (events : List Event) (back : List Bool) → marks_of epoch (epoch_flags epoch (Store word value ∷ events) (true ∷ back)) (Store word value ∷ events) ≡ marks_of epoch (epoch_flags epoch events back) events
-marks_first word value zero events back = refl
-marks_first word value (suc epoch) events back = refl
+call_ends_first : (word value epoch : ℕ) (events : List Event) (back : List Bool) → call_ends_of epoch (epoch_flags epoch (Store word value ∷ events) (true ∷ back)) (Store word value ∷ events) ≡ call_ends_of epoch (epoch_flags epoch events back) events
+call_ends_first word value zero events back = refl
+call_ends_first word value (suc epoch) events back = refl
 
-pub marks_of_open : (events : List Event) (back : List Bool) → marks_of (open_epoch events back) (epoch_flags (open_epoch events back) events back) events ≡ waiting_marks events back
-marks_of_open [] back = refl
-marks_of_open (event ∷ events) [] = sym (waiting_marks-none (event ∷ events))
-marks_of_open (Store word value ∷ events) (true ∷ back) = marks_first word value (open_epoch events back) events back ∙ marks_of_open events back
-marks_of_open (Store word value ∷ events) (false ∷ back) = refl
-marks_of_open (Barrier ∷ events) (flag ∷ back) = marks_of_open events back
-marks_of_open (Mark ∷ events) (flag ∷ back) = ap suc (marks_of_open events back)
+pub call_ends_of_open : (events : List Event) (back : List Bool) → call_ends_of (open_epoch events back) (epoch_flags (open_epoch events back) events back) events ≡ waiting_call_ends events back
+call_ends_of_open [] back = refl
+call_ends_of_open (event ∷ events) [] = sym (waiting_call_ends-none (event ∷ events))
+call_ends_of_open (Store word value ∷ events) (true ∷ back) = call_ends_first word value (open_epoch events back) events back ∙ call_ends_of_open events back
+call_ends_of_open (Store word value ∷ events) (false ∷ back) = refl
+call_ends_of_open (Barrier ∷ events) (flag ∷ back) = call_ends_of_open events back
+call_ends_of_open (CallEnd ∷ events) (flag ∷ back) = ap suc (call_ends_of_open events back)
 
 -- over a log that is right, the memory is like what the kept calls had made
 pub run_right_log : (Same : Likeness) (base : List ℕ) (events : List Event) (steps : List MachineStep) (state : MachineState) → CrashRight Same base events → StepsTo events (machine_over base) steps state → Same state.words (after_calls base events (kept_calls events (cut_of events state.back)))

@@ -2,7 +2,7 @@
 use Rattle.std.proofs.Common.{◌≡◌, ◌≢◌, ℕ, suc, ◌<◌, inl, inr, Bool, true, false, Some, List, [], ◌∷◌, refl, ◌∙◌, arith}
 use Rattle.std.specs.List.{slice_get}
 use Rattle.pm_epochs.specs.declared.event.Event.{Event}
-use Rattle.pm_epochs.specs.declared.event.Event.TheVariants.{Store, Barrier, Mark}
+use Rattle.pm_epochs.specs.declared.event.Event.TheVariants.{Store, Barrier, CallEnd}
 use Rattle.pm_epochs.specs.Replay.{epoch_of}
 use Rattle.pm_steps.specs.Machine.{ComesFirst}
 
@@ -44,7 +44,7 @@ ComesFirst-behind event events earlier later comes =
     less : (event : Event) → epoch_of events earlier < epoch_of events later → epoch_of (event ∷ events) (suc earlier) < epoch_of (event ∷ events) (suc later)
     less (Store word value) sooner = sooner
     less Barrier sooner = omega arith
-    less Mark sooner = sooner
+    less CallEnd sooner = sooner
 
 pub ComesFirst-tail : (event : Event) (events : List Event) (earlier later : ℕ) → ComesFirst (event ∷ events) (suc earlier) (suc later) → ComesFirst events earlier later
 ComesFirst-tail event events earlier later comes =
@@ -53,4 +53,4 @@ ComesFirst-tail event events earlier later comes =
     less : (event : Event) → epoch_of (event ∷ events) (suc earlier) < epoch_of (event ∷ events) (suc later) → epoch_of events earlier < epoch_of events later
     less (Store word value) sooner = sooner
     less Barrier sooner = omega arith
-    less Mark sooner = sooner
+    less CallEnd sooner = sooner

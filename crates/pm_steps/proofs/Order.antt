@@ -3,7 +3,7 @@ use Rattle.std.proofs.Common.{◌≡◌, ◌≢◌, ℕ, zero, suc, ◌<◌, ◌
 use Rattle.std.specs.List.{slice_get, items_where_true}
 use Rattle.std.proofs.lemmas.List.{length-append, length-set, set_comm}
 use Rattle.pm_epochs.specs.declared.event.Event.{Event}
-use Rattle.pm_epochs.specs.declared.event.Event.TheVariants.{Store, Barrier, Mark}
+use Rattle.pm_epochs.specs.declared.event.Event.TheVariants.{Store, Barrier, CallEnd}
 use Rattle.pm_epochs.specs.Log.{words_after}
 use Rattle.pm_steps.specs.Machine.{MachineState, machine_over, MachineStep, is_some_store, ComesFirst, IsInOrder, MayGoBack, Allowed, state_after, StepsTo}
 use Rattle.pm_steps.specs.Machine.MachineStep.{Execute, WriteBack}
@@ -13,7 +13,7 @@ pub store_is : (event : Option Event) → is_some_store event ≡ true → (word
 store_is None is = cc
 store_is (Some (Store word value)) is = (word, value, refl)
 store_is (Some Barrier) is = cc
-store_is (Some Mark) is = cc
+store_is (Some CallEnd) is = cc
 
 -- ## Flags
 
@@ -87,8 +87,8 @@ words_after-set (Store place other ∷ events) (true ∷ back) words word value 
 words_after-set (Store place other ∷ events) (false ∷ back) words word value none = words_after-set events back words word value (NoneTo-tail (Store place other) events false back word none)
 words_after-set (Barrier ∷ events) (true ∷ back) words word value none = words_after-set events back words word value (NoneTo-tail Barrier events true back word none)
 words_after-set (Barrier ∷ events) (false ∷ back) words word value none = words_after-set events back words word value (NoneTo-tail Barrier events false back word none)
-words_after-set (Mark ∷ events) (true ∷ back) words word value none = words_after-set events back words word value (NoneTo-tail Mark events true back word none)
-words_after-set (Mark ∷ events) (false ∷ back) words word value none = words_after-set events back words word value (NoneTo-tail Mark events false back word none)
+words_after-set (CallEnd ∷ events) (true ∷ back) words word value none = words_after-set events back words word value (NoneTo-tail CallEnd events true back word none)
+words_after-set (CallEnd ∷ events) (false ∷ back) words word value none = words_after-set events back words word value (NoneTo-tail CallEnd events false back word none)
 
 -- no store to the word behind a place is back
 abbrev NoneBehind : List Event → List Bool → ℕ → ℕ → Type 0
@@ -116,10 +116,10 @@ words_after-back (Barrier ∷ events) (true ∷ back) words (suc which) word val
     words_after-back events back words which word value store waits (NoneBehind-tail Barrier events true back which word none)
 words_after-back (Barrier ∷ events) (false ∷ back) words (suc which) word value store waits none =
     words_after-back events back words which word value store waits (NoneBehind-tail Barrier events false back which word none)
-words_after-back (Mark ∷ events) (true ∷ back) words (suc which) word value store waits none =
-    words_after-back events back words which word value store waits (NoneBehind-tail Mark events true back which word none)
-words_after-back (Mark ∷ events) (false ∷ back) words (suc which) word value store waits none =
-    words_after-back events back words which word value store waits (NoneBehind-tail Mark events false back which word none)
+words_after-back (CallEnd ∷ events) (true ∷ back) words (suc which) word value store waits none =
+    words_after-back events back words which word value store waits (NoneBehind-tail CallEnd events true back which word none)
+words_after-back (CallEnd ∷ events) (false ∷ back) words (suc which) word value store waits none =
+    words_after-back events back words which word value store waits (NoneBehind-tail CallEnd events false back which word none)
 
 items_where_true-push : (back : List Bool) (events : List Event) → items_where_true (back ++ false ∷ []) events ≡ items_where_true back events
 items_where_true-push [] [] = refl

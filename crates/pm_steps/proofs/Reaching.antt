@@ -5,7 +5,7 @@ use Rattle.std.specs.List.{slice_get, items_where_true}
 use Rattle.std.proofs.lemmas.List.{append_assoc, length-replicate, replicate-append-replicate, set_comm, set-set}
 use Rattle.std.proofs.lemmas.Bool.{cases_eq, ne_eqb}
 use Rattle.pm_epochs.specs.declared.event.Event.{Event}
-use Rattle.pm_epochs.specs.declared.event.Event.TheVariants.{Store, Barrier, Mark}
+use Rattle.pm_epochs.specs.declared.event.Event.TheVariants.{Store, Barrier, CallEnd}
 use Rattle.pm_epochs.specs.Log.{words_after}
 use Rattle.pm_epochs.specs.Replay.{PowerCut, IsRight, stores_of, replay, epoch_of}
 use Rattle.pm_epochs.proofs.Cuts.{kept_stores_right}
@@ -154,7 +154,7 @@ is_kept_later word [] (Store place value ∷ events) = false
 is_kept_later word (true ∷ mask) (Store place value ∷ events) = cond (eqb place word) true (is_kept_later word mask events)
 is_kept_later word (false ∷ mask) (Store place value ∷ events) = is_kept_later word mask events
 is_kept_later word mask (Barrier ∷ events) = false
-is_kept_later word mask (Mark ∷ events) = is_kept_later word mask events
+is_kept_later word mask (CallEnd ∷ events) = is_kept_later word mask events
 
 -- the stores that are kept, and those before them of the same word
 abbrev wanted : ℕ → List Bool → List Event → List Bool
@@ -165,7 +165,7 @@ wanted zero (false ∷ mask) (Store place value ∷ events) = is_kept_later plac
 wanted (suc epoch) mask (Store place value ∷ events) = true ∷ wanted (suc epoch) mask events
 wanted zero mask (Barrier ∷ events) = false ∷ wanted zero [] events
 wanted (suc epoch) mask (Barrier ∷ events) = false ∷ wanted epoch mask events
-wanted epoch mask (Mark ∷ events) = false ∷ wanted epoch mask events
+wanted epoch mask (CallEnd ∷ events) = false ∷ wanted epoch mask events
 
 length-wanted : (epoch : ℕ) (mask : List Bool) (events : List Event) → length (wanted epoch mask events) ≡ length events
 length-wanted epoch mask [] = refl
@@ -175,7 +175,7 @@ length-wanted zero (false ∷ mask) (Store place value ∷ events) = ap suc (len
 length-wanted (suc epoch) mask (Store place value ∷ events) = ap suc (length-wanted (suc epoch) mask events)
 length-wanted zero mask (Barrier ∷ events) = ap suc (length-wanted zero [] events)
 length-wanted (suc epoch) mask (Barrier ∷ events) = ap suc (length-wanted epoch mask events)
-length-wanted epoch mask (Mark ∷ events) = ap suc (length-wanted epoch mask events)
+length-wanted epoch mask (CallEnd ∷ events) = ap suc (length-wanted epoch mask events)
 
 wanted_store : (epoch : ℕ) (mask : List Bool) (events : List Event) (i : ℕ) → slice_get (wanted epoch mask events) i ≡ Some true → is_some_store (slice_get events i) ≡ true
 wanted_store epoch mask [] i is = nothing_there i is
@@ -191,8 +191,8 @@ wanted_store zero mask (Barrier ∷ events) zero is = none is
 wanted_store zero mask (Barrier ∷ events) (suc i) is = wanted_store zero [] events i is
 wanted_store (suc epoch) mask (Barrier ∷ events) zero is = none is
 wanted_store (suc epoch) mask (Barrier ∷ events) (suc i) is = wanted_store epoch mask events i is
-wanted_store epoch mask (Mark ∷ events) zero is = none is
-wanted_store epoch mask (Mark ∷ events) (suc i) is = wanted_store epoch mask events i is
+wanted_store epoch mask (CallEnd ∷ events) zero is = none is
+wanted_store epoch mask (CallEnd ∷ events) (suc i) is = wanted_store epoch mask events i is
 
 -- nothing is wanted where no epoch and no mask are left
 none_wanted : (events : List Event) (i : ℕ) → slice_get (wanted 0 [] events) i ≡ Some true → ⊥
@@ -201,8 +201,8 @@ none_wanted (Store place value ∷ events) zero is = cc
 none_wanted (Store place value ∷ events) (suc i) is = none_wanted events i is
 none_wanted (Barrier ∷ events) zero is = cc
 none_wanted (Barrier ∷ events) (suc i) is = none_wanted events i is
-none_wanted (Mark ∷ events) zero is = cc
-none_wanted (Mark ∷ events) (suc i) is = none_wanted events i is
+none_wanted (CallEnd ∷ events) zero is = cc
+none_wanted (CallEnd ∷ events) (suc i) is = none_wanted events i is
 
 -- what is wanted of the first epoch lies before the first barrier
 wanted_early : (mask : List Bool) (events : List Event) (i : ℕ) → slice_get (wanted 0 mask events) i ≡ Some true → epoch_of events i ≡ 0
@@ -213,8 +213,8 @@ wanted_early (true ∷ mask) (Store place value ∷ events) (suc i) is = wanted_
 wanted_early (false ∷ mask) (Store place value ∷ events) (suc i) is = wanted_early mask events i is
 wanted_early mask (Barrier ∷ events) zero is = refl
 wanted_early mask (Barrier ∷ events) (suc i) is = absurd (none_wanted events i is)
-wanted_early mask (Mark ∷ events) zero is = refl
-wanted_early mask (Mark ∷ events) (suc i) is = wanted_early mask events i is
+wanted_early mask (CallEnd ∷ events) zero is = refl
+wanted_early mask (CallEnd ∷ events) (suc i) is = wanted_early mask events i is
 
 cond_same : (b : Bool) → cond b true true ≡ true
 cond_same true = refl
@@ -231,8 +231,8 @@ wanted_kept word other (false ∷ mask) (Store place value ∷ events) zero is s
 wanted_kept word other (false ∷ mask) (Store place value ∷ events) (suc i) is store = wanted_kept word other mask events i is store
 wanted_kept word other mask (Barrier ∷ events) zero is store = none is
 wanted_kept word other mask (Barrier ∷ events) (suc i) is store = absurd (none_wanted events i is)
-wanted_kept word other mask (Mark ∷ events) zero is store = none is
-wanted_kept word other mask (Mark ∷ events) (suc i) is store = wanted_kept word other mask events i is store
+wanted_kept word other mask (CallEnd ∷ events) zero is store = none is
+wanted_kept word other mask (CallEnd ∷ events) (suc i) is store = wanted_kept word other mask events i is store
 
 -- ## They are in order
 
@@ -261,8 +261,8 @@ wanted_in_order (suc epoch) mask (Store place value ∷ events) (suc earlier) (s
 wanted_in_order zero mask (Barrier ∷ events) earlier (suc later) is comes = absurd (none_wanted events later is)
 wanted_in_order (suc epoch) mask (Barrier ∷ events) zero (suc later) is comes = not_a_store Barrier comes.first_word comes.first_value (λ w v e. cc) comes.first_is
 wanted_in_order (suc epoch) mask (Barrier ∷ events) (suc earlier) (suc later) is comes = wanted_in_order epoch mask events earlier later is (ComesFirst-tail Barrier events earlier later comes)
-wanted_in_order epoch mask (Mark ∷ events) zero (suc later) is comes = not_a_store Mark comes.first_word comes.first_value (λ w v e. cc) comes.first_is
-wanted_in_order epoch mask (Mark ∷ events) (suc earlier) (suc later) is comes = wanted_in_order epoch mask events earlier later is (ComesFirst-tail Mark events earlier later comes)
+wanted_in_order epoch mask (CallEnd ∷ events) zero (suc later) is comes = not_a_store CallEnd comes.first_word comes.first_value (λ w v e. cc) comes.first_is
+wanted_in_order epoch mask (CallEnd ∷ events) (suc earlier) (suc later) is comes = wanted_in_order epoch mask events earlier later is (ComesFirst-tail CallEnd events earlier later comes)
 
 in_order_wanted : (epoch : ℕ) (mask : List Bool) (events : List Event) → IsInOrder events (wanted epoch mask events)
 in_order_wanted epoch mask events = record {
@@ -287,13 +287,13 @@ overwritten words word value (true ∷ mask) (Store place other ∷ events) late
     ]
 overwritten words word value (false ∷ mask) (Store place other ∷ events) later = overwritten words word value mask events later
 overwritten words word value mask (Barrier ∷ events) later = cc
-overwritten words word value mask (Mark ∷ events) later = overwritten words word value mask events later
+overwritten words word value mask (CallEnd ∷ events) later = overwritten words word value mask events later
 
 none_items : (events : List Event) → items_where_true (wanted 0 [] events) events ≡ []
 none_items [] = refl
 none_items (Store place value ∷ events) = none_items events
 none_items (Barrier ∷ events) = none_items events
-none_items (Mark ∷ events) = none_items events
+none_items (CallEnd ∷ events) = none_items events
 
 -- a store that is not kept, and that is wanted where one behind it is kept
 lost : (words : List ℕ) (place value : ℕ) (mask : List Bool) (events : List Event) → ((ws : List ℕ) → words_after ws (items_where_true (wanted 0 mask events) events) ≡ words_after ws (stores_of 0 mask events)) → (later : Bool) → is_kept_later place mask events ≡ later → words_after words (items_where_true (later ∷ wanted 0 mask events) (Store place value ∷ events)) ≡ words_after words (stores_of 0 mask events)
@@ -309,7 +309,7 @@ left_by_wanted words zero (false ∷ mask) (Store place value ∷ events) =
 left_by_wanted words (suc epoch) mask (Store place value ∷ events) = left_by_wanted (set words place value) (suc epoch) mask events
 left_by_wanted words zero mask (Barrier ∷ events) = ap (words_after words) (none_items events)
 left_by_wanted words (suc epoch) mask (Barrier ∷ events) = left_by_wanted words epoch mask events
-left_by_wanted words epoch mask (Mark ∷ events) = left_by_wanted words epoch mask events
+left_by_wanted words epoch mask (CallEnd ∷ events) = left_by_wanted words epoch mask events
 
 -- what any right cut leaves is reached by some steps
 pub replay_reached : (base : List ℕ) (events : List Event) (cut : PowerCut) → IsRight events cut → (steps : List MachineStep) × (state : MachineState) × StepsTo events (machine_over base) steps state × (state.words ≡ replay base events cut)

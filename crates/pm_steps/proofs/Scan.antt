@@ -2,19 +2,19 @@
 use Rattle.std.proofs.Common.{◌≡◌, ℕ, zero, suc, ◌+◌, ◌<◌, inl, inr, Bool, true, false, cond, eqb, Some, List, [], ◌∷◌, ◌++◌, length, take, drop, get_or, refl, sym, ◌∙◌, ap, arith, add-one}
 use Rattle.std.specs.List.{slice_get, items_where_true}
 use Rattle.pm_epochs.specs.declared.event.Event.{Event}
-use Rattle.pm_epochs.specs.declared.event.Event.TheVariants.{Store, Barrier, Mark}
+use Rattle.pm_epochs.specs.declared.event.Event.TheVariants.{Store, Barrier, CallEnd}
 use Rattle.pm_epochs.specs.Log.{words_after, barriers}
 use Rattle.pm_epochs.proofs.CrashLaws.{words_after-append, length-words_after}
 use Rattle.std.proofs.Math.Seq.{drop-nil}
 use Rattle.std.proofs.lemmas.List.{get_or-set_same, get_or-set_other}
 use Rattle.std.proofs.lemmas.Bool.Decides.{eqb_tells}
 use Rattle.pm_epochs.specs.Replay.{epoch_of}
-use Rattle.pm_steps.specs.Machine.{open_epoch, epoch_flags, waiting_marks}
+use Rattle.pm_steps.specs.Machine.{open_epoch, epoch_flags, waiting_call_ends}
 
 abbrev pub barriers_of : Event → ℕ
 barriers_of (Store word value) = 0
 barriers_of Barrier = 1
-barriers_of Mark = 0
+barriers_of CallEnd = 0
 
 epoch_of-suc : (events : List Event) (i : ℕ) (event : Event) → slice_get events i ≡ Some event → epoch_of events (suc i) ≡ epoch_of events i + barriers_of event
 epoch_of-suc [] i event is = cc
@@ -23,10 +23,10 @@ epoch_of-suc (first ∷ events) zero event is = let same : first ≡ event = cc 
     one : (first : Event) → barriers (first ∷ []) ≡ 0 + barriers_of first
     one (Store word value) = omega arith
     one Barrier = omega arith
-    one Mark = omega arith
+    one CallEnd = omega arith
 epoch_of-suc (Store word value ∷ events) (suc i) event is = epoch_of-suc events i event is
 epoch_of-suc (Barrier ∷ events) (suc i) event is = let e = epoch_of-suc events i event is in omega arith
-epoch_of-suc (Mark ∷ events) (suc i) event is = epoch_of-suc events i event is
+epoch_of-suc (CallEnd ∷ events) (suc i) event is = epoch_of-suc events i event is
 
 pub epoch_of_next : (events : List Event) (i : ℕ) (event : Event) → slice_get events i ≡ Some event → epoch_of events (i + 1) ≡ epoch_of events i + barriers_of event
 epoch_of_next events i event is = rw add-one (epoch_of-suc events i event is)
@@ -48,7 +48,7 @@ items_where_true_next back events i flag event flag_is event_is = rw add-one (it
 abbrev pub word_next : Event → Bool → ℕ → ℕ → ℕ
 word_next (Store place value) flag word now = cond flag (cond (eqb place word) value now) now
 word_next Barrier flag word now = now
-word_next Mark flag word now = now
+word_next CallEnd flag word now = now
 
 word_after_event : (words : List ℕ) (flag : Bool) (event : Event) (word : ℕ) → word < length words → get_or (words_after words (cond flag (event ∷ []) [])) word 0 ≡ word_next event flag word (get_or words word 0)
 word_after_event words false (Store place value) word low = refl
@@ -59,8 +59,8 @@ word_after_event words true (Store place value) word low =
     ]
 word_after_event words true Barrier word low = refl
 word_after_event words false Barrier word low = refl
-word_after_event words true Mark word low = refl
-word_after_event words false Mark word low = refl
+word_after_event words true CallEnd word low = refl
+word_after_event words false CallEnd word low = refl
 
 pub image_next : (base : List ℕ) (back : List Bool) (events : List Event) (i : ℕ) (flag : Bool) (event : Event) (word : ℕ) → slice_get back i ≡ Some flag → slice_get events i ≡ Some event → word < length base → get_or (words_after base (items_where_true (take (i + 1) back) events)) word 0 ≡ word_next event flag word (get_or (words_after base (items_where_true (take i back) events)) word 0)
 image_next base back events i flag event word flag_is event_is low =
@@ -84,20 +84,20 @@ epoch_flags-none epoch (event ∷ events) = refl
 abbrev pub waiting_next : Event → Bool → ℕ → ℕ
 waiting_next (Store word value) flag behind = cond flag behind 0
 waiting_next Barrier flag behind = behind
-waiting_next Mark flag behind = suc behind
+waiting_next CallEnd flag behind = suc behind
 
-waiting_marks-cons : (event : Event) (events : List Event) (back : List Bool) → waiting_marks (event ∷ events) back ≡ waiting_next event (get_or back 0 false) (waiting_marks events (drop 1 back))
-waiting_marks-cons (Store word value) events [] = refl
-waiting_marks-cons (Store word value) events (true ∷ back) = refl
-waiting_marks-cons (Store word value) events (false ∷ back) = refl
-waiting_marks-cons Barrier events back = refl
-waiting_marks-cons Mark events back = refl
+waiting_call_ends-cons : (event : Event) (events : List Event) (back : List Bool) → waiting_call_ends (event ∷ events) back ≡ waiting_next event (get_or back 0 false) (waiting_call_ends events (drop 1 back))
+waiting_call_ends-cons (Store word value) events [] = refl
+waiting_call_ends-cons (Store word value) events (true ∷ back) = refl
+waiting_call_ends-cons (Store word value) events (false ∷ back) = refl
+waiting_call_ends-cons Barrier events back = refl
+waiting_call_ends-cons CallEnd events back = refl
 
-waiting_marks-suc : (events : List Event) (back : List Bool) (i : ℕ) (none : Event) → i < length events → waiting_marks (drop i events) (drop i back) ≡ waiting_next (get_or events i none) (get_or back i false) (waiting_marks (drop (suc i) events) (drop (suc i) back))
-waiting_marks-suc [] back i none low = absurd (omega arith)
-waiting_marks-suc (event ∷ events) back zero none low = waiting_marks-cons event events back
-waiting_marks-suc (event ∷ events) [] (suc i) none low = rw drop-nil at (waiting_marks-suc events [] i none (omega arith))
-waiting_marks-suc (event ∷ events) (flag ∷ back) (suc i) none low = waiting_marks-suc events back i none (omega arith)
+waiting_call_ends-suc : (events : List Event) (back : List Bool) (i : ℕ) (none : Event) → i < length events → waiting_call_ends (drop i events) (drop i back) ≡ waiting_next (get_or events i none) (get_or back i false) (waiting_call_ends (drop (suc i) events) (drop (suc i) back))
+waiting_call_ends-suc [] back i none low = absurd (omega arith)
+waiting_call_ends-suc (event ∷ events) back zero none low = waiting_call_ends-cons event events back
+waiting_call_ends-suc (event ∷ events) [] (suc i) none low = rw drop-nil at (waiting_call_ends-suc events [] i none (omega arith))
+waiting_call_ends-suc (event ∷ events) (flag ∷ back) (suc i) none low = waiting_call_ends-suc events back i none (omega arith)
 
-pub waiting_marks-drop : (events : List Event) (back : List Bool) (i : ℕ) (none : Event) → i < length events → waiting_marks (drop i events) (drop i back) ≡ waiting_next (get_or events i none) (get_or back i false) (waiting_marks (drop (i + 1) events) (drop (i + 1) back))
-waiting_marks-drop events back i none low = rw add-one (waiting_marks-suc events back i none low)
+pub waiting_call_ends-drop : (events : List Event) (back : List Bool) (i : ℕ) (none : Event) → i < length events → waiting_call_ends (drop i events) (drop i back) ≡ waiting_next (get_or events i none) (get_or back i false) (waiting_call_ends (drop (i + 1) events) (drop (i + 1) back))
+waiting_call_ends-drop events back i none low = rw add-one (waiting_call_ends-suc events back i none low)

@@ -4,7 +4,7 @@ use Rattle.std.specs.Prelude.{MatchOption}
 use Rattle.std.specs.List.{slice_get}
 use Rattle.std.proofs.lemmas.Bool.{cases_lt}
 use Rattle.pm_epochs.specs.declared.event.Event.{Event}
-use Rattle.pm_epochs.specs.declared.event.Event.TheVariants.{Store, Barrier, Mark}
+use Rattle.pm_epochs.specs.declared.event.Event.TheVariants.{Store, Barrier, CallEnd}
 use Rattle.pm_epochs.specs.Replay.{epoch_of}
 use Rattle.pm_steps.specs.Machine.{is_some_store, ComesFirst, IsFirstMissing, IsBackBelow, AllToBack, IsFirstTo}
 
@@ -16,7 +16,7 @@ epoch_of-le (event ∷ events) zero j low = omega arith
 epoch_of-le (event ∷ events) (suc i) zero low = absurd (omega arith)
 epoch_of-le (Store word value ∷ events) (suc i) (suc j) low = epoch_of-le events i j (omega arith)
 epoch_of-le (Barrier ∷ events) (suc i) (suc j) low = let more = epoch_of-le events i j (omega arith) in omega arith
-epoch_of-le (Mark ∷ events) (suc i) (suc j) low = epoch_of-le events i j (omega arith)
+epoch_of-le (CallEnd ∷ events) (suc i) (suc j) low = epoch_of-le events i j (omega arith)
 
 module _ (events : List Event) (back : List Bool) (which low word value : ℕ) (is : slice_get events which ≡ Some (Store word value)) (below : IsBackBelow events back low) (same_epoch : epoch_of events low ≡ epoch_of events which) where
   -- with no barrier from there on, only the stores to the same word must

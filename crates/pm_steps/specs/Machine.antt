@@ -3,7 +3,7 @@
 use Rattle.std.specs.Prelude.{◌≡◌, ℕ, ◌<◌, ◌≤◌, ◌⊎◌, Bool, true, false, Option, Some, None, List, [], ◌∷◌, ◌++◌, length, drop, replicate, slice_get, slice_set}
 use Rattle.std.proofs.Common.{zero, suc}
 use Rattle.pm_epochs.specs.declared.event.Event.{Event}
-use Rattle.pm_epochs.specs.declared.event.Event.TheVariants.{Store, Barrier, Mark}
+use Rattle.pm_epochs.specs.declared.event.Event.TheVariants.{Store, Barrier, CallEnd}
 use Rattle.pm_epochs.specs.Replay.{PowerCut, is_store, epoch_of}
 
 -- One flag for each event that the processor has executed: whether it is a store that is written back. And the words
@@ -104,7 +104,7 @@ after_write_back state which (Some (Store word value)) = record {
   words = slice_set state.words word value;
 }
 after_write_back state which (Some Barrier) = state
-after_write_back state which (Some Mark) = state
+after_write_back state which (Some CallEnd) = state
 after_write_back state which None = state
 
 -- The state after a step.
@@ -136,7 +136,7 @@ open_epoch (event ∷ events) [] = 0
 open_epoch (Store word value ∷ events) (true ∷ back) = open_epoch events back
 open_epoch (Store word value ∷ events) (false ∷ back) = 0
 open_epoch (Barrier ∷ events) (flag ∷ back) = suc (open_epoch events back)
-open_epoch (Mark ∷ events) (flag ∷ back) = open_epoch events back
+open_epoch (CallEnd ∷ events) (flag ∷ back) = open_epoch events back
 
 -- The flags of the stores of an epoch, as far as they were executed.
 abbrev pub epoch_flags : ℕ → List Event → List Bool → List Bool
@@ -146,7 +146,7 @@ epoch_flags zero (Store word value ∷ events) (flag ∷ back) = flag ∷ epoch_
 epoch_flags (suc epoch) (Store word value ∷ events) (flag ∷ back) = epoch_flags (suc epoch) events back
 epoch_flags zero (Barrier ∷ events) (flag ∷ back) = []
 epoch_flags (suc epoch) (Barrier ∷ events) (flag ∷ back) = epoch_flags epoch events back
-epoch_flags epoch (Mark ∷ events) (flag ∷ back) = epoch_flags epoch events back
+epoch_flags epoch (CallEnd ∷ events) (flag ∷ back) = epoch_flags epoch events back
 
 -- The crash point of a machine with these flags.
 abbrev pub cut_of : List Event → List Bool → PowerCut
@@ -157,10 +157,10 @@ cut_of events back = record {
 }
 
 -- The number of end-of-call markers before the first store that is not written back.
-abbrev pub waiting_marks : List Event → List Bool → ℕ
-waiting_marks [] back = 0
-waiting_marks (Store word value ∷ events) [] = 0
-waiting_marks (Store word value ∷ events) (true ∷ back) = waiting_marks events back
-waiting_marks (Store word value ∷ events) (false ∷ back) = 0
-waiting_marks (Barrier ∷ events) back = waiting_marks events (drop 1 back)
-waiting_marks (Mark ∷ events) back = suc (waiting_marks events (drop 1 back))
+abbrev pub waiting_call_ends : List Event → List Bool → ℕ
+waiting_call_ends [] back = 0
+waiting_call_ends (Store word value ∷ events) [] = 0
+waiting_call_ends (Store word value ∷ events) (true ∷ back) = waiting_call_ends events back
+waiting_call_ends (Store word value ∷ events) (false ∷ back) = 0
+waiting_call_ends (Barrier ∷ events) back = waiting_call_ends events (drop 1 back)
+waiting_call_ends (CallEnd ∷ events) back = suc (waiting_call_ends events (drop 1 back))

@@ -1,9 +1,9 @@
 //! The processor and the write-back engine, over a region's log.
 
 ghost use Rattle.std.specs.Prelude.{◌≡◌, ◌<◌, ◌≤◌, ◌↔◌, [], ◌∷◌, ◌++◌, IsOk, OnOk, IfErr, OnErr, length, slice_get, slice_index, slice_set, Some, true, false};
-ghost use Rattle.pm_epochs.specs.Log.{marks};
+ghost use Rattle.pm_epochs.specs.Log.{call_ends};
 ghost use Rattle.pm_epochs.specs.Replay.{IsRight, epoch_of, kept_calls};
-ghost use Rattle.pm_steps.specs.Machine.{IsInOrder, MayGoBack, IsFirstMissing, IsBackBelow, IsWaiting, is_some_store, cut_of, open_epoch, epoch_flags, waiting_marks};
+ghost use Rattle.pm_steps.specs.Machine.{IsInOrder, MayGoBack, IsFirstMissing, IsBackBelow, IsWaiting, is_some_store, cut_of, open_epoch, epoch_flags, waiting_call_ends};
 ghost use Rattle.pm_steps.specs.Runs.{FindsFirstTo, FindsMissing, words_in};
 
 use super::backs::Backs;
@@ -147,11 +147,11 @@ impl<'a, R: Region> Machine<'a, R> {
     pub fn kept(&self) -> Kept
         ensures c { result.c ≡ kept_calls (R.memory self.now.region.now).events
             (cut_of (R.memory self.now.region.now).events self.now.backs.now.back) }
-        ensures n { result.n ≡ marks (R.memory self.now.region.now).events }
+        ensures n { result.n ≡ call_ends (R.memory self.now.region.now).events }
     {
         Kept {
-            c: waiting_mark_count(self.region, self.backs),
-            n: mark_count(self.region),
+            c: waiting_call_end_count(self.region, self.backs),
+            n: call_end_count(self.region),
         }
     }
 }
@@ -167,7 +167,7 @@ fn is_done<R: Region>(region: &R, backs: &Backs, which: usize) -> bool
     match region.kind(which) {
         EventKind::Store(_) => backs.is_back(which),
         EventKind::Barrier => true,
-        EventKind::Mark => true,
+        EventKind::CallEnd => true,
     }
 }
 
@@ -199,7 +199,7 @@ fn has_barrier<R: Region>(region: &R, from: usize, to: usize) -> bool
         match region.kind(i) {
             EventKind::Store(_) => {}
             EventKind::Barrier => return true,
-            EventKind::Mark => {}
+            EventKind::CallEnd => {}
         }
     }
     false
@@ -226,7 +226,7 @@ fn first_waiting_to<R: Region>(
                 }
             }
             EventKind::Barrier => {}
-            EventKind::Mark => {}
+            EventKind::CallEnd => {}
         }
     }
     None
@@ -244,7 +244,7 @@ fn first_missing<R: Region>(region: &R, backs: &Backs, low: usize, which: usize)
     let word = match region.kind(which) {
         EventKind::Store(word) => word,
         EventKind::Barrier => unreachable!(),
-        EventKind::Mark => unreachable!(),
+        EventKind::CallEnd => unreachable!(),
     };
     if low >= which {
         return None;
@@ -272,7 +272,7 @@ fn image_word_of<R: Region>(region: &R, backs: &Backs, word: u64) -> u64
                 }
             }
             EventKind::Barrier => {}
-            EventKind::Mark => {}
+            EventKind::CallEnd => {}
         }
     }
     region.word_at(moment, word)
@@ -294,7 +294,7 @@ fn open_epoch_at<R: Region>(region: &R, backs: &Backs) -> usize
                 }
             }
             EventKind::Barrier => passed += 1,
-            EventKind::Mark => {}
+            EventKind::CallEnd => {}
         }
     }
     passed
@@ -324,14 +324,14 @@ fn push_flags<R: Region>(region: &R, backs: &Backs, epoch: usize, choice: &mut C
                 }
                 left -= 1;
             }
-            EventKind::Mark => {}
+            EventKind::CallEnd => {}
         }
     }
 }
 
 /// Returns the number of end-of-call markers before the first store that is not written back.
-fn waiting_mark_count<R: Region>(region: &R, backs: &Backs) -> usize
-    ensures { result ≡ waiting_marks (R.memory region.now).events backs.now.back }
+fn waiting_call_end_count<R: Region>(region: &R, backs: &Backs) -> usize
+    ensures { result ≡ waiting_call_ends (R.memory region.now).events backs.now.back }
 {
     let mut count = 0;
     for i in 0..region.event_count() {
@@ -343,19 +343,19 @@ fn waiting_mark_count<R: Region>(region: &R, backs: &Backs) -> usize
                 }
             }
             EventKind::Barrier => {}
-            EventKind::Mark => count += 1,
+            EventKind::CallEnd => count += 1,
         }
     }
     count
 }
 
 /// Returns the number of end-of-call markers in the log.
-fn mark_count<R: Region>(region: &R) -> usize
-    ensures { result ≡ marks (R.memory region.now).events }
+fn call_end_count<R: Region>(region: &R) -> usize
+    ensures { result ≡ call_ends (R.memory region.now).events }
 {
     let mut count = 0;
     for i in 0..region.event_count() {
-        if let EventKind::Mark = region.kind(i) {
+        if let EventKind::CallEnd = region.kind(i) {
             count += 1;
         }
     }

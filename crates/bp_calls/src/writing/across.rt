@@ -17,11 +17,11 @@ ghost use Rattle.bp_layout.specs.Inode.{root_of, size_of};
 ghost use Rattle.bp_layout.specs.Need.Change.{writes};
 ghost use Rattle.bp_layout.specs.WordPaths.{inode_path};
 ghost use Rattle.bp_layout.specs.Words.{height_of};
-ghost use Rattle.bp_shapes.specs.Sets.{kept_of};
+ghost use Rattle.bp_shapes.specs.Sets.{in_snapshot_of};
 ghost use Rattle.pm_region.specs.Memory.{words_in};
 
 use crate::thawing::enough_free;
-use bp_append::{height_with, need_prep, prep};
+use bp_append::{height_with, need_prep, stage_append};
 use bp_cow::{FoundWays, Run, Touched, commit_at, copies_below, find_ways};
 use bp_free::{NoSpace, Parts};
 use bp_inodes::{root_path, size_path};
@@ -32,22 +32,22 @@ use std::slice;
 /// Returns the run of bytes that lie below the size of a file, in its tree once it is high enough for an end.
 fn run_across<'a, R: Region>(
     region: &R,
-    i: u32,
+    ino: u32,
     tree: Tree,
-    off: u64,
+    offset: u64,
     below: &'a [u8],
     end: u64,
 ) -> Run<'a>
     requires some { 4 ≤ length (words_in R.memory region.now) }
-    requires root { tree.root ≡ root_of (words_in R.memory region.now) i }
-    requires size { tree.size ≡ size_of (words_in R.memory region.now) i }
-    ensures { IsRunAcross (words_in R.memory region.now) i off end below.now result }
+    requires root { tree.root ≡ root_of (words_in R.memory region.now) ino }
+    requires size { tree.size ≡ size_of (words_in R.memory region.now) ino }
+    ensures { IsRunAcross (words_in R.memory region.now) ino offset end below.now result }
 {
     Run {
-        root: root_path(region, i),
+        root: root_path(region, ino),
         height: height_with(tree, end),
         size: end,
-        off,
+        offset,
         bytes: below,
     }
 }
@@ -60,7 +60,7 @@ struct Plan<'a> {
     /// The file's tree, before the write.
     tree: Tree,
     /// The offset of the bytes, which is below the size.
-    off: u64,
+    offset: u64,
     /// The bytes, which end past the size.
     bytes: &'a [u8],
     /// The path of the word of the size, and its new value: the end of the bytes.
@@ -70,24 +70,30 @@ struct Plan<'a> {
 }
 
 /// Plans a write of bytes across the size of a file, given its tree.
-fn plan_write<'a, R: Region>(region: &R, i: u32, tree: Tree, off: u64, bytes: &'a [u8]) -> Plan<'a>
+fn plan_write<'a, R: Region>(
+    region: &R,
+    ino: u32,
+    tree: Tree,
+    offset: u64,
+    bytes: &'a [u8],
+) -> Plan<'a>
     requires some { 4 ≤ length (words_in R.memory region.now) }
-    requires root { tree.root ≡ root_of (words_in R.memory region.now) i }
-    requires size { tree.size ≡ size_of (words_in R.memory region.now) i }
-    requires can { CanWrite (words_in R.memory region.now) i off bytes.now }
-    requires below { off < size_of (words_in R.memory region.now) i }
-    requires past { size_of (words_in R.memory region.now) i < off + length bytes.now }
-    ensures { IsPlanFor (words_in R.memory region.now) i off bytes.now result }
+    requires root { tree.root ≡ root_of (words_in R.memory region.now) ino }
+    requires size { tree.size ≡ size_of (words_in R.memory region.now) ino }
+    requires can { CanWrite (words_in R.memory region.now) ino offset bytes.now }
+    requires below { offset < size_of (words_in R.memory region.now) ino }
+    requires past { size_of (words_in R.memory region.now) ino < offset + length bytes.now }
+    ensures { IsPlanFor (words_in R.memory region.now) ino offset bytes.now result }
 {
-    let end = off + bytes.len() as u64;
-    let (below, _) = bytes.split_at((tree.size - off) as usize);
+    let end = offset + bytes.len() as u64;
+    let (below, _) = bytes.split_at((tree.size - offset) as usize);
     Plan {
-        inode: i,
+        inode: ino,
         tree,
-        off,
+        offset,
         bytes,
-        sized: (size_path(region, i), end),
-        run: run_across(region, i, tree, off, below, end),
+        sized: (size_path(region, ino), end),
+        run: run_across(region, ino, tree, offset, below, end),
     }
 }
 
@@ -118,7 +124,7 @@ fn need_found<R: Region>(
     ensures need { result ≡ need (image_in R.memory parts.now) (planned_change plan.now) }
     ensures few { result ≤ most_for_write }
 {
-    let end = plan.off + plan.bytes.len() as u64;
+    let end = plan.offset + plan.bytes.len() as u64;
     let copied = copies_below(touched, found);
     need_prep(&parts.region, plan.tree, plan.tree.size, end) + copied
 }
@@ -126,21 +132,21 @@ fn need_found<R: Region>(
 /// Returns the number of blocks that bytes take that begin below the size of a file and end past it, given its tree.
 pub(crate) fn need_across<R: Region>(
     parts: &Parts<R>,
-    i: u32,
+    ino: u32,
     tree: Tree,
-    off: u64,
+    offset: u64,
     bytes: &[u8],
 ) -> u32
-    requires root { tree.root ≡ root_of (image_in R.memory parts.now) i }
-    requires size { tree.size ≡ size_of (image_in R.memory parts.now) i }
+    requires root { tree.root ≡ root_of (image_in R.memory parts.now) ino }
+    requires size { tree.size ≡ size_of (image_in R.memory parts.now) ino }
     requires mounted { IsMountedIn R.memory parts.now }
-    requires can { CanWrite (image_in R.memory parts.now) i off bytes.now }
-    requires below { off < size_of (image_in R.memory parts.now) i }
-    requires past { size_of (image_in R.memory parts.now) i < off + length bytes.now }
-    ensures need { result ≡ need (image_in R.memory parts.now) (writes i off (length bytes.now)) }
+    requires can { CanWrite (image_in R.memory parts.now) ino offset bytes.now }
+    requires below { offset < size_of (image_in R.memory parts.now) ino }
+    requires past { size_of (image_in R.memory parts.now) ino < offset + length bytes.now }
+    ensures need { result ≡ need (image_in R.memory parts.now) (writes ino offset (length bytes.now)) }
     ensures few { result ≤ most_for_write }
 {
-    let plan = plan_write(&parts.region, i, tree, off, bytes);
+    let plan = plan_write(&parts.region, ino, tree, offset, bytes);
     let touched = touched_across(&plan);
     let found = find_ways(&parts.region, &touched);
     need_found(parts, &plan, &touched, &found)
@@ -160,17 +166,17 @@ fn write_planned<R: Region>(
     requires root { plan.now.run.root.items ≡
         inode_path (height_of (root_of (image_in R.memory parts.old) 0)) plan.now.inode 1 }
     requires small { (k : ℕ) → slice_index plan.now.bytes.now k < 256 }
-    requires clear { thawed (image_in R.memory parts.old) (kept_of parts.old) (planned_change plan.now) ≡ [] }
-    requires room { HasRoomThawed (R.memory parts.old.region) parts.old.blocks (planned_change plan.now) }
-    requires enough { need (image_in R.memory parts.old) (planned_change plan.now) ≤ length (members parts.old.blocks) }
+    requires clear { thawed (image_in R.memory parts.old) (in_snapshot_of parts.old) (planned_change plan.now) ≡ [] }
+    requires room { HasRoomThawed (R.memory parts.old.region) parts.old.free_blocks (planned_change plan.now) }
+    requires enough { need (image_in R.memory parts.old) (planned_change plan.now) ≤ length (members parts.old.free_blocks) }
     requires found { AreWaysIn (image_in R.memory parts.old) touched.now found.now }
     ensures { CommitsChange R.memory parts.old parts.new (planned_change plan.now)
-        (WritesFile plan.now.inode plan.now.off plan.now.bytes.now) }
+        (WritesFile plan.now.inode plan.now.offset plan.now.bytes.now) }
 {
     let size = plan.tree.size;
-    let end = plan.off + plan.bytes.len() as u64;
-    let (_, beyond) = plan.bytes.split_at((size - plan.off) as usize);
-    prep(parts, &plan.run.root, size, beyond, end);
+    let end = plan.offset + plan.bytes.len() as u64;
+    let (_, beyond) = plan.bytes.split_at((size - plan.offset) as usize);
+    stage_append(parts, &plan.run.root, size, beyond, end);
     commit_at(parts, touched, found);
 }
 
@@ -184,20 +190,20 @@ fn write_planned<R: Region>(
 /// - `NoSpace`: fewer blocks are free than the write needs.
 pub(crate) fn write_across<R: Region>(
     parts: &mut Parts<R>,
-    i: u32,
+    ino: u32,
     tree: Tree,
-    off: u64,
+    offset: u64,
     bytes: &[u8],
 ) -> Result<(), NoSpace>
-    requires root { tree.root ≡ root_of (image_in R.memory parts.old) i }
-    requires size { tree.size ≡ size_of (image_in R.memory parts.old) i }
-    requires can { CanWriteThawed (kept_of parts.old) (R.memory parts.old.region) parts.old.blocks parts.old.inodes i off bytes.now }
+    requires root { tree.root ≡ root_of (image_in R.memory parts.old) ino }
+    requires size { tree.size ≡ size_of (image_in R.memory parts.old) ino }
+    requires can { CanWriteThawed (in_snapshot_of parts.old) (R.memory parts.old.region) parts.old.free_blocks parts.old.free_inodes ino offset bytes.now }
     requires exact { IsExactIn R.memory parts.old }
-    requires below { off < size_of (image_in R.memory parts.old) i }
-    requires past { size_of (image_in R.memory parts.old) i < off + length bytes.now }
-    ensures { CommitsOrLacksBlocks R.memory parts.old parts.new result (writes i off (length bytes.now)) (WritesFile i off bytes.now) }
+    requires below { offset < size_of (image_in R.memory parts.old) ino }
+    requires past { size_of (image_in R.memory parts.old) ino < offset + length bytes.now }
+    ensures { CommitsOrLacksBlocks R.memory parts.old parts.new result (writes ino offset (length bytes.now)) (WritesFile ino offset bytes.now) }
 {
-    let plan = plan_write(&parts.region, i, tree, off, bytes);
+    let plan = plan_write(&parts.region, ino, tree, offset, bytes);
     let touched = touched_across(&plan);
     let found = find_ways(&parts.region, &touched);
     let need = need_found(parts, &plan, &touched, &found);

@@ -95,7 +95,7 @@ impl FileMap {
             ≡ plain.piece_refusal self.now.nodes (piece_in text.now piece.now)) }
     {
         let path = path_of(alloc, part_of(text, piece.path))?;
-        let end = u128::from(piece.off) + part_of(text, piece.bytes).len() as u128;
+        let end = u128::from(piece.offset) + part_of(text, piece.bytes).len() as u128;
         Ok(first(&[
             self.refuses_file(&path),
             when(end > self.bytes(&path).len() as u128, FsError::PastEnd),
@@ -125,7 +125,7 @@ impl FileMap {
         let bytes = part_of(text, piece.bytes);
         if !bytes.is_empty() {
             let path = path_of(alloc, part_of(text, piece.path))?;
-            self.write(alloc, &path, piece.off, bytes)?;
+            self.write(alloc, &path, piece.offset, bytes)?;
         }
         Ok(())
     }

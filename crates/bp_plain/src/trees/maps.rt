@@ -217,15 +217,15 @@ impl FileMap {
         &self,
         alloc: Global,
         text: &[u8],
-        off: u64,
+        offset: u64,
         len: usize,
         reply: &mut Reply,
     ) -> Result<(), AllocError>
         requires { len ≤ max_read }
-        ensures { OnOk result (reply.new.answer ≡ plain.read_answer self.now.nodes text.now off len) }
+        ensures { OnOk result (reply.new.answer ≡ plain.read_answer self.now.nodes text.now offset len) }
     {
         let path = path_of(alloc, text)?;
-        answer_bytes(reply, part(self.bytes(&path), off, len));
+        answer_bytes(reply, part(self.bytes(&path), offset, len));
         Ok(())
     }
 
@@ -321,18 +321,18 @@ impl FileMap {
         self.files.take(path);
     }
 
-    /// Writes bytes to the file at a path, from byte `off` on.
+    /// Writes bytes to the file at a path, from byte `offset` on.
     pub(super) fn write(
         &mut self,
         alloc: Global,
         path: &[Name],
-        off: u64,
+        offset: u64,
         new: &[u8],
     ) -> Result<(), AllocError>
-        ensures written { OnOk result (self.new ≡ plain.with_written self.old (names_of path.now) off new.now) }
+        ensures written { OnOk result (self.new ≡ plain.with_written self.old (names_of path.now) offset new.now) }
         ensures kept { OnErr result (self.new ≡ self.old) }
     {
-        let content = written(alloc, self.bytes(path), off as usize, new)?;
+        let content = written(alloc, self.bytes(path), offset as usize, new)?;
         self.set_content(alloc, path, &content)
     }
 

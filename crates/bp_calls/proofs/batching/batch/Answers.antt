@@ -4,11 +4,11 @@ use Rattle.bp_layout.specs.Need.Change.{overwrites}
 use Rattle.bp_changes.specs.Overwrites.{OverwritesFiles}
 use Rattle.bp_calls.specs.Overwritten.{patches_seen, stretches_of}
 use Rattle.bp_calls.proofs.CommitLaws.{commits_at_once, commits_thawed, lacking_space}
-use Rattle.bp_calls.proofs.NothingKept.{clear_at_once}
+use Rattle.bp_calls.proofs.NothingInSnapshot.{clear_at_once}
 use Rattle.bp_calls.proofs.PatchCommits.{overwrites_at_once, overwrites_enough, overwrites_of, overwrites_thawed}
 use Rattle.bp_calls.proofs.batching.batch.Goals as goal
 
--- ---- where no block is kept
+-- ---- where no block is in the snapshot
 
 pub overlay-requires-clause-can : goal.overlay-requires-clause-can
 overlay-requires-clause-can g c =

@@ -10,7 +10,7 @@ use Rattle.bp_calls.proofs.batching.runs_of.Goals.{then-not-is_empty, else-not-i
 
 -- in place of a patch that is not there
 abbrev no_patch : Patch
-no_patch = record { inode = 0; off = 0; bytes = record { ref_ptr = (0, 0); now = [] } }
+no_patch = record { inode = 0; offset = 0; bytes = record { ref_ptr = (0, 0); now = [] } }
 
 pub loop-patch-init : goal.loop-patch-init
 loop-patch-init g c = record {

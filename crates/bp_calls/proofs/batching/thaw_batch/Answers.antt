@@ -36,7 +36,7 @@ plan g c here = record {
 pub covering-targets-requires : goal.covering-targets-requires
 covering-targets-requires g c =
     let here = touches g (goal.at.covering-targets-requires g c).After-touched_by-touched in
-    let leads = touched_leads here (has c.args.parts.now.blocks) c.requires.mounted.exact.sets.free_blocks in
+    let leads = touched_leads here (has c.args.parts.now.free_blocks) c.requires.mounted.exact.sets.free_blocks in
     record { touched = overwrite_shape here; some = search rules; in_range = leads }
 
 pub need_cover-copies-requires : goal.need_cover-copies-requires
@@ -46,8 +46,8 @@ need_cover-copies-requires g c =
     record {
       touched = overwrite_shape here;
       some = search rules;
-      in_range = touched_leads here (has c.args.parts.now.blocks) free;
-      apart = touched_apart here (has c.args.parts.now.blocks) free;
+      in_range = touched_leads here (has c.args.parts.now.free_blocks) free;
+      apart = touched_apart here (has c.args.parts.now.free_blocks) free;
     }
 
 -- ## The word that covers the bytes is all that the change is near
@@ -58,7 +58,7 @@ thaw_before-requires g c =
     let here = touches g at.After-touched_by-touched in
     let planned = plan g at.After-need_cover-copies here in
     let are = c.covering-targets.ensures ∙ overwrite_targets here in
-    let few = touched_few here (has c.args.parts.now.blocks) c.requires.mounted.exact.sets.free_blocks in
+    let few = touched_few here (has c.args.parts.now.free_blocks) c.requires.mounted.exact.sets.free_blocks in
     record {
       mounted = c.requires.mounted;
       ways = leads_in planned are;

@@ -22,7 +22,7 @@ least : (g : Over) (c : Start g) → (free : Option ℕ) × IsLeastFree (current
 least g c =
     let parts = c.args.parts.now in
     let mounted = c.requires.mounted in
-    is_told (current_words (g.R.Region.memory parts.region)) mounted.well_formed parts.blocks parts.inodes mounted.exact.sets c.args.dir
+    is_told (current_words (g.R.Region.memory parts.region)) mounted.well_formed parts.free_blocks parts.free_inodes mounted.exact.sets c.args.dir
     c.requires.reached c.requires.directory
 
 pub enter_new-requires-clause-lacks : goal.enter_new-requires-clause-lacks
@@ -68,7 +68,7 @@ returns-in-Ok g c =
           performed_thawed memory (enters c.args.dir (entrant_of free)) parts c.thaw_new.new.parts c.requires.mounted (c.requires.reached, c.requires.directory) done
           c.enter_new.new.parts (EntersName c.args.dir c.args.name.now c.args.kind)
           (c.enter_new.ensures.performs free (least_on image (current_words (memory c.thaw_new.new.parts.region)) c.requires.mounted.well_formed done.thaws.shape free least));
-      frozen = c.enter_new.ensures.frozen ∙ (c.in-Ok.ensures.thaws told.0 told.1).frozen;
+      snapshot_blocks = c.enter_new.ensures.snapshot_blocks ∙ (c.in-Ok.ensures.thaws told.0 told.1).snapshot_blocks;
       exact = c.enter_new.ensures.exact;
       refused = tt;
       same = tt;
@@ -79,7 +79,7 @@ returns-in-Err g c =
     let memory = g.R.Region.memory in
     record {
       performs = tt;
-      frozen = ap (λ (parts : Parts g.row.R.Denot). parts.frozen) c.in-Err.ensures.same;
+      snapshot_blocks = ap (λ (parts : Parts g.row.R.Denot). parts.snapshot_blocks) c.in-Err.ensures.same;
       exact = subst (λ (parts : Parts g.row.R.Denot). IsExact (current_words (memory parts.region)) parts) (sym c.in-Err.ensures.same) c.requires.mounted.exact;
       refused = c.in-Err.ensures.refused;
       same = c.in-Err.ensures.same;

@@ -30,7 +30,7 @@ returns-in-Some-clause-paths g c =
     ∙ ap₂ (λ (ps qs : List WordPath). ps ++ qs) c.entering-targets.ensures.paths
     (ap (λ (p : WordPath). p ∷ []) (c.word_path.ensures ∙ row_path_at image j c.inode_file-inodes.result.root _ c.inode_file-inodes.ensures.root (omega (arith, c.from.ensures))))
     ∙ more_targets image c.requires.mounted.well_formed c.args.dir c.requires.reached c.requires.directory (taken j)
-    ∙ ap (λ (o : Option ℕ). targets image (enters c.args.dir (entrant_of o))) (sym (is_least image parts.blocks parts.inodes c.requires.mounted.exact.sets j c.in-Some.ensures.least free least))
+    ∙ ap (λ (o : Option ℕ). targets image (enters c.args.dir (entrant_of o))) (sym (is_least image parts.free_blocks parts.free_inodes c.requires.mounted.exact.sets j c.in-Some.ensures.least free least))
 
 pub returns-in-None-clause-paths : goal.returns-in-None-clause-paths
 returns-in-None-clause-paths g c =
@@ -40,4 +40,4 @@ returns-in-None-clause-paths g c =
     c.push_end.ensures image 0 c.new.ensures c.inode_file-inodes.ensures.root c.inode_file-inodes.ensures.size
     ∙ ap (λ (ps : List WordPath). ps ++ root_path_now image 0 ∷ end_path_now image 0 ∷ []) c.entering-targets.ensures.paths
     ∙ more_targets image c.requires.mounted.well_formed c.args.dir c.requires.reached c.requires.directory grown
-    ∙ ap (λ (o : Option ℕ). targets image (enters c.args.dir (entrant_of o))) (sym (is_none image parts.blocks parts.inodes c.requires.mounted.exact.sets c.in-None.ensures.least free least))
+    ∙ ap (λ (o : Option ℕ). targets image (enters c.args.dir (entrant_of o))) (sym (is_none image parts.free_blocks parts.free_inodes c.requires.mounted.exact.sets c.in-None.ensures.least free least))

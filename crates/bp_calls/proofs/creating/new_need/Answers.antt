@@ -10,10 +10,10 @@ entry_need-entry-requires-clause-slot g c = c.requires.slot
 
 pub returns-then-count-gt0-clause-need : goal.returns-then-count-gt0-clause-need
 returns-then-count-gt0-clause-need g c =
-    some_needs (current_words (g.R.Region.memory c.args.parts.now.region)) c.requires.mounted.well_formed c.args.parts.now.blocks c.args.parts.now.inodes c.requires.mounted.exact.sets c.args.dir c.requires.reached c.requires.directory
-    (some_members (members c.args.parts.now.inodes) (λ e. omega (arith, c.if-count-gt0.true, c.count.ensures, e))) c.entry_need-entry.result c.entry_need-entry.ensures.need
+    some_needs (current_words (g.R.Region.memory c.args.parts.now.region)) c.requires.mounted.well_formed c.args.parts.now.free_blocks c.args.parts.now.free_inodes c.requires.mounted.exact.sets c.args.dir c.requires.reached c.requires.directory
+    (some_members (members c.args.parts.now.free_inodes) (λ e. omega (arith, c.if-count-gt0.true, c.count.ensures, e))) c.entry_need-entry.result c.entry_need-entry.ensures.need
 
 pub returns-clause-need : goal.returns-clause-need
 returns-clause-need g c =
-    none_needs (current_words (g.R.Region.memory c.args.parts.now.region)) c.requires.mounted.well_formed c.args.parts.now.blocks c.args.parts.now.inodes c.requires.mounted.exact.sets c.args.dir c.requires.reached c.requires.directory
-    (no_members (members c.args.parts.now.inodes) (omega (arith, c.count.ensures, c.if-count-gt0.false))) c.entry_need-entry.result c.grow_need.result c.entry_need-entry.ensures.need c.grow_need.ensures.need
+    none_needs (current_words (g.R.Region.memory c.args.parts.now.region)) c.requires.mounted.well_formed c.args.parts.now.free_blocks c.args.parts.now.free_inodes c.requires.mounted.exact.sets c.args.dir c.requires.reached c.requires.directory
+    (no_members (members c.args.parts.now.free_inodes) (omega (arith, c.count.ensures, c.if-count-gt0.false))) c.entry_need-entry.result c.grow_need.result c.entry_need-entry.ensures.need c.grow_need.ensures.need

@@ -27,7 +27,7 @@ plan g c free least =
       mounted = mounted;
       reached = (c.requires.reached, c.requires.directory);
       leads = enter_ways image mounted.well_formed c.args.dir c.requires.reached c.requires.directory (entrant_of free)
-          (entrant_inside image mounted.well_formed parts.blocks parts.inodes mounted.exact.sets c.args.dir c.requires.reached c.requires.directory free least);
+          (entrant_inside image mounted.well_formed parts.free_blocks parts.free_inodes mounted.exact.sets c.args.dir c.requires.reached c.requires.directory free least);
       needs = c.new_need-need.ensures.need free least;
       room = c.requires.room free least;
     }
@@ -41,7 +41,7 @@ pub returns-then-count-eq0 : goal.returns-then-count-eq0
 returns-then-count-eq0 g c =
     let planned = plan g (goal.at.returns-then-count-eq0 g c).After-new_need-need in
     let none = sym c.count.ensures ∙ c.if-count-eq0.true in
-    let enough : c.new_need-need.result ≤ length (members c.args.parts.now.blocks) = omega (arith, c.count-free.ensures, c.if-free-need.false) in
+    let enough : c.new_need-need.result ≤ length (members c.args.parts.now.free_blocks) = omega (arith, c.count-free.ensures, c.if-free-need.false) in
     record {
       thaws = λ free least. thaws_unthawed (planned free least) none enough;
       thawed = λ free least. ready_unthawed (planned free least) none enough;
@@ -56,7 +56,7 @@ told : (g : Over) (c : After-new_need-need g) → (free : Option ℕ) × IsLeast
 told g c =
     let parts = c.args.parts.now in
     let mounted = c.requires.mounted in
-    is_told (current_words (g.R.Region.memory parts.region)) mounted.well_formed parts.blocks parts.inodes mounted.exact.sets c.args.dir
+    is_told (current_words (g.R.Region.memory parts.region)) mounted.well_formed parts.free_blocks parts.free_inodes mounted.exact.sets c.args.dir
     c.requires.reached c.requires.directory
 
 pub thaw_before-requires-clause-ways : goal.thaw_before-requires-clause-ways
@@ -82,7 +82,7 @@ returns g c =
     let ways = paths_in c.entering_new-targets.result in
     let more = c.new_need-need.result in
     let before = subst (λ p. ThawsFor g.R.Region.memory ways p c.thaw_before.new.parts) found.same in
-    let fits = subst (λ p. thaw_count g.R.Region.memory ways p + more ≤ length (members p.blocks)) found.same in
+    let fits = subst (λ p. thaw_count g.R.Region.memory ways p + more ≤ length (members p.free_blocks)) found.same in
     let thaw = c.thaw_before in
     record {
       thaws = ok_one thaw.result thaw.ensures.thaws (λ thaws free least. thaws_before (planned free least) (found.paths free least) (before thaws));

@@ -11,7 +11,7 @@ use Rattle.bp_calls.proofs.InBehind.{behind_counts, behind_performs, behind_exac
 use Rattle.bp_calls.proofs.PutsLaws.{small_directory}
 use Rattle.bp_calls.proofs.Rooms.{base_after, room_after}
 use Rattle.bp_calls.proofs.entering.enter_behind.Given.{Over}
-use Rattle.bp_calls.proofs.entering.enter_behind.Goals.{After-put_behind}
+use Rattle.bp_calls.proofs.entering.enter_behind.Goals.{After-append_entry}
 use Rattle.bp_calls.proofs.entering.enter_behind.Goals as goal
 
 pub tree_of-tree-requires-clause-some : goal.tree_of-tree-requires-clause-some
@@ -30,23 +30,23 @@ place-size_place-requires-clause-there g c =
 pub fill-requires-clause-well_formed : goal.fill-requires-clause-well_formed
 fill-requires-clause-well_formed g c =
     let memory = g.R.Region.memory in
-    put_well_formed_behind (memory c.args.parts.now.region) (memory c.put_behind.new.parts.region) c.args.parts.now.blocks c.put_behind.new.parts.blocks c.args.dir c.args.inode c.args.name.now c.requires.can.can c.put_behind.ensures.puts
+    put_well_formed_behind (memory c.args.parts.now.region) (memory c.append_entry.new.parts.region) c.args.parts.now.free_blocks c.append_entry.new.parts.free_blocks c.args.dir c.args.ino c.args.name.now c.requires.can.can c.append_entry.ensures.puts
 
 pub fill-requires-clause-free : goal.fill-requires-clause-free
 fill-requires-clause-free g c =
     let memory = g.R.Region.memory in
-    put_free (memory c.args.parts.now.region) (memory c.put_behind.new.parts.region) c.args.parts.now.blocks c.put_behind.new.parts.blocks c.args.dir c.args.inode c.args.name.now c.requires.can c.put_behind.ensures.puts
+    put_free (memory c.args.parts.now.region) (memory c.append_entry.new.parts.region) c.args.parts.now.free_blocks c.append_entry.new.parts.free_blocks c.args.dir c.args.ino c.args.name.now c.requires.can c.append_entry.ensures.puts
 
 -- the log has room for the inode and the size once the entry is written
-room : (g : Over) (c : After-put_behind g) → 6 ≤ room_in (g.R.Region.memory c.put_behind.new.parts.region)
+room : (g : Over) (c : After-append_entry g) → 6 ≤ room_in (g.R.Region.memory c.append_entry.new.parts.region)
 room g c =
     let memory = g.R.Region.memory in
-    put_room (memory c.args.parts.now.region) (memory c.put_behind.new.parts.region) c.args.parts.now.blocks c.put_behind.new.parts.blocks c.args.dir c.args.inode
-    c.args.name.now c.requires.can.can c.put_behind.ensures.puts
+    put_room (memory c.args.parts.now.region) (memory c.append_entry.new.parts.region) c.args.parts.now.free_blocks c.append_entry.new.parts.free_blocks c.args.dir c.args.ino
+    c.args.name.now c.requires.can.can c.append_entry.ensures.puts
 
 pub fill-requires-clause-room : goal.fill-requires-clause-room
 fill-requires-clause-room g c =
-    let left = room g (goal.at.fill-requires-clause-room g c).After-put_behind in
+    let left = room g (goal.at.fill-requires-clause-room g c).After-append_entry in
     omega (arith, left)
 
 pub overflow_add-tree : goal.overflow_add-tree
@@ -58,34 +58,34 @@ overflow_add-tree g c =
 pub commit_word-requires-clause-in_range : goal.commit_word-requires-clause-in_range
 commit_word-requires-clause-in_range g c =
     let memory = g.R.Region.memory in
-    let first = put_base (memory c.args.parts.now.region) (memory c.put_behind.new.parts.region) c.args.parts.now.blocks c.put_behind.new.parts.blocks c.args.dir c.args.inode c.args.name.now c.requires.can.can c.put_behind.ensures.puts in
-    let same = base_after (AnyAt (IsWithin c.fill.ensures.place 3)) 3 (memory c.put_behind.new.parts.region) (memory c.fill.new.region) c.fill.ensures.stores in
+    let first = put_base (memory c.args.parts.now.region) (memory c.append_entry.new.parts.region) c.args.parts.now.free_blocks c.append_entry.new.parts.free_blocks c.args.dir c.args.ino c.args.name.now c.requires.can.can c.append_entry.ensures.puts in
+    let same = base_after (AnyAt (IsWithin c.fill.ensures.place 3)) 3 (memory c.append_entry.new.parts.region) (memory c.fill.new.region) c.fill.ensures.stores in
     omega (arith, c.place-size_place.ensures.in_range, length-current_words (memory c.args.parts.now.region), first, same)
 
 pub commit_word-requires-clause-room : goal.commit_word-requires-clause-room
 commit_word-requires-clause-room g c =
     let memory = g.R.Region.memory in
-    let left = room g (goal.at.commit_word-requires-clause-room g c).After-put_behind in
-    let less = room_after (AnyAt (IsWithin c.fill.ensures.place 3)) 3 (memory c.put_behind.new.parts.region) (memory c.fill.new.region) c.fill.ensures.stores in
+    let left = room g (goal.at.commit_word-requires-clause-room g c).After-append_entry in
+    let less = room_after (AnyAt (IsWithin c.fill.ensures.place 3)) 3 (memory c.append_entry.new.parts.region) (memory c.fill.new.region) c.fill.ensures.stores in
     omega (arith, left, less)
 
 pub returns-clause-performs : goal.returns-clause-performs
 returns-clause-performs g c =
     let memory = g.R.Region.memory in
-    behind_performs (memory c.args.parts.now.region) (memory c.put_behind.new.parts.region) (memory c.fill.new.region) (memory c.commit_word.new.region) c.args.parts.now.blocks c.put_behind.new.parts.blocks
-    c.args.dir c.args.inode c.place-size_place.result c.args.name.now c.args.kind c.requires.can c.put_behind.ensures.puts c.fill.ensures c.place-size_place.ensures.place
+    behind_performs (memory c.args.parts.now.region) (memory c.append_entry.new.parts.region) (memory c.fill.new.region) (memory c.commit_word.new.region) c.args.parts.now.free_blocks c.append_entry.new.parts.free_blocks
+    c.args.dir c.args.ino c.place-size_place.result c.args.name.now c.args.kind c.requires.can c.append_entry.ensures.puts c.fill.ensures c.place-size_place.ensures.place
     (rw c.tree_of-tree.ensures.size at c.commit_word.ensures)
 
 pub returns-clause-exact : goal.returns-clause-exact
 returns-clause-exact g c =
     let memory = g.R.Region.memory in
-    behind_exact (memory c.args.parts.now.region) (memory c.put_behind.new.parts.region) (memory c.fill.new.region) (memory c.commit_word.new.region) c.args.parts.now.blocks c.put_behind.new.parts.blocks
-    c.args.dir c.args.inode c.place-size_place.result c.args.name.now c.args.kind c.requires.can c.put_behind.ensures.puts c.fill.ensures c.place-size_place.ensures.place
-    (rw c.tree_of-tree.ensures.size at c.commit_word.ensures) c.put_behind.ensures.keeps.block_room
+    behind_exact (memory c.args.parts.now.region) (memory c.append_entry.new.parts.region) (memory c.fill.new.region) (memory c.commit_word.new.region) c.args.parts.now.free_blocks c.append_entry.new.parts.free_blocks
+    c.args.dir c.args.ino c.place-size_place.result c.args.name.now c.args.kind c.requires.can c.append_entry.ensures.puts c.fill.ensures c.place-size_place.ensures.place
+    (rw c.tree_of-tree.ensures.size at c.commit_word.ensures) c.append_entry.ensures.keeps.block_room
 
 pub returns-clause-counts : goal.returns-clause-counts
 returns-clause-counts g c =
     let memory = g.R.Region.memory in
-    behind_counts (memory c.args.parts.now.region) (memory c.put_behind.new.parts.region) (memory c.fill.new.region) (memory c.commit_word.new.region) c.args.parts.now.blocks c.put_behind.new.parts.blocks
-    c.args.dir c.args.inode c.place-size_place.result c.args.name.now c.args.kind c.requires.can c.put_behind.ensures.puts c.fill.ensures c.place-size_place.ensures.place
+    behind_counts (memory c.args.parts.now.region) (memory c.append_entry.new.parts.region) (memory c.fill.new.region) (memory c.commit_word.new.region) c.args.parts.now.free_blocks c.append_entry.new.parts.free_blocks
+    c.args.dir c.args.ino c.place-size_place.result c.args.name.now c.args.kind c.requires.can c.append_entry.ensures.puts c.fill.ensures c.place-size_place.ensures.place
     (rw c.tree_of-tree.ensures.size at c.commit_word.ensures)

@@ -3,7 +3,7 @@ use Rattle.pm_epochs.specs.May.{AnyAt}
 use Rattle.pm_region.specs.Memory.{current_words}
 use Rattle.bp_tree.specs.Within.{IsWithin}
 use Rattle.bp_layout.specs.Inode.{ContentStandsAt}
-use Rattle.bp_layout.specs.Thaw.{none_kept}
+use Rattle.bp_layout.specs.Thaw.{none_in_snapshot}
 use Rattle.bp_calls.proofs.InSlot.{slot_performs, slot_counts, slot_exact, entry_stands}
 use Rattle.bp_calls.proofs.Refusals.{found_empty}
 use Rattle.bp_calls.proofs.Rooms.{base_after, room_after, row_in_range}
@@ -61,8 +61,8 @@ commit_word-requires-clause-room g c =
 pub returns-clause-performs : goal.returns-clause-performs
 returns-clause-performs g c =
     let memory = g.R.Region.memory in
-    λ kept loose loose_inode.
-    slot_performs kept (memory c.args.region.now) (memory c.fill.new.region) (memory c.put_name.new.region) (memory c.commit_word.new.region) c.args.dir c.args.slot c.args.inode c.entry_place-entry.result c.args.name.now c.args.kind
+    λ in_snapshot loose loose_inode.
+    slot_performs in_snapshot (memory c.args.region.now) (memory c.fill.new.region) (memory c.put_name.new.region) (memory c.commit_word.new.region) c.args.dir c.args.slot c.args.ino c.entry_place-entry.result c.args.name.now c.args.kind
     c.requires.can c.requires.found
     (stands g (goal.at.returns-clause-performs g c).After-entry_place-entry)
     loose loose_inode c.fill.ensures c.put_name.ensures.stores c.put_name.ensures.name (rw c.from.ensures at c.commit_word.ensures)
@@ -70,7 +70,7 @@ returns-clause-performs g c =
 pub returns-clause-exact : goal.returns-clause-exact
 returns-clause-exact g c =
     let memory = g.R.Region.memory in
-    slot_exact none_kept (memory c.args.region.now) (memory c.fill.new.region) (memory c.put_name.new.region) (memory c.commit_word.new.region) c.args.dir c.args.slot c.args.inode c.entry_place-entry.result c.args.name.now c.args.kind
+    slot_exact none_in_snapshot (memory c.args.region.now) (memory c.fill.new.region) (memory c.put_name.new.region) (memory c.commit_word.new.region) c.args.dir c.args.slot c.args.ino c.entry_place-entry.result c.args.name.now c.args.kind
     c.requires.can c.requires.found
     (stands g (goal.at.returns-clause-exact g c).After-entry_place-entry)
     (λ at stands. refl) (λ at stands. refl) c.fill.ensures c.put_name.ensures.stores c.put_name.ensures.name (rw c.from.ensures at c.commit_word.ensures)
@@ -78,7 +78,7 @@ returns-clause-exact g c =
 pub returns-clause-counts : goal.returns-clause-counts
 returns-clause-counts g c =
     let memory = g.R.Region.memory in
-    slot_counts none_kept (memory c.args.region.now) (memory c.fill.new.region) (memory c.put_name.new.region) (memory c.commit_word.new.region) c.args.dir c.args.slot c.args.inode c.entry_place-entry.result c.args.name.now c.args.kind
+    slot_counts none_in_snapshot (memory c.args.region.now) (memory c.fill.new.region) (memory c.put_name.new.region) (memory c.commit_word.new.region) c.args.dir c.args.slot c.args.ino c.entry_place-entry.result c.args.name.now c.args.kind
     c.requires.can c.requires.found
     (stands g (goal.at.returns-clause-counts g c).After-entry_place-entry)
     (λ at stands. refl) (λ at stands. refl) c.fill.ensures c.put_name.ensures.stores c.put_name.ensures.name (rw c.from.ensures at c.commit_word.ensures)

@@ -7,5 +7,5 @@ use Rattle.bp_calls.proofs.entering.entry_bytes.Given as goal
 abbrev pub invariant-loop-at : goal.invariant-loop-at
 invariant-loop-at l = record {
   whole : length l.bytes ≡ entry_size;
-  done : (k : ℕ) → k < l.at → slice_index l.bytes k ≡ entry_byte l.inode l.name k;
+  done : (k : ℕ) → k < l.at → slice_index l.bytes k ≡ entry_byte l.ino l.name k;
 }

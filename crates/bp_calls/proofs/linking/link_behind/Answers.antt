@@ -31,32 +31,32 @@ overflow_add-tree g c =
 pub commit_word-requires-clause-in_range : goal.commit_word-requires-clause-in_range
 commit_word-requires-clause-in_range g c =
     let memory = g.R.Region.memory in
-    let first = put_base (memory c.args.parts.now.region) (memory c.put_behind.new.parts.region) c.args.parts.now.blocks c.put_behind.new.parts.blocks c.args.dir c.args.i c.args.name.now c.requires.can.can c.put_behind.ensures.puts in
+    let first = put_base (memory c.args.parts.now.region) (memory c.append_entry.new.parts.region) c.args.parts.now.free_blocks c.append_entry.new.parts.free_blocks c.args.dir c.args.ino c.args.name.now c.requires.can.can c.append_entry.ensures.puts in
     omega (arith, c.place-size_place.ensures.in_range, length-current_words (memory c.args.parts.now.region), first)
 
 pub commit_word-requires-clause-room : goal.commit_word-requires-clause-room
 commit_word-requires-clause-room g c =
     let memory = g.R.Region.memory in
-    let left = put_room (memory c.args.parts.now.region) (memory c.put_behind.new.parts.region) c.args.parts.now.blocks c.put_behind.new.parts.blocks c.args.dir c.args.i c.args.name.now c.requires.can.can c.put_behind.ensures.puts in
+    let left = put_room (memory c.args.parts.now.region) (memory c.append_entry.new.parts.region) c.args.parts.now.free_blocks c.append_entry.new.parts.free_blocks c.args.dir c.args.ino c.args.name.now c.requires.can.can c.append_entry.ensures.puts in
     omega (arith, left)
 
 pub returns-clause-performs : goal.returns-clause-performs
 returns-clause-performs g c =
     let memory = g.R.Region.memory in
-    link_behind_performs (memory c.args.parts.now.region) (memory c.put_behind.new.parts.region) (memory c.commit_word.new.region) c.args.parts.now.blocks c.put_behind.new.parts.blocks
-    c.args.dir c.args.i c.place-size_place.result c.args.name.now c.requires.can c.put_behind.ensures.puts c.place-size_place.ensures.place
+    link_behind_performs (memory c.args.parts.now.region) (memory c.append_entry.new.parts.region) (memory c.commit_word.new.region) c.args.parts.now.free_blocks c.append_entry.new.parts.free_blocks
+    c.args.dir c.args.ino c.place-size_place.result c.args.name.now c.requires.can c.append_entry.ensures.puts c.place-size_place.ensures.place
     (rw c.tree_of-tree.ensures.size at c.commit_word.ensures)
 
 pub returns-clause-exact : goal.returns-clause-exact
 returns-clause-exact g c =
     let memory = g.R.Region.memory in
-    link_behind_exact (memory c.args.parts.now.region) (memory c.put_behind.new.parts.region) (memory c.commit_word.new.region) c.args.parts.now.blocks c.put_behind.new.parts.blocks
-    c.args.dir c.args.i c.place-size_place.result c.args.name.now c.requires.can c.put_behind.ensures.puts c.place-size_place.ensures.place
-    (rw c.tree_of-tree.ensures.size at c.commit_word.ensures) c.put_behind.ensures.keeps.block_room
+    link_behind_exact (memory c.args.parts.now.region) (memory c.append_entry.new.parts.region) (memory c.commit_word.new.region) c.args.parts.now.free_blocks c.append_entry.new.parts.free_blocks
+    c.args.dir c.args.ino c.place-size_place.result c.args.name.now c.requires.can c.append_entry.ensures.puts c.place-size_place.ensures.place
+    (rw c.tree_of-tree.ensures.size at c.commit_word.ensures) c.append_entry.ensures.keeps.block_room
 
 pub returns-clause-counts : goal.returns-clause-counts
 returns-clause-counts g c =
     let memory = g.R.Region.memory in
-    link_behind_counts (memory c.args.parts.now.region) (memory c.put_behind.new.parts.region) (memory c.commit_word.new.region) c.args.parts.now.blocks c.put_behind.new.parts.blocks
-    c.args.dir c.args.i c.place-size_place.result c.args.name.now c.requires.can c.put_behind.ensures.puts c.place-size_place.ensures.place
+    link_behind_counts (memory c.args.parts.now.region) (memory c.append_entry.new.parts.region) (memory c.commit_word.new.region) c.args.parts.now.free_blocks c.append_entry.new.parts.free_blocks
+    c.args.dir c.args.ino c.place-size_place.result c.args.name.now c.requires.can c.append_entry.ensures.puts c.place-size_place.ensures.place
     (rw c.tree_of-tree.ensures.size at c.commit_word.ensures)

@@ -1,6 +1,6 @@
 use Rattle.std.proofs.Common.{◌+◌, ◌*◌, ◌≤◌, length, refl, arith}
 use Rattle.bp_layout.specs.Inode.{ContentStandsAt}
-use Rattle.bp_layout.specs.Thaw.{none_kept}
+use Rattle.bp_layout.specs.Thaw.{none_in_snapshot}
 use Rattle.pm_region.specs.Memory.{current_words}
 use Rattle.bp_calls.proofs.InSlot.{entry_stands}
 use Rattle.bp_calls.proofs.LinkInSlot.{link_counts, link_exact, link_performs}
@@ -51,21 +51,21 @@ commit_word-requires-clause-room g c =
 pub returns-clause-performs : goal.returns-clause-performs
 returns-clause-performs g c =
     let memory = g.R.Region.memory in
-    λ kept loose.
-    link_performs kept (memory c.args.region.now) (memory c.put_name.new.region) (memory c.commit_word.new.region) c.args.dir c.args.slot c.args.i c.entry_place-entry.result c.args.name.now c.requires.can c.requires.found
+    λ in_snapshot loose.
+    link_performs in_snapshot (memory c.args.region.now) (memory c.put_name.new.region) (memory c.commit_word.new.region) c.args.dir c.args.slot c.args.ino c.entry_place-entry.result c.args.name.now c.requires.can c.requires.found
     (stands g (goal.at.returns-clause-performs g c).After-entry_place-entry)
     loose c.put_name.ensures.stores c.put_name.ensures.name (rw c.from.ensures at c.commit_word.ensures)
 
 pub returns-clause-exact : goal.returns-clause-exact
 returns-clause-exact g c =
     let memory = g.R.Region.memory in
-    link_exact none_kept (memory c.args.region.now) (memory c.put_name.new.region) (memory c.commit_word.new.region) c.args.dir c.args.slot c.args.i c.entry_place-entry.result c.args.name.now c.requires.can c.requires.found
+    link_exact none_in_snapshot (memory c.args.region.now) (memory c.put_name.new.region) (memory c.commit_word.new.region) c.args.dir c.args.slot c.args.ino c.entry_place-entry.result c.args.name.now c.requires.can c.requires.found
     (stands g (goal.at.returns-clause-exact g c).After-entry_place-entry)
     (λ at stands. refl) c.put_name.ensures.stores c.put_name.ensures.name (rw c.from.ensures at c.commit_word.ensures)
 
 pub returns-clause-counts : goal.returns-clause-counts
 returns-clause-counts g c =
     let memory = g.R.Region.memory in
-    link_counts none_kept (memory c.args.region.now) (memory c.put_name.new.region) (memory c.commit_word.new.region) c.args.dir c.args.slot c.args.i c.entry_place-entry.result c.args.name.now c.requires.can c.requires.found
+    link_counts none_in_snapshot (memory c.args.region.now) (memory c.put_name.new.region) (memory c.commit_word.new.region) c.args.dir c.args.slot c.args.ino c.entry_place-entry.result c.args.name.now c.requires.can c.requires.found
     (stands g (goal.at.returns-clause-counts g c).After-entry_place-entry)
     (λ at stands. refl) c.put_name.ensures.stores c.put_name.ensures.name (rw c.from.ensures at c.commit_word.ensures)

@@ -20,19 +20,19 @@ pub list_row-requires-clause-entries : goal.list_row-requires-clause-entries
 list_row-requires-clause-entries g c =
     let few : c.min-count.result ≤ 16 = omega (arith, c.min-count.ensures) in
     record {
-      directory = c.args.i;
+      directory = c.args.ino;
       first = 16 * c.loop-leaf.leaf;
       count = c.min-count.result;
       reached = c.requires.reached;
       kind = c.requires.directory;
       live = omega (arith, c.min-count.ensures, c.tree_of-tree.ensures.size, c.div_ceil-leaf-end.ensures);
-      row = row_here _ c.args.i c.tree_of-tree.result.root c.loop-leaf.leaf c.min-count.result c.in-Some.words.now c.tree_of-tree.ensures.root c.in-Some.ensures.len c.in-Some.ensures.words few;
+      row = row_here _ c.args.ino c.tree_of-tree.result.root c.loop-leaf.leaf c.min-count.result c.in-Some.words.now c.tree_of-tree.ensures.root c.in-Some.ensures.len c.in-Some.ensures.words few;
     }
 
 pub loop-leaf-preserved : goal.loop-leaf-preserved
 loop-leaf-preserved g c =
     let image : Image = current_words (g.R.Region.memory c.args.region.now) in
-    let i : ℕ = c.args.i in
+    let i : ℕ = c.args.ino in
     let leaf : ℕ = c.loop-leaf.leaf in
     let total : ℕ = entry_count image i in
     let live : 16 * leaf < total = omega (arith, c.tree_of-tree.ensures.size, c.div_ceil-leaf-end.ensures, c.loop-leaf-test.true) in

@@ -6,4 +6,4 @@ use Rattle.bp_calls.proofs.listing.entries.Given as goal
 
 abbrev pub invariant-loop-leaf : goal.invariant-loop-leaf
 invariant-loop-leaf g l =
-    l.listing ≡ entries_seen (current_words (g.R.Region.memory l.region)) l.i (min (16 * l.leaf) (entry_count (current_words (g.R.Region.memory l.region)) l.i))
+    l.listing ≡ entries_seen (current_words (g.R.Region.memory l.region)) l.ino (min (16 * l.leaf) (entry_count (current_words (g.R.Region.memory l.region)) l.ino))

@@ -10,6 +10,6 @@ pub returns-clause-bytes : goal.returns-clause-bytes
 returns-clause-bytes g c =
     let image : Image = current_words (g.R.Region.memory c.args.region.now) in
     c.read.ensures.bytes
-    ∙ ap (λ root. content_part image root c.args.off c.read.result) c.tree_of.ensures.root
-    ∙ read_part image (root_of image c.args.i) (size_of image c.args.i) c.args.off (length c.args.into.now) c.read.result
-    (c.read.ensures.count ∙ ap (λ size. min (length c.args.into.now) (size - c.args.off)) c.tree_of.ensures.size)
+    ∙ ap (λ root. content_part image root c.args.offset c.read.result) c.tree_of.ensures.root
+    ∙ read_part image (root_of image c.args.ino) (size_of image c.args.ino) c.args.offset (length c.args.into.now) c.read.result
+    (c.read.ensures.count ∙ ap (λ size. min (length c.args.into.now) (size - c.args.offset)) c.tree_of.ensures.size)

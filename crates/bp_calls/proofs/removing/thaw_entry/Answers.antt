@@ -5,7 +5,7 @@ use Rattle.pm_region.specs.Memory.{current_words}
 use Rattle.bp_calls.proofs.CommitResults.{by_one, ok_both, ok_one}
 use Rattle.bp_calls.proofs.Leaving.{none_leaving}
 use Rattle.bp_calls.proofs.TargetPaths.{leaving_ways}
-use Rattle.bp_calls.proofs.ThawedNeed.{IsPlanned, lacks_both, leads_in, room_behind, room_for_both, room_unkept, thaws_before, thaws_unthawed}
+use Rattle.bp_calls.proofs.ThawedNeed.{IsPlanned, lacks_both, leads_in, room_behind, room_for_both, room_outside_snapshot, thaws_before, thaws_unthawed}
 use Rattle.bp_calls.proofs.removing.thaw_entry.Given.{Over}
 use Rattle.bp_calls.proofs.removing.thaw_entry.Goals.{Start}
 use Rattle.bp_calls.proofs.removing.thaw_entry.Goals as goal
@@ -28,7 +28,7 @@ pub returns-then-count-eq0 : goal.returns-then-count-eq0
 returns-then-count-eq0 g c =
     let planned = plan g (goal.at.returns-then-count-eq0 g c).Start in
     let none = sym c.count.ensures ∙ c.if-count-eq0.true in
-    let room = room_unkept planned none (omega arith) in
+    let room = room_outside_snapshot planned none (omega arith) in
     record { thaws = thaws_unthawed planned none (omega arith); room = omega (arith, room); refused = search rules; same = search rules }
 
 pub thaw_before-requires : goal.thaw_before-requires

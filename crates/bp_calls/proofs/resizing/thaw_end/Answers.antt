@@ -13,7 +13,7 @@ use Rattle.bp_calls.proofs.resizing.thaw_end.Goals.{After-need_prep-need}
 use Rattle.bp_calls.proofs.resizing.thaw_end.Goals as goal
 
 -- the file may get longer, and takes as many blocks as were counted
-plan : (g : Over) (c : After-need_prep-need g) → IsPlanned g.R.Region.memory (resizes c.args.i c.args.size) c.need_prep-need.result c.args.parts.now
+plan : (g : Over) (c : After-need_prep-need g) → IsPlanned g.R.Region.memory (resizes c.args.ino c.args.size) c.need_prep-need.result c.args.parts.now
 plan g c =
     let image = current_words (g.R.Region.memory c.args.parts.now.region) in
     let tree = c.tree_of-tree in
@@ -21,9 +21,9 @@ plan g c =
     record {
       mounted = c.requires.mounted;
       reached = c.requires.reached;
-      leads = growing_ways_at image well_formed c.args.i c.args.size (file_some image c.args.i c.requires.file) c.requires.reached c.requires.longer;
+      leads = growing_ways_at image well_formed c.args.ino c.args.size (file_some image c.args.ino c.requires.file) c.requires.reached c.requires.longer;
       needs =
-          growing_needs image well_formed c.args.i c.args.size tree.result.root tree.result.size c.requires.reached c.requires.file c.requires.longer
+          growing_needs image well_formed c.args.ino c.args.size tree.result.root tree.result.size c.requires.reached c.requires.file c.requires.longer
           tree.ensures.root tree.ensures.size
           ∙ sym c.need_prep-need.ensures;
       room = c.requires.room;
@@ -31,7 +31,7 @@ plan g c =
 
 pub need_prep-need-requires-clause-sound : goal.need_prep-need-requires-clause-sound
 need_prep-need-requires-clause-sound g c =
-    rw (c.tree_of-tree.ensures.root, c.tree_of-tree.ensures.size) (c.requires.mounted.well_formed.sound c.args.i c.requires.reached)
+    rw (c.tree_of-tree.ensures.root, c.tree_of-tree.ensures.size) (c.requires.mounted.well_formed.sound c.args.ino c.requires.reached)
 
 pub returns-then-count-eq0 : goal.returns-then-count-eq0
 returns-then-count-eq0 g c =
@@ -53,7 +53,7 @@ thaw_before-requires g c =
     let tree = c.tree_of-tree in
     let few = few_needed (current_words (g.R.Region.memory c.args.parts.now.region)) tree.result.root tree.result.size c.args.size c.args.size 0
     (omega arith) (omega arith) (omega (arith, c.requires.longer, tree.ensures.size))
-    (rw (tree.ensures.root, tree.ensures.size) (c.requires.mounted.well_formed.sound c.args.i c.requires.reached).low) in
+    (rw (tree.ensures.root, tree.ensures.size) (c.requires.mounted.well_formed.sound c.args.ino c.requires.reached).low) in
     record {
       mounted = c.requires.mounted;
       ways = leads_in planned are;

@@ -10,10 +10,10 @@ use Rattle.bp_calls.proofs.targets.covering.Goals.{After-touched_by}
 use Rattle.bp_calls.proofs.targets.covering.Goals as goal
 
 -- the run of the bytes is all that is touched
-write : (g : Over) (c : After-touched_by g) → WritesIn g.R.Region.memory c.args.parts.now c.args.i c.args.off c.args.bytes.now c.touched_by.result
+write : (g : Over) (c : After-touched_by g) → WritesIn g.R.Region.memory c.args.parts.now c.args.ino c.args.offset c.args.bytes.now c.touched_by.result
 write g c =
     let is = c.touched_by.ensures in
-    writes_in g.R.Region.memory c.args.parts.now c.args.i c.args.off c.args.bytes.now c.touched_by.result c.run_for.result c.requires.mounted c.requires.can
+    writes_in g.R.Region.memory c.args.parts.now c.args.ino c.args.offset c.args.bytes.now c.touched_by.result c.run_for.result c.requires.mounted c.requires.can
     c.requires.below is.runs is.words is.trees c.run_for.ensures
 
 pub cover-requires : goal.cover-requires
@@ -29,5 +29,5 @@ returns g c =
     ap (λ (xs : List (ArrayVec ℕ)). map (λ path. path.items) xs)
     (c.push.ensures.items ∙ ap (λ (xs : List (ArrayVec ℕ)). xs ++ c.cover.result ∷ []) c.new-targets.ensures)
     ∙ ap (λ (p : WordPath). p ∷ []) (c.cover.ensures ∙ is)
-    ∙ sym (below_at image c.requires.mounted.well_formed c.args.i c.args.off (length c.args.bytes.now) (file_some image c.args.i can.file) can.reached
+    ∙ sym (below_at image c.requires.mounted.well_formed c.args.ino c.args.offset (length c.args.bytes.now) (file_some image c.args.ino can.file) can.reached
     c.requires.below)

@@ -6,7 +6,7 @@ use Rattle.bp_calls.proofs.WriteTargets.{across_at, leaf_front, with_end}
 use Rattle.bp_calls.proofs.targets.crossing.Goals as goal
 
 pub returns : goal.returns
-returns g c = λ off len below past.
+returns g c = λ offset len below past.
     let image = current_words (g.R.Region.memory c.args.region.now) in
-    let leaf = c.pop.ensures.rest ∙ ap (λ (p : WordPath). take (length p - 1) p) c.size_path-leaf.ensures ∙ leaf_front (heights_now image 0) c.args.i in
-    c.with_end.ensures ∙ ap (λ (p : WordPath). with_end image p c.args.i) leaf ∙ sym (across_at image c.requires.well_formed c.args.i off len c.requires.some c.requires.reached below past)
+    let leaf = c.pop.ensures.rest ∙ ap (λ (p : WordPath). take (length p - 1) p) c.size_path-leaf.ensures ∙ leaf_front (heights_now image 0) c.args.ino in
+    c.with_end.ensures ∙ ap (λ (p : WordPath). with_end image p c.args.ino) leaf ∙ sym (across_at image c.requires.well_formed c.args.ino offset len c.requires.some c.requires.reached below past)

@@ -7,9 +7,9 @@ use Rattle.bp_calls.proofs.targets.lengthening.Goals as goal
 pub returns-clause-resizes : goal.returns-clause-resizes
 returns-clause-resizes g c = λ size longer.
     let image = current_words (g.R.Region.memory c.args.region.now) in
-    c.with_end.ensures ∙ ap (λ (p : WordPath). with_end image p c.args.i) c.size_path.ensures ∙ sym (growing_at image c.requires.well_formed c.args.i size c.requires.some c.requires.reached longer)
+    c.with_end.ensures ∙ ap (λ (p : WordPath). with_end image p c.args.ino) c.size_path.ensures ∙ sym (growing_at image c.requires.well_formed c.args.ino size c.requires.some c.requires.reached longer)
 
 pub returns-clause-writes : goal.returns-clause-writes
-returns-clause-writes g c = λ off len behind more.
+returns-clause-writes g c = λ offset len behind more.
     let image = current_words (g.R.Region.memory c.args.region.now) in
-    c.with_end.ensures ∙ ap (λ (p : WordPath). with_end image p c.args.i) c.size_path.ensures ∙ sym (behind_at image c.requires.well_formed c.args.i off len c.requires.some c.requires.reached behind more)
+    c.with_end.ensures ∙ ap (λ (p : WordPath). with_end image p c.args.ino) c.size_path.ensures ∙ sym (behind_at image c.requires.well_formed c.args.ino offset len c.requires.some c.requires.reached behind more)

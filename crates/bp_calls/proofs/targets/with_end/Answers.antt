@@ -12,13 +12,13 @@ use Rattle.bp_calls.proofs.targets.with_end.Goals as goal
 pub returns : goal.returns
 returns g c =
     let image = current_words (g.R.Region.memory c.args.region.now) in
-    c.push_end.ensures image c.args.i (c.root_path.ensures ∙ root_path_is image c.args.i c.requires.some) c.tree_of.ensures.root c.tree_of.ensures.size
-    ∙ ap (λ (paths : List WordPath). paths ++ root_path_now image c.args.i ∷ end_path_now image c.args.i ∷ [])
+    c.push_end.ensures image c.args.ino (c.root_path.ensures ∙ root_path_is image c.args.ino c.requires.some) c.tree_of.ensures.root c.tree_of.ensures.size
+    ∙ ap (λ (paths : List WordPath). paths ++ root_path_now image c.args.ino ∷ end_path_now image c.args.ino ∷ [])
     (ap (λ (xs : List (ArrayVec ℕ)). map (λ path. path.items) xs) (c.push.ensures.items ∙ ap (λ (xs : List (ArrayVec ℕ)). xs ++ c.args.word ∷ []) c.new-targets.ensures))
 
 pub push_end-requires-clause-short : goal.push_end-requires-clause-short
 push_end-requires-clause-short g c =
     let image = current_words (g.R.Region.memory c.args.region.now) in
     let low : heights_now image 0 ≤ max_height = (c.requires.well_formed.sound 0 inode_file).low (omega (arith, c.requires.well_formed.some_inodes)) in
-    let long = ap (λ (p : List ℕ). length p) c.root_path.ensures ∙ length-digits (suc (heights_now image 0)) (8 * c.args.i + 1) in
+    let long = ap (λ (p : List ℕ). length p) c.root_path.ensures ∙ length-digits (suc (heights_now image 0)) (8 * c.args.ino + 1) in
     omega (arith, low, long)

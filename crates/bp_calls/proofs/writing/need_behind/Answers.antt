@@ -8,11 +8,11 @@ pub returns-clause-need : goal.returns-clause-need
 returns-clause-need g c =
     let image = current_words (g.R.Region.memory c.args.parts.now.region) in
     c.need_prep.ensures
-    ∙ sym (behind_needs image c.requires.mounted.well_formed c.args.i c.args.off (length c.args.bytes.now) c.args.tree.root c.args.tree.size c.requires.can.reached c.requires.can.file c.requires.behind c.requires.can.some c.requires.root c.requires.size)
+    ∙ sym (behind_needs image c.requires.mounted.well_formed c.args.ino c.args.offset (length c.args.bytes.now) c.args.tree.root c.args.tree.size c.requires.can.reached c.requires.can.file c.requires.behind c.requires.can.some c.requires.root c.requires.size)
 
 pub returns-clause-few : goal.returns-clause-few
 returns-clause-few g c =
     let image = current_words (g.R.Region.memory c.args.parts.now.region) in
-    let few = few_needed image c.args.tree.root c.args.tree.size c.args.off (c.args.off + length c.args.bytes.now) 256 (omega arith) (omega (arith, c.requires.can.short)) (omega (arith, c.requires.size, c.requires.behind))
-    (rw (c.requires.root, c.requires.size) (c.requires.mounted.well_formed.sound c.args.i c.requires.can.reached).low) in
+    let few = few_needed image c.args.tree.root c.args.tree.size c.args.offset (c.args.offset + length c.args.bytes.now) 256 (omega arith) (omega (arith, c.requires.can.short)) (omega (arith, c.requires.size, c.requires.behind))
+    (rw (c.requires.root, c.requires.size) (c.requires.mounted.well_formed.sound c.args.ino c.requires.can.reached).low) in
     omega (arith, few, c.need_prep.ensures)

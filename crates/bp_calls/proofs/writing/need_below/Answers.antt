@@ -6,10 +6,10 @@ use Rattle.bp_calls.proofs.writing.need_below.Goals.{After-touched_by}
 use Rattle.bp_calls.proofs.writing.need_below.Goals as goal
 
 -- the run of the bytes is all that is touched
-write : (g : Over) (c : After-touched_by g) → WritesIn g.R.Region.memory c.args.parts.now c.args.i c.args.off c.args.bytes.now c.touched_by.result
+write : (g : Over) (c : After-touched_by g) → WritesIn g.R.Region.memory c.args.parts.now c.args.ino c.args.offset c.args.bytes.now c.touched_by.result
 write g c =
     let is = c.touched_by.ensures in
-    writes_in g.R.Region.memory c.args.parts.now c.args.i c.args.off c.args.bytes.now c.touched_by.result c.run_for.result c.requires.mounted c.requires.can
+    writes_in g.R.Region.memory c.args.parts.now c.args.ino c.args.offset c.args.bytes.now c.touched_by.result c.run_for.result c.requires.mounted c.requires.can
     c.requires.below is.runs is.words is.trees c.run_for.ensures
 
 pub need_cover-requires : goal.need_cover-requires

@@ -10,15 +10,15 @@ use Rattle.bp_calls.proofs.writing.thaw_write.Goals as goal
 
 -- the write may be made, and takes as many blocks as were counted
 plan : (g : Over) (c : After-need_write-need g)
-    → IsPlanned g.R.Region.memory (writes c.args.i c.args.off (length c.args.bytes.now)) c.need_write-need.result c.args.parts.now
+    → IsPlanned g.R.Region.memory (writes c.args.ino c.args.offset (length c.args.bytes.now)) c.need_write-need.result c.args.parts.now
 plan g c =
     let image = current_words (g.R.Region.memory c.args.parts.now.region) in
     let can = c.requires.can in
     record {
       mounted = c.requires.mounted;
       reached = can.reached;
-      leads = write_ways_at image c.requires.mounted.well_formed c.args.i c.args.off (length c.args.bytes.now)
-          (file_some image c.args.i can.file) can.reached can.some;
+      leads = write_ways_at image c.requires.mounted.well_formed c.args.ino c.args.offset (length c.args.bytes.now)
+          (file_some image c.args.ino can.file) can.reached can.some;
       needs = sym c.need_write-need.ensures.need;
       room = c.requires.room;
     }

@@ -7,9 +7,9 @@ use Rattle.bp_calls.proofs.writing.write.Goals as goal
 
 pub write_longer-requires-clause-can : goal.write_longer-requires-clause-can
 write_longer-requires-clause-can g c =
-    write_at_once g.R.Region.memory c.args.parts.now c.args.i c.args.off c.args.bytes.now c.requires.mounted c.requires.can (c.is_clear.ensures c.if-is_clear.true) c.requires.room
+    write_at_once g.R.Region.memory c.args.parts.now c.args.ino c.args.offset c.args.bytes.now c.requires.mounted c.requires.can (c.is_clear.ensures c.if-is_clear.true) c.requires.room
 
 pub returns-then-is_clear : goal.returns-then-is_clear
 returns-then-is_clear g c =
-    commits_at_once g.R.Region.memory (writes c.args.i c.args.off (length c.args.bytes.now)) (WritesFile c.args.i c.args.off c.args.bytes.now) c.args.parts.now c.write_longer.new.parts c.requires.mounted (c.is_clear.ensures c.if-is_clear.true)
+    commits_at_once g.R.Region.memory (writes c.args.ino c.args.offset (length c.args.bytes.now)) (WritesFile c.args.ino c.args.offset c.args.bytes.now) c.args.parts.now c.write_longer.new.parts c.requires.mounted (c.is_clear.ensures c.if-is_clear.true)
     c.write_longer.result c.write_longer.ensures

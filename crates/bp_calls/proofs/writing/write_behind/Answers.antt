@@ -4,7 +4,7 @@ use Rattle.pm_region.proofs.MemoryLaws.{length-current_words}
 use Rattle.bp_free.specs.Set.{members}
 use Rattle.bp_layout.specs.Reached.IsReached.{inode_file}
 use Rattle.bp_layout.proofs.Reached.{reached-in_file}
-use Rattle.bp_shapes.specs.Sets.{kept_of}
+use Rattle.bp_shapes.specs.Sets.{in_snapshot_of}
 use Rattle.bp_append.specs.Prepared.{CanPrepare}
 use Rattle.bp_calls.proofs.WriteBehind.{behind_can, prepared_base, prepared_room, behind_performs_at, behind_exact_at}
 use Rattle.bp_calls.proofs.writing.write_behind.Given.{Over}
@@ -16,46 +16,46 @@ pub place-size_place-requires-clause-sound : goal.place-size_place-requires-clau
 place-size_place-requires-clause-sound g c = c.requires.can.into.well_formed.sound 0 inode_file
 
 pub place-size_place-requires-clause-there : goal.place-size_place-requires-clause-there
-place-size_place-requires-clause-there g c = reached-in_file (current_words (g.R.Region.memory c.args.parts.now.region)) c.requires.can.into.well_formed c.args.i c.requires.can.into.can.reached
+place-size_place-requires-clause-there g c = reached-in_file (current_words (g.R.Region.memory c.args.parts.now.region)) c.requires.can.into.well_formed c.args.ino c.requires.can.into.can.reached
 
 -- the file may be prepared for the bytes
 prepares : (g : Over) (c : After-root_path-root g) →
-    CanPrepare (kept_of c.args.parts.now) (g.R.Region.memory c.args.parts.now.region) (members c.args.parts.now.blocks) c.args.i c.root_path-root.result.items c.args.off (c.args.off + length c.args.bytes.now)
+    CanPrepare (in_snapshot_of c.args.parts.now) (g.R.Region.memory c.args.parts.now.region) (members c.args.parts.now.free_blocks) c.args.ino c.root_path-root.result.items c.args.offset (c.args.offset + length c.args.bytes.now)
 prepares g c =
-    behind_can (g.R.Region.memory c.args.parts.now.region) c.args.parts.now.blocks c.args.parts.now.inodes c.args.off c.args.bytes.now c.args.i c.root_path-root.result.items
+    behind_can (g.R.Region.memory c.args.parts.now.region) c.args.parts.now.free_blocks c.args.parts.now.free_inodes c.args.offset c.args.bytes.now c.args.ino c.root_path-root.result.items
     c.requires.can c.requires.behind c.requires.enough c.root_path-root.ensures
 
-pub prep-requires : goal.prep-requires
-prep-requires g c = record { can = (c.args.i, prepares g (goal.at.prep-requires g c).After-root_path-root) }
+pub stage_append-requires : goal.stage_append-requires
+stage_append-requires g c = record { can = (c.args.ino, prepares g (goal.at.stage_append-requires g c).After-root_path-root) }
 
 pub commit_word-requires-clause-in_range : goal.commit_word-requires-clause-in_range
 commit_word-requires-clause-in_range g c =
     let memory = g.R.Region.memory in
     let can = prepares g (goal.at.commit_word-requires-clause-in_range g c).After-root_path-root in
-    let same = prepared_base (memory c.args.parts.now.region) c.args.parts.now.blocks c.args.parts.now.inodes c.args.off c.args.bytes.now (memory c.prep.new.parts.region) c.prep.new.parts.blocks c.args.i
-    (c.prep.ensures.prepares c.args.i can) in
+    let same = prepared_base (memory c.args.parts.now.region) c.args.parts.now.free_blocks c.args.parts.now.free_inodes c.args.offset c.args.bytes.now (memory c.stage_append.new.parts.region) c.stage_append.new.parts.free_blocks c.args.ino
+    (c.stage_append.ensures.prepares c.args.ino can) in
     omega (arith, same, c.place-size_place.ensures.in_range, length-current_words (memory c.args.parts.now.region))
 
 pub commit_word-requires-clause-room : goal.commit_word-requires-clause-room
 commit_word-requires-clause-room g c =
     let memory = g.R.Region.memory in
     let can = prepares g (goal.at.commit_word-requires-clause-room g c).After-root_path-root in
-    prepared_room (memory c.args.parts.now.region) c.args.parts.now.blocks c.args.parts.now.inodes c.args.off c.args.bytes.now (memory c.prep.new.parts.region) c.prep.new.parts.blocks c.args.i c.requires.can c.requires.behind
-    (c.prep.ensures.prepares c.args.i can)
+    prepared_room (memory c.args.parts.now.region) c.args.parts.now.free_blocks c.args.parts.now.free_inodes c.args.offset c.args.bytes.now (memory c.stage_append.new.parts.region) c.stage_append.new.parts.free_blocks c.args.ino c.requires.can c.requires.behind
+    (c.stage_append.ensures.prepares c.args.ino can)
 
 pub returns : goal.returns
 returns g c =
     let memory = g.R.Region.memory in
     let can = prepares g (goal.at.returns g c).After-root_path-root in
     let done =
-    behind_performs_at (memory c.args.parts.now.region) c.args.parts.now.blocks c.args.parts.now.inodes c.args.off c.args.bytes.now (memory c.prep.new.parts.region) c.prep.new.parts.blocks (memory c.commit_word.new.region)
-    c.root_path-root.result.items c.place-size_place.result c.args.i c.requires.can c.requires.behind can c.place-size_place.ensures.place (c.prep.ensures.prepares c.args.i can) c.commit_word.ensures in
+    behind_performs_at (memory c.args.parts.now.region) c.args.parts.now.free_blocks c.args.parts.now.free_inodes c.args.offset c.args.bytes.now (memory c.stage_append.new.parts.region) c.stage_append.new.parts.free_blocks (memory c.commit_word.new.region)
+    c.root_path-root.result.items c.place-size_place.result c.args.ino c.requires.can c.requires.behind can c.place-size_place.ensures.place (c.stage_append.ensures.prepares c.args.ino can) c.commit_word.ensures in
     record {
       performs = done;
-      frozen = c.prep.ensures.keeps.snapshot_blocks;
+      snapshot_blocks = c.stage_append.ensures.keeps.snapshot_blocks;
       exact = exact_file _ _ c.args.parts.now _ c.requires.exact
-          (rw c.prep.ensures.keeps.free_inodes
-          (behind_exact_at (memory c.args.parts.now.region) c.args.parts.now.blocks c.args.parts.now.inodes c.args.off c.args.bytes.now (memory c.prep.new.parts.region) c.prep.new.parts.blocks (memory c.commit_word.new.region)
-          c.root_path-root.result.items c.place-size_place.result c.args.i c.requires.can c.requires.behind can c.place-size_place.ensures.place (c.prep.ensures.prepares c.args.i can) c.commit_word.ensures c.prep.ensures.keeps.block_room))
-          c.prep.ensures.keeps.snapshot_blocks c.prep.ensures.keeps.link_counts c.args.i c.requires.can.into.well_formed done.effect.changes;
+          (rw c.stage_append.ensures.keeps.free_inodes
+          (behind_exact_at (memory c.args.parts.now.region) c.args.parts.now.free_blocks c.args.parts.now.free_inodes c.args.offset c.args.bytes.now (memory c.stage_append.new.parts.region) c.stage_append.new.parts.free_blocks (memory c.commit_word.new.region)
+          c.root_path-root.result.items c.place-size_place.result c.args.ino c.requires.can c.requires.behind can c.place-size_place.ensures.place (c.stage_append.ensures.prepares c.args.ino can) c.commit_word.ensures c.stage_append.ensures.keeps.block_room))
+          c.stage_append.ensures.keeps.snapshot_blocks c.stage_append.ensures.keeps.link_counts c.args.ino c.requires.can.into.well_formed done.effect.changes;
     }

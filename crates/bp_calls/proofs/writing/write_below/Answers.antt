@@ -8,7 +8,7 @@ use Rattle.bp_calls.proofs.writing.write_below.Goals as goal
 
 -- the run of the bytes is all that is touched
 write : (g : Over) (c : After-touched_by-touched g)
-    → WritesIn g.R.Region.memory c.args.parts.now c.args.i c.args.off c.args.bytes.now c.touched_by-touched.result
+    → WritesIn g.R.Region.memory c.args.parts.now c.args.ino c.args.offset c.args.bytes.now c.touched_by-touched.result
 write g c =
     let is = c.touched_by-touched.ensures in
     record {
@@ -29,6 +29,6 @@ commit_below-requires-clause-room g c = write_room (write g (goal.at.commit_belo
 
 pub returns : goal.returns
 returns g c =
-    write_commits g.R.Region.memory c.args.parts.now c.commit_below.new.parts c.args.i c.args.off c.args.bytes.now c.touched_by-touched.result
+    write_commits g.R.Region.memory c.args.parts.now c.commit_below.new.parts c.args.ino c.args.offset c.args.bytes.now c.touched_by-touched.result
     c.requires.exact (write g (goal.at.returns g c).After-touched_by-touched) (λ k. omega (arith, c.type_inv.bytes k))
     c.commit_below.result c.commit_below.ensures

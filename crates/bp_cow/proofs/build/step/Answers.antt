@@ -24,30 +24,30 @@ pub is_new-requires-clause-depth : goal.is_new-requires-clause-depth
 is_new-requires-clause-depth g c =
     omega (arith, c.requires.1.1.1.1.0)
 
-pub turn-requires-clause-some : goal.turn-requires-clause-some
-turn-requires-clause-some g c =
+pub redirect-requires-clause-some : goal.redirect-requires-clause-some
+redirect-requires-clause-some g c =
     let one = turns_one (job_of c.args.touched.now) c.args.from c.args.way.now.index (c.args.depth + 1) (c.is_new.ensures.first c.if-is_new.true c.args.from) in
     omega (arith, c.requires.1.1.1.1.1.1.1.0, one)
 
-pub turn-requires-clause-place : goal.turn-requires-clause-place
-turn-requires-clause-place g c =
-    let at = goal.at.turn-requires-clause-place g c in
+pub redirect-requires-clause-place : goal.redirect-requires-clause-place
+redirect-requires-clause-place g c =
+    let at = goal.at.redirect-requires-clause-place g c in
     next_low (reached g at.Start) (next g at.After-slot)
 
-pub turn-requires-clause-from : goal.turn-requires-clause-from
-turn-requires-clause-from g c =
-    let at = goal.at.turn-requires-clause-from g c in
+pub redirect-requires-clause-from : goal.redirect-requires-clause-from
+redirect-requires-clause-from g c =
+    let at = goal.at.redirect-requires-clause-from g c in
     omega (arith, loaded_low (reached g at.Start) (next g at.After-slot))
 
-pub turn-requires-clause-free_low : goal.turn-requires-clause-free_low
-turn-requires-clause-free_low g c b is = (free_inside (reached g (goal.at.turn-requires-clause-free_low g c).Start) b is).0
+pub redirect-requires-clause-free_low : goal.redirect-requires-clause-free_low
+redirect-requires-clause-free_low g c b is = (free_inside (reached g (goal.at.redirect-requires-clause-free_low g c).Start) b is).0
 
-pub turn-requires-clause-free_high : goal.turn-requires-clause-free_high
-turn-requires-clause-free_high g c b is =
-    let inside = (free_inside (reached g (goal.at.turn-requires-clause-free_high g c).Start) b is).1 in omega (arith, inside)
+pub redirect-requires-clause-free_high : goal.redirect-requires-clause-free_high
+redirect-requires-clause-free_high g c b is =
+    let inside = (free_inside (reached g (goal.at.redirect-requires-clause-free_high g c).Start) b is).1 in omega (arith, inside)
 
-pub turn-requires-clause-room : goal.turn-requires-clause-room
-turn-requires-clause-room g c =
+pub redirect-requires-clause-room : goal.redirect-requires-clause-room
+redirect-requires-clause-room g c =
     let one = turns_one (job_of c.args.touched.now) c.args.from c.args.way.now.index (c.args.depth + 1) (c.is_new.ensures.first c.if-is_new.true c.args.from) in
     omega (arith, c.requires.1.1.1.1.1.1.1.1, one)
 
@@ -66,21 +66,21 @@ overflow_cast-result g c =
 pub returns-then-is_new-clause-made : goal.returns-then-is_new-clause-made
 returns-then-is_new-clause-made g c =
     let at = goal.at.returns-then-is_new-clause-made g c in
-    made_copy (reached g at.Start) (next g at.After-slot) (c.is_new.ensures.first c.if-is_new.true c.args.from) c.turn.ensures.words c.turn.ensures.taken
+    made_copy (reached g at.Start) (next g at.After-slot) (c.is_new.ensures.first c.if-is_new.true c.args.from) c.redirect.ensures.words c.redirect.ensures.taken
 
 pub returns-then-is_new-clause-block : goal.returns-then-is_new-clause-block
 returns-then-is_new-clause-block g c =
     let at = goal.at.returns-then-is_new-clause-block g c in
-    copy_reached (reached g at.Start) (next g at.After-slot) (c.is_new.ensures.first c.if-is_new.true c.args.from) c.turn.ensures.words c.turn.ensures.taken
+    copy_reached (reached g at.Start) (next g at.After-slot) (c.is_new.ensures.first c.if-is_new.true c.args.from) c.redirect.ensures.words c.redirect.ensures.taken
 
 pub returns-then-is_new-clause-makes : goal.returns-then-is_new-clause-makes
 returns-then-is_new-clause-makes g c =
     let at = goal.at.returns-then-is_new-clause-makes g c in
     let first = c.is_new.ensures.first c.if-is_new.true c.args.from in
     let one = turns_one (job_of c.args.touched.now) c.args.from c.args.way.now.index (c.args.depth + 1) first in
-    let taken = stored_taken (reached g at.Start) (next g at.After-slot) first c.turn.ensures.words c.turn.ensures.taken in
+    let taken = stored_taken (reached g at.Start) (next g at.After-slot) first c.redirect.ensures.words c.redirect.ensures.taken in
     makes_as (sym one) (omega (arith, one))
-    (makes_one taken c.turn.ensures.taken c.turn.ensures.count c.turn.ensures.size c.turn.ensures.stores c.turn.ensures.base)
+    (makes_one taken c.redirect.ensures.taken c.redirect.ensures.count c.redirect.ensures.size c.redirect.ensures.stores c.redirect.ensures.base)
 
 pub returns-else-is_new-clause-made : goal.returns-else-is_new-clause-made
 returns-else-is_new-clause-made g c =

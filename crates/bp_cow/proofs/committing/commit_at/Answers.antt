@@ -43,7 +43,7 @@ commit_copies-requires g c κs within =
     let all = c.requires.1.0 in
     let cover = c.requires.1.1.0.cover in
     let short : from ≤ length ((job_of touched).way 0) = omega (arith, c.way_len.ensures, c.if-way_len-cover.false) in
-    let apart = none-begins image g.bound touched (has c.args.parts.now.blocks) all.well_formed all.can in
+    let apart = none-begins image g.bound touched (has c.args.parts.now.free_blocks) all.well_formed all.can in
     let count : copies (job_of touched) from ≡ copied_count image touched =
     sym (copied-some (job_of touched) from short) ∙ count_is touched all.can.shape image apart from cover.has in (
       within,
@@ -70,7 +70,7 @@ returns-then-way_len-cover-clause-commits g c =
     let all = c.requires.1.0 in
     let cover = c.requires.1.1.0.cover in
     let past = subst (λ (n : ℕ). n < c.args.found.now.cover.len) c.way_len.ensures c.if-way_len-cover.true in
-    commits_touched all.well_formed all.can all.loose all.fits (commits_one (g.R.Region.memory c.args.parts.now.region) c.args.parts.now.blocks all.well_formed all.can cover.at cover.has past c.commit_one.ensures)
+    commits_touched all.well_formed all.can all.loose all.fits (commits_one (g.R.Region.memory c.args.parts.now.region) c.args.parts.now.free_blocks all.well_formed all.can cover.at cover.has past c.commit_one.ensures)
 
 pub returns-else-way_len-cover-clause-commits : goal.returns-else-way_len-cover-clause-commits
 returns-else-way_len-cover-clause-commits g c =
@@ -79,4 +79,4 @@ returns-else-way_len-cover-clause-commits g c =
     let short : c.args.found.now.cover.len ≤ length ((job_of c.args.touched.now).way 0) = omega (arith, c.way_len.ensures, c.if-way_len-cover.false) in
     let done = c.commit_copies.ensures in
     commits_touched all.well_formed all.can all.loose all.fits
-    (commits_turned all.well_formed all.can cover.at cover.has short 0 (has c.args.parts.now.blocks) done.done.1 done.exact)
+    (commits_turned all.well_formed all.can cover.at cover.has short 0 (has c.args.parts.now.free_blocks) done.done.1 done.exact)

@@ -24,32 +24,32 @@ pub load-pointer-requires : goal.load-pointer-requires
 load-pointer-requires g c =
     omega (arith, start_low (starts g (goal.at.load-pointer-requires g c).Start), length-current_words (g.R.Region.memory c.args.region.now))
 
-pub make-top-requires : goal.make-top-requires
-make-top-requires g c κs within =
+pub copy_subtree-top-requires : goal.copy_subtree-top-requires
+copy_subtree-top-requires g c κs within =
     let can = c.requires.1.1.0 in
     (within, (c.requires.1.0, (can.can, (can.old, (can.free, (can.at, (can.some, (omega (arith, can.room), c.requires.1.1.1))))))))
 
 pub commit_word-requires-clause-in_range : goal.commit_word-requires-clause-in_range
 commit_word-requires-clause-in_range g c =
     let low = start_low (starts g (goal.at.commit_word-requires-clause-in_range g c).Start) in
-    omega (arith, low, length-current_words (g.R.Region.memory c.args.region.now), c.make-top.ensures.makes.base)
+    omega (arith, low, length-current_words (g.R.Region.memory c.args.region.now), c.copy_subtree-top.ensures.makes.base)
 
 pub commit_word-requires-clause-room : goal.commit_word-requires-clause-room
-commit_word-requires-clause-room g c = omega (arith, c.requires.1.1.0.room, makes_room c.make-top.ensures.makes)
+commit_word-requires-clause-room g c = omega (arith, c.requires.1.1.0.room, makes_room c.copy_subtree-top.ensures.makes)
 
 pub returns-clause-done : goal.returns-clause-done
 returns-clause-done g c =
     let can = c.requires.1.1.0 in
     let touched = c.args.touched.now in
     let start = g.R.Region.memory c.args.region.now in
-    let middle = g.R.Region.memory c.make-top.new.region in
+    let middle = g.R.Region.memory c.copy_subtree-top.new.region in
     let last = g.R.Region.memory c.commit_word.new.region in
-    let plan : Plan = record (planned g.plan touched) { top = c.make-top.result } in
+    let plan : Plan = record (planned g.plan touched) { top = c.copy_subtree-top.result } in
     let all = turn_stores (all_turns touched c.args.from) + (job_of touched).words in
     -- the blocks were free that are taken
-    let makes : MakesCopies (has c.args.blocks.now) (copies (job_of touched) c.args.from) (512 + all) c.args.blocks.now c.make-top.new.blocks start middle =
-    subst (λ (f : ℕ → Bool). MakesCopies f (copies (job_of touched) c.args.from) (512 + all) c.args.blocks.now c.make-top.new.blocks start middle) can.free c.make-top.ensures.makes in
-    let exact = subst (λ (f : ℕ → Bool). IsExactSet plan.old (IsTreePointer plan.old plan.bound) plan.kept f) can.free can.can.exact in
+    let makes : MakesCopies (has c.args.blocks.now) (copies (job_of touched) c.args.from) (512 + all) c.args.blocks.now c.copy_subtree-top.new.blocks start middle =
+    subst (λ (f : ℕ → Bool). MakesCopies f (copies (job_of touched) c.args.from) (512 + all) c.args.blocks.now c.copy_subtree-top.new.blocks start middle) can.free c.copy_subtree-top.ensures.makes in
+    let exact = subst (λ (f : ℕ → Bool). IsExactSet plan.old (IsTreePointer plan.old plan.bound) plan.in_snapshot f) can.free can.can.exact in
     -- the last store is that of the pointer to the cover's copy
     let loaded = c.load-pointer.ensures ∙ start_word (starts g (goal.at.returns-clause-done g c).Start) in
     let value : pointing_to (word plan.old plan.place) plan.top ≡ c.pointer_word.result + c.load-pointer.result % 4096 =
@@ -61,16 +61,16 @@ returns-clause-done g c =
       count = makes.count;
       size = makes.size;
       commit = copy_commit can.well can.can.forest can.sizes exact (omega arith) can.old c.args.place _ makes.stores c.commit_word.ensures;
-      stage = done_of plan c.args.from c.make-top.ensures.made now;
+      stage = done_of plan c.args.from c.copy_subtree-top.ensures.made now;
     }
 
 pub returns-clause-others : goal.returns-clause-others
 returns-clause-others g c w other used =
-    let middle = g.R.Region.memory c.make-top.new.region in
+    let middle = g.R.Region.memory c.copy_subtree-top.new.region in
     let last = g.R.Region.memory c.commit_word.new.region in
     ap (λ (ws : List ℕ). word ws w) (current_words-adds middle last _ c.commit_word.ensures) ∙ get_or-set_other (current_words middle) c.args.place w _ 0 other
-    ∙ makes_stay c.make-top.ensures.makes w used ∙ ap (λ (ws : List ℕ). word ws w) (sym c.requires.1.1.0.old)
+    ∙ makes_stay c.copy_subtree-top.ensures.makes w used ∙ ap (λ (ws : List ℕ). word ws w) (sym c.requires.1.1.0.old)
 
 pub returns-clause-base : goal.returns-clause-base
 returns-clause-base g c =
-    ap length (base-adds (g.R.Region.memory c.make-top.new.region) (g.R.Region.memory c.commit_word.new.region) _ c.commit_word.ensures) ∙ c.make-top.ensures.makes.base
+    ap length (base-adds (g.R.Region.memory c.copy_subtree-top.new.region) (g.R.Region.memory c.commit_word.new.region) _ c.commit_word.ensures) ∙ c.copy_subtree-top.ensures.makes.base

@@ -67,8 +67,8 @@ returns-then-is_new-clause-back g c =
     let places = goal.at.returns-then-is_new-clause-back g c in
     let at = old g places.Start in
     let is = next g places.After-block_of-next at in
-    -- the set that tells what is kept has the block just if it is kept
-    let told = c.requires.1.1.1.1.1.1.same c.block_of-next.result ∙ ap g.plan.kept is in
+    -- the set that tells what is in the snapshot has the block just if it is in the snapshot
+    let told = c.requires.1.1.1.1.1.1.same c.block_of-next.result ∙ ap g.plan.in_snapshot is in
     back_one at c.requires.1.1.1.0.back (c.is_new.ensures.first c.if-is_new.true c.args.from) (λ null. c.if-next-ne0.true (is ∙ null))
     (λ loose. subst (TakesNumber (has c.give_loose.new.blocks) (has c.args.blocks.now)) is (c.give_loose.ensures.given (told ∙ loose)))
     (λ kept. ap has (c.give_loose.ensures.stays (told ∙ kept)))

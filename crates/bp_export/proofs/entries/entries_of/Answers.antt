@@ -11,14 +11,14 @@ pub add_row-requires : goal.add_row-requires
 add_row-requires g c =
     let image : Image = current_words (g.R.Region.memory c.args.region.now) in
     let leaf : ℕ = c.loop-leaf.leaf in
-    let live : 16 * leaf < entry_count image c.args.i = omega (arith, c.leaf_count-leaf-end.ensures.most leaf c.loop-leaf-test.true, c.tree_of-tree.ensures.size) in
-    row_entries image c.requires.well_formed c.args.i c.requires.reached c.requires.directory (16 * leaf) (min 16 (entry_count image c.args.i - 16 * leaf)) _ (omega (arith, live))
-    (row_at image c.args.i _ _ leaf _ c.tree_of-tree.ensures.root c.tree_of-tree.ensures.size c.in-Some.ensures.some)
+    let live : 16 * leaf < entry_count image c.args.ino = omega (arith, c.leaf_count-leaf-end.ensures.most leaf c.loop-leaf-test.true, c.tree_of-tree.ensures.size) in
+    row_entries image c.requires.well_formed c.args.ino c.requires.reached c.requires.directory (16 * leaf) (min 16 (entry_count image c.args.ino - 16 * leaf)) _ (omega (arith, live))
+    (row_at image c.args.ino _ _ leaf _ c.tree_of-tree.ensures.root c.tree_of-tree.ensures.size c.in-Some.ensures.some)
 
 pub loop-leaf-preserved : goal.loop-leaf-preserved
 loop-leaf-preserved g c =
     let image : Image = current_words (g.R.Region.memory c.args.region.now) in
-    let i : ℕ = c.args.i in
+    let i : ℕ = c.args.ino in
     let leaf : ℕ = c.loop-leaf.leaf in
     let live : 16 * leaf < entry_count image i = omega (arith, c.leaf_count-leaf-end.ensures.most leaf c.loop-leaf-test.true, c.tree_of-tree.ensures.size) in
     elim c.match-entry_row.branch [
@@ -35,8 +35,8 @@ loop-leaf-preserved g c =
 pub returns : goal.returns
 returns g c =
     let image : Image = current_words (g.R.Region.memory c.args.region.now) in
-    let all : min (16 * c.loop-leaf.leaf) (entry_count image c.args.i) ≡ entry_count image c.args.i = omega (arith, c.leaf_count-leaf-end.ensures.all, c.loop-leaf-test.false, c.tree_of-tree.ensures.size) in
-    c.loop-leaf.invariant ∙ ap (entries_named image c.args.i 0) all
+    let all : min (16 * c.loop-leaf.leaf) (entry_count image c.args.ino) ≡ entry_count image c.args.ino = omega (arith, c.leaf_count-leaf-end.ensures.all, c.loop-leaf-test.false, c.tree_of-tree.ensures.size) in
+    c.loop-leaf.invariant ∙ ap (entries_named image c.args.ino 0) all
 
 pub entry_row-requires-clause-live : goal.entry_row-requires-clause-live
 entry_row-requires-clause-live g c = c.leaf_count-leaf-end.ensures.most c.loop-leaf.leaf c.loop-leaf-test.true

@@ -21,7 +21,7 @@ pub of-requires-clause-well_formed : goal.of-requires-clause-well_formed
 of-requires-clause-well_formed g t c = c.requires.well_formed
 
 pub of-requires-clause-reached : goal.of-requires-clause-reached
-of-requires-clause-reached g t c = found_reached _ c.requires.well_formed c.requires.stands.0.path c.args.i c.requires.stands.1.found
+of-requires-clause-reached g t c = found_reached _ c.requires.well_formed c.requires.stands.0.path c.args.ino c.requires.stands.1.found
 
 pub of-requires-clause-directory : goal.of-requires-clause-directory
 of-requires-clause-directory g t c = c.requires.directory

@@ -13,7 +13,7 @@ decreases-export_below g l = 4096 - length l.work.now.path.items
 abbrev pub invariant-loop-k : goal.invariant-loop-k
 invariant-loop-k g l = record {
   path : l.work.path.items ≡ l.fn.work.path.items;
-  tours : (place : Place) → WalkStandsAt (current_words (g.R.Region.memory l.region)) l.counts inside l.i l.fn.work.path.items l.fn.work.firsts place
+  tours : (place : Place) → WalkStandsAt (current_words (g.R.Region.memory l.region)) l.counts inside l.ino l.fn.work.path.items l.fn.work.firsts place
       → Tours {T = Unit {0}} (current_words (g.R.Region.memory l.region)) l.counts (up_to l.k) place (Ok tt) l.work.firsts (waiting l.fn.work.replies) (waiting l.work.replies)
       (g.K.Sink.view l.fn.out) (g.K.Sink.view l.out);
 }

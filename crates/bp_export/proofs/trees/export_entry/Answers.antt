@@ -16,38 +16,38 @@ pub get-inode-requires-clause-sound : goal.get-inode-requires-clause-sound
 get-inode-requires-clause-sound g c = inode_file_sound _ c.requires.well_formed
 
 pub get-inode-requires-clause-some : goal.get-inode-requires-clause-some
-get-inode-requires-clause-some g c = found_low (current_words (g.R.Region.memory c.args.region.now)) c.requires.well_formed c.requires.stands.0.path c.args.i c.requires.stands.1.found
+get-inode-requires-clause-some g c = found_low (current_words (g.R.Region.memory c.args.region.now)) c.requires.well_formed c.requires.stands.0.path c.args.ino c.requires.stands.1.found
 
 pub get-inode-requires-clause-there : goal.get-inode-requires-clause-there
 get-inode-requires-clause-there g c =
-    (inode_found (current_words (g.R.Region.memory c.args.region.now)) c.requires.well_formed c.args.counts.now c.args.i c.args.work.now.path.items c.args.work.now.firsts c.requires.stands.0 c.requires.stands.1).high
+    (inode_found (current_words (g.R.Region.memory c.args.region.now)) c.requires.well_formed c.args.counts.now c.args.ino c.args.work.now.path.items c.args.work.now.firsts c.requires.stands.0 c.requires.stands.1).high
 
 pub get-inode-requires-clause-least : goal.get-inode-requires-clause-least
 get-inode-requires-clause-least g c =
-    (inode_found (current_words (g.R.Region.memory c.args.region.now)) c.requires.well_formed c.args.counts.now c.args.i c.args.work.now.path.items c.args.work.now.firsts c.requires.stands.0 c.requires.stands.1).least
+    (inode_found (current_words (g.R.Region.memory c.args.region.now)) c.requires.well_formed c.args.counts.now c.args.ino c.args.work.now.path.items c.args.work.now.firsts c.requires.stands.0 c.requires.stands.1).least
 
 pub get-inode-requires-clause-most : goal.get-inode-requires-clause-most
 get-inode-requires-clause-most g c =
-    (inode_found (current_words (g.R.Region.memory c.args.region.now)) c.requires.well_formed c.args.counts.now c.args.i c.args.work.now.path.items c.args.work.now.firsts c.requires.stands.0 c.requires.stands.1).most
+    (inode_found (current_words (g.R.Region.memory c.args.region.now)) c.requires.well_formed c.args.counts.now c.args.ino c.args.work.now.path.items c.args.work.now.firsts c.requires.stands.0 c.requires.stands.1).most
 
 pub tell-requires : goal.tell-requires
 tell-requires g c =
     let image : Image = current_words (g.R.Region.memory c.args.region.now) in
-    let kind : IsDirectory image c.args.i = sym c.get-inode.ensures.kind ∙ ap kind_word c.in-Dir.is in
-    subst (λ (text : List ℕ). FitsText (mkdir text)) (sym c.deref.ensures.value) (fits_mkdir image c.requires.well_formed c.args.counts.now c.args.i c.args.work.now.path.items c.args.work.now.firsts c.requires.stands.0 c.requires.stands.1 c.requires.below kind)
+    let kind : IsDirectory image c.args.ino = sym c.get-inode.ensures.kind ∙ ap kind_word c.in-Dir.is in
+    subst (λ (text : List ℕ). FitsText (mkdir text)) (sym c.deref.ensures.value) (fits_mkdir image c.requires.well_formed c.args.counts.now c.args.ino c.args.work.now.path.items c.args.work.now.firsts c.requires.stands.0 c.requires.stands.1 c.requires.below kind)
 
 pub returns-in_err-tell-in-Dir-clause-tours : goal.returns-in_err-tell-in-Dir-clause-tours
 returns-in_err-tell-in-Dir-clause-tours g c place stands =
     let image : Image = current_words (g.R.Region.memory c.args.region.now) in
-    let kind : IsDirectory image c.args.i = sym c.get-inode.ensures.kind ∙ ap kind_word c.in-Dir.is in
+    let kind : IsDirectory image c.args.ino = sym c.get-inode.ensures.kind ∙ ap kind_word c.in-Dir.is in
     let p = err_from_is_err_and c.from_residual-in_err-tell-in-Dir.result c.from_residual-in_err-tell-in-Dir.ensures.1 in
-    tours_end image c.requires.well_formed c.args.counts.now c.args.i c.args.work.now.path.items c.args.work.now.firsts place stands _ p.0 p.1 _ _ _ _ _ (untoured image c.requires.well_formed c.args.counts.now c.args.i c.args.work.now.path.items c.args.work.now.firsts place stands _ _ _ _ _ _ _ p.0 p.2 _
-    (directory_here image c.requires.well_formed c.args.counts.now c.args.i c.args.work.now.path.items c.args.work.now.firsts place stands c.requires.below kind) (tells_same _ _ _ _ _ _ _ (ap (λ (text : List ℕ). mkdir text ∷ []) c.deref.ensures.value) c.in_err-tell-in-Dir.ensures) _)
+    tours_end image c.requires.well_formed c.args.counts.now c.args.ino c.args.work.now.path.items c.args.work.now.firsts place stands _ p.0 p.1 _ _ _ _ _ (untoured image c.requires.well_formed c.args.counts.now c.args.ino c.args.work.now.path.items c.args.work.now.firsts place stands _ _ _ _ _ _ _ p.0 p.2 _
+    (directory_here image c.requires.well_formed c.args.counts.now c.args.ino c.args.work.now.path.items c.args.work.now.firsts place stands c.requires.below kind) (tells_same _ _ _ _ _ _ _ (ap (λ (text : List ℕ). mkdir text ∷ []) c.deref.ensures.value) c.in_err-tell-in-Dir.ensures) _)
 
 pub returns-in_ok-tell-in-Dir-clause-tours : goal.returns-in_ok-tell-in-Dir-clause-tours
 returns-in_ok-tell-in-Dir-clause-tours g c place stands =
     let image : Image = current_words (g.R.Region.memory c.args.region.now) in
-    let kind : IsDirectory image c.args.i = sym c.get-inode.ensures.kind ∙ ap kind_word c.in-Dir.is in
-    toured image c.requires.well_formed c.args.counts.now c.args.i c.args.work.now.path.items c.args.work.now.firsts place stands _ _ _ _ _ _ _
-    (directory_here image c.requires.well_formed c.args.counts.now c.args.i c.args.work.now.path.items c.args.work.now.firsts place stands c.requires.below kind) (tells_same _ _ _ _ _ _ _ (ap (λ (text : List ℕ). mkdir text ∷ []) c.deref.ensures.value) c.in_ok-tell-in-Dir.ensures) _
-    (directory_remembered image c.requires.well_formed c.args.counts.now c.args.i c.args.work.now.path.items c.args.work.now.firsts place stands c.requires.below kind)
+    let kind : IsDirectory image c.args.ino = sym c.get-inode.ensures.kind ∙ ap kind_word c.in-Dir.is in
+    toured image c.requires.well_formed c.args.counts.now c.args.ino c.args.work.now.path.items c.args.work.now.firsts place stands _ _ _ _ _ _ _
+    (directory_here image c.requires.well_formed c.args.counts.now c.args.ino c.args.work.now.path.items c.args.work.now.firsts place stands c.requires.below kind) (tells_same _ _ _ _ _ _ _ (ap (λ (text : List ℕ). mkdir text ∷ []) c.deref.ensures.value) c.in_ok-tell-in-Dir.ensures) _
+    (directory_remembered image c.requires.well_formed c.args.counts.now c.args.ino c.args.work.now.path.items c.args.work.now.firsts place stands c.requires.below kind)

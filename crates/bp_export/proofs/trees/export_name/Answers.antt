@@ -16,19 +16,19 @@ use Rattle.bp_export.proofs.trees.export_name.Goals as goal
 
 pub names-requires : goal.names-requires
 names-requires g c =
-    counted (current_words (g.R.Region.memory c.args.region.now)) c.requires.well_formed c.args.counts.now c.args.i c.args.work.now.path.items c.args.work.now.firsts c.requires.stands.0 c.requires.stands.1 _ c.requires.inodes
+    counted (current_words (g.R.Region.memory c.args.region.now)) c.requires.well_formed c.args.counts.now c.args.ino c.args.work.now.path.items c.args.work.now.firsts c.requires.stands.0 c.requires.stands.1 _ c.requires.inodes
 
 -- ---- a file with one name
 
 pub export_new-requires-clause-sound : goal.export_new-requires-clause-sound
 export_new-requires-clause-sound g c =
-    sound_here (current_words (g.R.Region.memory c.args.region.now)) c.requires.well_formed c.args.counts.now c.args.i c.args.work.now.path.items c.args.work.now.firsts c.requires.stands.0 c.requires.stands.1 _ _ c.requires.root c.requires.size
+    sound_here (current_words (g.R.Region.memory c.args.region.now)) c.requires.well_formed c.args.counts.now c.args.ino c.args.work.now.path.items c.args.work.now.firsts c.requires.stands.0 c.requires.stands.1 _ _ c.requires.root c.requires.size
 
 pub export_new-requires-clause-short : goal.export_new-requires-clause-short
 export_new-requires-clause-short g c =
     let image : Image = current_words (g.R.Region.memory c.args.region.now) in
     let counts = c.args.counts.now in
-    let i : ℕ = c.args.i in
+    let i : ℕ = c.args.ino in
     let text = c.args.work.now.path.items in
     let firsts = c.args.work.now.firsts in
     let place = c.requires.stands.0 in
@@ -42,7 +42,7 @@ pub returns-then-names-le1-clause-tours : goal.returns-then-names-le1-clause-tou
 returns-then-names-le1-clause-tours g c place stands =
     let image : Image = current_words (g.R.Region.memory c.args.region.now) in
     let counts = c.args.counts.now in
-    let i : ℕ = c.args.i in
+    let i : ℕ = c.args.ino in
     let text = c.args.work.now.path.items in
     let firsts = c.args.work.now.firsts in
     let few : slice_index counts i ≤ 1 = subst (λ n. n ≤ 1) c.names.ensures c.if-names-le1.true in
@@ -57,23 +57,23 @@ returns-then-names-le1-clause-tours g c place stands =
 
 pub tell-requires : goal.tell-requires
 tell-requires g c =
-    let several : 1 < slice_index c.args.counts.now c.args.i = omega (arith, c.if-names-le1.false, c.names.ensures) in
-    subst (λ (text : List ℕ). FitsText (link c.in-Some.first.now text)) (sym c.deref.ensures.value) (fits_link (current_words (g.R.Region.memory c.args.region.now)) c.requires.well_formed c.args.counts.now c.args.i c.args.work.now.path.items c.args.work.now.firsts c.requires.stands.0 c.requires.stands.1 c.requires.below c.requires.file several c.in-Some.first.now c.in-Some.ensures)
+    let several : 1 < slice_index c.args.counts.now c.args.ino = omega (arith, c.if-names-le1.false, c.names.ensures) in
+    subst (λ (text : List ℕ). FitsText (link c.in-Some.first.now text)) (sym c.deref.ensures.value) (fits_link (current_words (g.R.Region.memory c.args.region.now)) c.requires.well_formed c.args.counts.now c.args.ino c.args.work.now.path.items c.args.work.now.firsts c.requires.stands.0 c.requires.stands.1 c.requires.below c.requires.file several c.in-Some.first.now c.in-Some.ensures)
 
 pub returns-in_err-tell-clause-tours : goal.returns-in_err-tell-clause-tours
 returns-in_err-tell-clause-tours g c place stands =
     let image : Image = current_words (g.R.Region.memory c.args.region.now) in
-    let several : 1 < slice_index c.args.counts.now c.args.i = omega (arith, c.if-names-le1.false, c.names.ensures) in
+    let several : 1 < slice_index c.args.counts.now c.args.ino = omega (arith, c.if-names-le1.false, c.names.ensures) in
     let p = err_from_is_err_and c.from_residual.result c.from_residual.ensures.1 in
-    tours_end image c.requires.well_formed c.args.counts.now c.args.i c.args.work.now.path.items c.args.work.now.firsts place stands _ p.0 p.1 _ _ _ _ _ (untoured image c.requires.well_formed c.args.counts.now c.args.i c.args.work.now.path.items c.args.work.now.firsts place stands _ _ _ _ _ _ _ p.0 p.2 _
-    (link_here image c.requires.well_formed c.args.counts.now c.args.i c.args.work.now.path.items c.args.work.now.firsts place stands c.requires.below c.requires.file several c.in-Some.first.now c.in-Some.ensures)
+    tours_end image c.requires.well_formed c.args.counts.now c.args.ino c.args.work.now.path.items c.args.work.now.firsts place stands _ p.0 p.1 _ _ _ _ _ (untoured image c.requires.well_formed c.args.counts.now c.args.ino c.args.work.now.path.items c.args.work.now.firsts place stands _ _ _ _ _ _ _ p.0 p.2 _
+    (link_here image c.requires.well_formed c.args.counts.now c.args.ino c.args.work.now.path.items c.args.work.now.firsts place stands c.requires.below c.requires.file several c.in-Some.first.now c.in-Some.ensures)
     (tells_same _ _ _ _ _ _ _ (ap (λ (text : List ℕ). link c.in-Some.first.now text ∷ []) c.deref.ensures.value) c.in_err-tell.ensures) _)
 
 pub returns-in-Some-clause-tours : goal.returns-in-Some-clause-tours
 returns-in-Some-clause-tours g c place stands =
     let image : Image = current_words (g.R.Region.memory c.args.region.now) in
     let counts = c.args.counts.now in
-    let i : ℕ = c.args.i in
+    let i : ℕ = c.args.ino in
     let text = c.args.work.now.path.items in
     let firsts = c.args.work.now.firsts in
     let several : 1 < slice_index counts i = omega (arith, c.if-names-le1.false, c.names.ensures) in
@@ -89,17 +89,17 @@ pub returns-in_err-add-clause-tours : goal.returns-in_err-add-clause-tours
 returns-in_err-add-clause-tours g c place stands =
     let image : Image = current_words (g.R.Region.memory c.args.region.now) in
     let p = err_from_is_err_and c.from_residual-in_err-add.result c.from_residual-in_err-add.ensures.1 in
-    tours_end image c.requires.well_formed c.args.counts.now c.args.i c.args.work.now.path.items c.args.work.now.firsts place stands _ p.0 p.1 _ _ _ _ _ (unremembered image c.requires.well_formed c.args.counts.now c.args.i c.args.work.now.path.items c.args.work.now.firsts place stands _ p.0 p.2 _ _ _)
+    tours_end image c.requires.well_formed c.args.counts.now c.args.ino c.args.work.now.path.items c.args.work.now.firsts place stands _ p.0 p.1 _ _ _ _ _ (unremembered image c.requires.well_formed c.args.counts.now c.args.ino c.args.work.now.path.items c.args.work.now.firsts place stands _ p.0 p.2 _ _ _)
 
 pub export_new-requires-2-clause-sound : goal.export_new-requires-2-clause-sound
 export_new-requires-2-clause-sound g c =
-    sound_here (current_words (g.R.Region.memory c.args.region.now)) c.requires.well_formed c.args.counts.now c.args.i c.args.work.now.path.items c.args.work.now.firsts c.requires.stands.0 c.requires.stands.1 _ _ c.requires.root c.requires.size
+    sound_here (current_words (g.R.Region.memory c.args.region.now)) c.requires.well_formed c.args.counts.now c.args.ino c.args.work.now.path.items c.args.work.now.firsts c.requires.stands.0 c.requires.stands.1 _ _ c.requires.root c.requires.size
 
 pub export_new-requires-2-clause-short : goal.export_new-requires-2-clause-short
 export_new-requires-2-clause-short g c =
     let image : Image = current_words (g.R.Region.memory c.args.region.now) in
     let counts = c.args.counts.now in
-    let i : ℕ = c.args.i in
+    let i : ℕ = c.args.ino in
     let text = c.args.work.now.path.items in
     let firsts = c.args.work.now.firsts in
     let place = c.requires.stands.0 in
@@ -112,7 +112,7 @@ pub returns-clause-tours : goal.returns-clause-tours
 returns-clause-tours g c place stands =
     let image : Image = current_words (g.R.Region.memory c.args.region.now) in
     let counts = c.args.counts.now in
-    let i : ℕ = c.args.i in
+    let i : ℕ = c.args.ino in
     let text = c.args.work.now.path.items in
     let firsts = c.args.work.now.firsts in
     let several : 1 < slice_index counts i = omega (arith, c.if-names-le1.false, c.names.ensures) in

@@ -1,6 +1,6 @@
 use Rattle.std.proofs.Common.{◌+◌, ◌*◌, refl, arith}
 use Rattle.pm_epochs.specs.May.{AnyAt}
-use Rattle.bp_shapes.specs.Sets.{kept_of}
+use Rattle.bp_shapes.specs.Sets.{in_snapshot_of}
 use Rattle.pm_region.specs.Memory.{Memory, current_words}
 use Rattle.bp_layout.specs.Inode.{ContentStandsAt}
 use Rattle.bp_tree.specs.Within.{IsWithin}
@@ -73,22 +73,22 @@ commit_at-requires g c κs inside =
     let mid : Memory = g.R.Region.memory c.barrier.new.self in
     let move = c.args.to_move.now in
     let stands = stands_at g (goal.at.commit_at-requires g c).After-entry_place-entry in
-    let loose = slot_loose (current_words old) move c.requires.can c.args.slot c.requires.empty (kept_of c.args.parts.now) c.requires.thawed.clear c.entry_place-entry.result stands in
+    let loose = slot_loose (current_words old) move c.requires.can c.args.slot c.requires.empty (in_snapshot_of c.args.parts.now) c.requires.thawed.clear c.entry_place-entry.result stands in
     let ready = into_ready old third mid move c.args.slot c.entry_place-entry.result c.requires.can c.requires.new c.requires.other c.requires.empty stands c.put_name.ensures.stores c.put_name.ensures.name c.barrier.ensures
-    c.args.touched.now touches c.args.parts.now.blocks c.args.parts.now.inodes c.requires.exact.sets c.requires.thawed.room loose in
+    c.args.touched.now touches c.args.parts.now.free_blocks c.args.parts.now.free_inodes c.requires.exact.sets c.requires.thawed.room loose in
     let room = into_room old third mid move c.args.slot c.entry_place-entry.result c.requires.can c.requires.new c.requires.other c.requires.empty stands c.put_name.ensures.stores c.put_name.ensures.name c.barrier.ensures
-    c.args.touched.now touches c.args.parts.now.blocks c.args.parts.now.inodes c.requires.exact.sets c.requires.thawed.room loose in
-    let unkept = into_mid_loose old third mid move c.args.slot c.entry_place-entry.result c.requires.can c.requires.new c.requires.other c.requires.empty stands c.put_name.ensures.stores c.put_name.ensures.name c.barrier.ensures
-    c.args.touched.now touches c.args.parts.now.blocks c.args.parts.now.inodes c.requires.exact.sets c.requires.thawed.room loose c.requires.thawed.clear in
+    c.args.touched.now touches c.args.parts.now.free_blocks c.args.parts.now.free_inodes c.requires.exact.sets c.requires.thawed.room loose in
+    let outside_snapshot = into_mid_loose old third mid move c.args.slot c.entry_place-entry.result c.requires.can c.requires.new c.requires.other c.requires.empty stands c.put_name.ensures.stores c.put_name.ensures.name c.barrier.ensures
+    c.args.touched.now touches c.args.parts.now.free_blocks c.args.parts.now.free_inodes c.requires.exact.sets c.requires.thawed.room loose c.requires.thawed.clear in
     let count = into_copies old third mid move c.args.slot c.entry_place-entry.result c.requires.can c.requires.new c.requires.other c.requires.empty stands c.put_name.ensures.stores c.put_name.ensures.name c.barrier.ensures
-    c.args.touched.now touches c.args.parts.now.blocks c.args.parts.now.inodes c.requires.exact.sets c.requires.thawed.room loose in
+    c.args.touched.now touches c.args.parts.now.free_blocks c.args.parts.now.free_inodes c.requires.exact.sets c.requires.thawed.room loose in
     let formed = mid_formed old third mid move c.args.slot c.entry_place-entry.result c.requires.can c.requires.new c.requires.other c.requires.empty stands c.put_name.ensures.stores c.put_name.ensures.name c.barrier.ensures in
     let fits = into_fits old third mid move c.args.slot c.entry_place-entry.result c.requires.can c.requires.new c.requires.other c.requires.empty stands c.put_name.ensures.stores c.put_name.ensures.name c.barrier.ensures
-    c.args.touched.now touches c.args.parts.now.blocks c.args.parts.now.inodes c.requires.exact.sets c.requires.thawed.room loose in
+    c.args.touched.now touches c.args.parts.now.free_blocks c.args.parts.now.free_inodes c.requires.exact.sets c.requires.thawed.room loose in
     let whole = mid_whole old third mid move c.args.slot c.entry_place-entry.result c.requires.can c.requires.new c.requires.other c.requires.empty stands c.put_name.ensures.stores c.put_name.ensures.name c.barrier.ensures in
     let ways = into_ways old third mid move c.args.slot c.entry_place-entry.result c.requires.can c.requires.new c.requires.other c.requires.empty stands c.put_name.ensures.stores c.put_name.ensures.name c.barrier.ensures
-    c.args.touched.now touches c.args.parts.now.blocks c.args.parts.now.inodes c.requires.exact.sets c.requires.thawed.room loose c.args.found.now c.requires.found in
-    (inside, (record { well_formed = formed; can = ready; loose = unkept; fits = fits; some = omega (arith, count, c.requires.thawed.enough); room = room }, (ways, record { room = omega (arith, c.requires.exact.frozen_room, whole); same = λ b. refl })))
+    c.args.touched.now touches c.args.parts.now.free_blocks c.args.parts.now.free_inodes c.requires.exact.sets c.requires.thawed.room loose c.args.found.now c.requires.found in
+    (inside, (record { well_formed = formed; can = ready; loose = outside_snapshot; fits = fits; some = omega (arith, count, c.requires.thawed.enough); room = room }, (ways, record { room = omega (arith, c.requires.exact.snapshot_room, whole); same = λ b. refl })))
 
 pub returns : goal.returns
 returns g c =
@@ -99,22 +99,22 @@ returns g c =
     let new : Memory = g.R.Region.memory c.commit_at.new.parts.region in
     let move = c.args.to_move.now in
     let stands = stands_at g (goal.at.returns g c).After-entry_place-entry in
-    let loose = slot_loose (current_words old) move c.requires.can c.args.slot c.requires.empty (kept_of c.args.parts.now) c.requires.thawed.clear c.entry_place-entry.result stands in
+    let loose = slot_loose (current_words old) move c.requires.can c.args.slot c.requires.empty (in_snapshot_of c.args.parts.now) c.requires.thawed.clear c.entry_place-entry.result stands in
     record {
       performs = into_performs old third mid move c.args.slot c.entry_place-entry.result c.requires.can c.requires.new c.requires.other c.requires.empty stands c.put_name.ensures.stores c.put_name.ensures.name c.barrier.ensures
-          c.args.touched.now touches c.args.parts.now.blocks c.args.parts.now.inodes c.requires.exact.sets c.requires.thawed.room loose
-          new c.commit_at.new.parts.blocks c.commit_at.ensures.commits c.commit_at.ensures.keeps.block_room;
-      frozen = c.commit_at.ensures.keeps.snapshot_blocks;
+          c.args.touched.now touches c.args.parts.now.free_blocks c.args.parts.now.free_inodes c.requires.exact.sets c.requires.thawed.room loose
+          new c.commit_at.new.parts.free_blocks c.commit_at.ensures.commits c.commit_at.ensures.keeps.block_room;
+      snapshot_blocks = c.commit_at.ensures.keeps.snapshot_blocks;
       exact = exact_kept _ _ c.args.parts.now _ c.requires.exact
           (rw c.commit_at.ensures.keeps.free_inodes
           (into_exact old third mid move c.args.slot c.entry_place-entry.result c.requires.can c.requires.new c.requires.other c.requires.empty stands c.put_name.ensures.stores c.put_name.ensures.name c.barrier.ensures
-          c.args.touched.now touches c.args.parts.now.blocks c.args.parts.now.inodes c.requires.exact.sets c.requires.thawed.room loose
-          new c.commit_at.new.parts.blocks c.commit_at.ensures.commits c.commit_at.ensures.keeps.block_room))
+          c.args.touched.now touches c.args.parts.now.free_blocks c.args.parts.now.free_inodes c.requires.exact.sets c.requires.thawed.room loose
+          new c.commit_at.new.parts.free_blocks c.commit_at.ensures.commits c.commit_at.ensures.keeps.block_room))
           c.commit_at.ensures.keeps.snapshot_blocks c.commit_at.ensures.keeps.link_counts
           (into_whole_image old third mid move c.args.slot c.entry_place-entry.result c.requires.can c.requires.new c.requires.other c.requires.empty stands c.put_name.ensures.stores c.put_name.ensures.name c.barrier.ensures
-          c.args.touched.now touches c.args.parts.now.blocks c.args.parts.now.inodes c.requires.exact.sets c.requires.thawed.room loose
-          new c.commit_at.new.parts.blocks c.commit_at.ensures.commits c.commit_at.ensures.keeps.block_room)
+          c.args.touched.now touches c.args.parts.now.free_blocks c.args.parts.now.free_inodes c.requires.exact.sets c.requires.thawed.room loose
+          new c.commit_at.new.parts.free_blocks c.commit_at.ensures.commits c.commit_at.ensures.keeps.block_room)
           (into_counts old third mid move c.args.slot c.entry_place-entry.result c.requires.can c.requires.new c.requires.other c.requires.empty stands c.put_name.ensures.stores c.put_name.ensures.name c.barrier.ensures
-          c.args.touched.now touches c.args.parts.now.blocks c.args.parts.now.inodes c.requires.exact.sets c.requires.thawed.room loose
-          new c.commit_at.new.parts.blocks c.commit_at.ensures.commits c.commit_at.ensures.keeps.block_room c.args.parts.now.counts c.requires.exact.counts);
+          c.args.touched.now touches c.args.parts.now.free_blocks c.args.parts.now.free_inodes c.requires.exact.sets c.requires.thawed.room loose
+          new c.commit_at.new.parts.free_blocks c.commit_at.ensures.commits c.commit_at.ensures.keeps.block_room c.args.parts.now.link_counts c.requires.exact.counts);
     }

@@ -3,7 +3,7 @@ use Rattle.bp_calls.specs.ThawedFor.{IsThawedFor}
 use Rattle.bp_calls.proofs.CommitLaws.{lacking_space}
 use Rattle.bp_calls.proofs.Refusals.{found_empty}
 use Rattle.bp_calls.proofs.TargetPaths.{directory_some}
-use Rattle.bp_shapes.specs.Sets.{kept_of}
+use Rattle.bp_shapes.specs.Sets.{in_snapshot_of}
 use Rattle.pm_region.specs.Memory.{current_words}
 use Rattle.bp_rename.specs.Planned.{TouchesInto}
 use Rattle.bp_rename.specs.TouchesTwo.{AnyTree}
@@ -40,7 +40,7 @@ ready_ways-requires-clause-needs g c =
 
 pub move_into-requires-clause-thawed : goal.move_into-requires-clause-thawed
 move_into-requires-clause-thawed g c =
-    subst (IsThawedFor (kept_of c.ready_ways.new.parts) (g.R.Region.memory c.ready_ways.new.parts.region) c.ready_ways.new.parts.blocks) (across_change c.args.to_move.now c.requires.new c.requires.other) c.in-Ok.ensures.ready.thawed
+    subst (IsThawedFor (in_snapshot_of c.ready_ways.new.parts) (g.R.Region.memory c.ready_ways.new.parts.region) c.ready_ways.new.parts.free_blocks) (across_change c.args.to_move.now c.requires.new c.requires.other) c.in-Ok.ensures.ready.thawed
 
 pub move_into-requires-clause-touches : goal.move_into-requires-clause-touches
 move_into-requires-clause-touches g c =
@@ -58,8 +58,8 @@ pub returns-in-Ok : goal.returns-in-Ok
 returns-in-Ok g c =
     record {
       performs = c.in-Ok.ensures.ready.performs c.move_into.new.parts
-          (across_renames (kept_of c.ready_ways.new.parts) (g.R.Region.memory c.ready_ways.new.parts.region) (g.R.Region.memory c.move_into.new.parts.region) c.args.to_move.now c.requires.new c.requires.other c.move_into.ensures.performs);
-      frozen = c.move_into.ensures.frozen ∙ c.in-Ok.ensures.ready.frozen;
+          (across_renames (in_snapshot_of c.ready_ways.new.parts) (g.R.Region.memory c.ready_ways.new.parts.region) (g.R.Region.memory c.move_into.new.parts.region) c.args.to_move.now c.requires.new c.requires.other c.move_into.ensures.performs);
+      snapshot_blocks = c.move_into.ensures.snapshot_blocks ∙ c.in-Ok.ensures.ready.snapshot_blocks;
       exact = c.move_into.ensures.exact;
       refused = tt;
       same = tt;

@@ -4,7 +4,7 @@ use Rattle.bp_calls.proofs.CommitLaws.{lacking_space}
 use Rattle.bp_calls.proofs.NewNames.{entry_need_is}
 use Rattle.bp_calls.proofs.PutsLaws.{small_directory}
 use Rattle.bp_calls.proofs.TargetPaths.{directory_some}
-use Rattle.bp_shapes.specs.Sets.{kept_of}
+use Rattle.bp_shapes.specs.Sets.{in_snapshot_of}
 use Rattle.pm_region.specs.Memory.{current_words}
 use Rattle.bp_rename.specs.Planned.{TouchesBehind}
 use Rattle.bp_rename.specs.TouchesTwo.{OtherTree}
@@ -56,7 +56,7 @@ ready_ways-requires-clause-needs g c =
 
 pub move_behind-requires-clause-thawed : goal.move_behind-requires-clause-thawed
 move_behind-requires-clause-thawed g c =
-    subst (IsThawedFor (kept_of c.ready_ways.new.parts) (g.R.Region.memory c.ready_ways.new.parts.region) c.ready_ways.new.parts.blocks) (across_change c.args.to_move.now c.requires.new c.requires.other) c.in-Ok.ensures.ready.thawed
+    subst (IsThawedFor (in_snapshot_of c.ready_ways.new.parts) (g.R.Region.memory c.ready_ways.new.parts.region) c.ready_ways.new.parts.free_blocks) (across_change c.args.to_move.now c.requires.new c.requires.other) c.in-Ok.ensures.ready.thawed
 
 pub move_behind-requires-clause-touches : goal.move_behind-requires-clause-touches
 move_behind-requires-clause-touches g c =
@@ -74,8 +74,8 @@ pub returns-in-Ok : goal.returns-in-Ok
 returns-in-Ok g c =
     record {
       performs = c.in-Ok.ensures.ready.performs c.move_behind.new.parts
-          (across_renames (kept_of c.ready_ways.new.parts) (g.R.Region.memory c.ready_ways.new.parts.region) (g.R.Region.memory c.move_behind.new.parts.region) c.args.to_move.now c.requires.new c.requires.other c.move_behind.ensures.performs);
-      frozen = c.move_behind.ensures.frozen ∙ c.in-Ok.ensures.ready.frozen;
+          (across_renames (in_snapshot_of c.ready_ways.new.parts) (g.R.Region.memory c.ready_ways.new.parts.region) (g.R.Region.memory c.move_behind.new.parts.region) c.args.to_move.now c.requires.new c.requires.other c.move_behind.ensures.performs);
+      snapshot_blocks = c.move_behind.ensures.snapshot_blocks ∙ c.in-Ok.ensures.ready.snapshot_blocks;
       exact = c.move_behind.ensures.exact;
       refused = tt;
       same = tt;

@@ -1,5 +1,5 @@
 use Rattle.std.proofs.Common.{List, sym, ◌∙◌, subst}
-use Rattle.bp_calls.proofs.NothingKept.{clear_at_once}
+use Rattle.bp_calls.proofs.NothingInSnapshot.{clear_at_once}
 use Rattle.bp_layout.specs.Members.{Has}
 use Rattle.bp_layout.specs.WordPaths.{WordPath}
 use Rattle.pm_region.specs.Memory.{current_words}

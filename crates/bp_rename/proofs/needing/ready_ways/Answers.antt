@@ -2,11 +2,11 @@ use Rattle.std.proofs.Common.{◌≡◌, ◌≤◌, length, refl, sym, ◌∙◌
 use Rattle.bp_free.specs.Set.{members}
 use Rattle.bp_layout.specs.Free.{HasFree}
 use Rattle.bp_layout.specs.Need.{need}
-use Rattle.bp_shapes.specs.Sets.{kept_of}
+use Rattle.bp_shapes.specs.Sets.{in_snapshot_of}
 use Rattle.bp_calls.specs.Mounted.{IsMounted}
 use Rattle.pm_region.specs.Memory.{current_words}
 use Rattle.bp_calls.proofs.FreeCounts.{free_members}
-use Rattle.bp_calls.proofs.NothingKept.{lacks_at_once, performed_at_once, room_at_once, shape_self}
+use Rattle.bp_calls.proofs.NothingInSnapshot.{lacks_at_once, performed_at_once, room_at_once, shape_self}
 use Rattle.bp_cow.specs.Cover.{copied_count}
 use Rattle.bp_cow.proofs.CoverOf.{count_is}
 use Rattle.bp_rename.specs.CanRename.{change_of}
@@ -53,7 +53,7 @@ returns-then-free-need-clause-refused g c =
     lacks_at_once g.R.Region.memory (change_of c.args.to_move.now) c.args.parts.now (record { well_formed = c.requires.can.well_formed; exact = c.requires.exact }) (c.is_clear.ensures c.if-not-is_clear.false) _
     (record {
       needed = omega (arith, count, c.requires.needs.all);
-      free = subst (HasFree image (kept_of c.args.parts.now)) (sym c.count-free.ensures) (free_members image (kept_of c.args.parts.now) c.args.parts.now.blocks c.requires.exact.sets.free_blocks c.requires.exact.sets.block_room);
+      free = subst (HasFree image (in_snapshot_of c.args.parts.now)) (sym c.count-free.ensures) (free_members image (in_snapshot_of c.args.parts.now) c.args.parts.now.free_blocks c.requires.exact.sets.free_blocks c.requires.exact.sets.block_room);
       fewer = c.if-free-need.true;
     })
 
@@ -64,13 +64,13 @@ returns-clause-ready g c =
     let move = c.args.to_move.now in
     let mounted : IsMounted image c.args.parts.now = record { well_formed = c.requires.can.well_formed; exact = c.requires.exact } in
     let count = counted g (goal.at.returns-clause-ready g c).After-copies_below in
-    let enough : need image (change_of c.args.to_move.now) ≤ length (members c.args.parts.now.blocks) = omega (arith, count, c.requires.needs.all, c.count-free.ensures, c.if-free-need.false) in
+    let enough : need image (change_of c.args.to_move.now) ≤ length (members c.args.parts.now.free_blocks) = omega (arith, count, c.requires.needs.all, c.count-free.ensures, c.if-free-need.false) in
     let clear = c.is_clear.ensures c.if-not-is_clear.false in
     record {
       shape = shape_self image c.requires.can.well_formed;
       can = c.requires.can;
       exact = c.requires.exact;
-      frozen = refl;
+      snapshot_blocks = refl;
       thawed = record { clear = clear; enough = enough; room = room_at_once memory (change_of move) c.args.parts.now mounted clear c.requires.room enough };
       ways = c.find_ways-found.ensures;
       performs = λ last rest. performed_at_once memory (change_of move) c.args.parts.now mounted clear (memory last.region) (RenamesEntry move) rest;

@@ -1,6 +1,6 @@
 use Rattle.std.proofs.Common.{◌≡◌, ℕ, List, [], ◌∷◌, ◌++◌, map, sym, ◌∙◌, ap}
 use Rattle.arrayvec.specs.ArrayVec.{ArrayVec}
-use Rattle.bp_calls.proofs.NothingKept.{shape_self}
+use Rattle.bp_calls.proofs.NothingInSnapshot.{shape_self}
 use Rattle.bp_layout.specs.Need.{Change}
 use Rattle.bp_layout.specs.Thaw.{cover_now, targets}
 use Rattle.bp_thaw.specs.Thaws.{paths_in}

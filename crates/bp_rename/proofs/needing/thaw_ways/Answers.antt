@@ -3,7 +3,7 @@ use Rattle.bp_free.specs.Set.{members}
 use Rattle.bp_layout.specs.Members.{Has}
 use Rattle.bp_layout.specs.Thaw.{targets}
 use Rattle.bp_layout.specs.WordPaths.{WordPath}
-use Rattle.bp_shapes.specs.Sets.{kept_of}
+use Rattle.bp_shapes.specs.Sets.{in_snapshot_of}
 use Rattle.bp_calls.specs.Mounted.{IsMounted}
 use Rattle.bp_calls.specs.Space.{LacksBlocks}
 use Rattle.bp_calls.specs.ThawsFor.{HasRoomToThaw, ThawsFor, thaw_count}
@@ -48,14 +48,14 @@ returns-in-Ok-clause-ready g c =
     let mounted : IsMounted image old = record { well_formed = c.requires.can.well_formed; exact = c.requires.exact } in
     let done : ThawsFor memory (targets image (change_of c.args.to_move.now)) c.args.parts.now c.thaw_before.new.parts =
     subst (λ (ps : List WordPath). ThawsFor memory ps c.args.parts.now c.thaw_before.new.parts) c.targets_of-targets.ensures c.in-Ok.ensures.thaws in
-    let enough : thaw_count memory (targets image (change_of c.args.to_move.now)) c.args.parts.now + c.args.more ≤ length (members c.args.parts.now.blocks) =
-    subst (λ (ps : List WordPath). thaw_count memory ps c.args.parts.now + c.args.more ≤ length (members c.args.parts.now.blocks)) c.targets_of-targets.ensures c.in-Ok.ensures.enough in
+    let enough : thaw_count memory (targets image (change_of c.args.to_move.now)) c.args.parts.now + c.args.more ≤ length (members c.args.parts.now.free_blocks) =
+    subst (λ (ps : List WordPath). thaw_count memory ps c.args.parts.now + c.args.more ≤ length (members c.args.parts.now.free_blocks)) c.targets_of-targets.ensures c.in-Ok.ensures.enough in
     let left = has_enough memory change c.args.more old (sym c.requires.need) c.requires.room mounted of new done enough in
     record {
       shape = done.thaws.shape;
       can = rename_on image (current_words (memory new.region)) move c.requires.can done.thaws.shape;
       exact = done.exact;
-      frozen = done.frozen;
+      snapshot_blocks = done.snapshot_blocks;
       thawed = record {
         clear = thawed_clear memory change old new mounted of done;
         enough = left;
@@ -69,4 +69,4 @@ pub returns-in-Err-clause-refused : goal.returns-in-Err-clause-refused
 returns-in-Err-clause-refused g c =
     let image = current_words (g.R.Region.memory c.args.parts.now.region) in
     lacks_all g.R.Region.memory (change_of c.args.to_move.now) c.args.more c.args.parts.now (sym c.requires.need) c.requires.room c.in-Err.lacks
-    (subst (λ (ps : List WordPath). LacksBlocks image (kept_of c.args.parts.now) (thaw_count g.R.Region.memory ps c.args.parts.now + c.args.more) c.in-Err.lacks) c.targets_of-targets.ensures c.in-Err.ensures.refused)
+    (subst (λ (ps : List WordPath). LacksBlocks image (in_snapshot_of c.args.parts.now) (thaw_count g.R.Region.memory ps c.args.parts.now + c.args.more) c.in-Err.lacks) c.targets_of-targets.ensures c.in-Err.ensures.refused)

@@ -2,7 +2,7 @@ use Rattle.std.proofs.Common.{◌≡◌, ◌-◌, ◌/◌, ◌<◌, ◌≤◌, l
 use Rattle.bp_free.specs.Set.{Set}
 use Rattle.std.proofs.lemmas.List.{length-set}
 use Rattle.bp_layout.specs.Directory.{inumber_at, inumber_in}
-use Rattle.bp_shapes.specs.Sets.{kept_of}
+use Rattle.bp_shapes.specs.Sets.{in_snapshot_of}
 use Rattle.pm_region.specs.Memory.{Memory, current_words}
 use Rattle.bp_rename.proofs.OntoDone.{IsReplaced, has_room, onto_done, ready}
 use Rattle.bp_rename.proofs.OntoNames.{onto_counted, onto_last, onto_named, onto_other}
@@ -22,27 +22,27 @@ named g c =
 
 -- its names are counted, and there is one at least
 low : (g : Over) (c : After-inumber-replaced g)
-    → inumber_at (current_words (g.R.Region.memory c.args.parts.now.region)) c.args.to_move.now.to_dir c.args.slot < length c.args.parts.now.counts
+    → inumber_at (current_words (g.R.Region.memory c.args.parts.now.region)) c.args.to_move.now.to_dir c.args.slot < length c.args.parts.now.link_counts
 low g c =
     let image = current_words (g.R.Region.memory c.args.parts.now.region) in
     onto_counted image c.args.to_move.now c.args.slot c.requires.can c.requires.onto c.args.parts.now c.requires.exact
 
-some : (g : Over) (c : After-inumber-replaced g) → 1 ≤ slice_index c.args.parts.now.counts c.inumber-replaced.result
+some : (g : Over) (c : After-inumber-replaced g) → 1 ≤ slice_index c.args.parts.now.link_counts c.inumber-replaced.result
 some g c =
     let image = current_words (g.R.Region.memory c.args.parts.now.region) in
     rw (named g c) (onto_named image c.args.to_move.now c.args.slot c.requires.can c.requires.onto c.args.parts.now c.requires.exact)
 
 -- what the commit makes
 committed : (g : Over) (c : After-commit_at g)
-    → IsReplaced (kept_of c.args.parts.now) (g.R.Region.memory c.args.parts.now.region) (g.R.Region.memory c.commit_at.new.parts.region)
+    → IsReplaced (in_snapshot_of c.args.parts.now) (g.R.Region.memory c.args.parts.now.region) (g.R.Region.memory c.commit_at.new.parts.region)
     c.args.to_move.now c.args.slot (inumber_at (current_words (g.R.Region.memory c.args.parts.now.region)) c.args.to_move.now.to_dir c.args.slot)
-    c.args.parts.now.inodes c.commit_at.new.parts.blocks
+    c.args.parts.now.free_inodes c.commit_at.new.parts.free_blocks
 committed g c =
     let old : Memory = g.R.Region.memory c.args.parts.now.region in
     let new : Memory = g.R.Region.memory c.commit_at.new.parts.region in
     let before = c.args.parts.now in
     onto_done old new c.args.to_move.now c.args.slot c.requires.can c.requires.onto c.args.touched.now c.requires.touches
-    before.blocks before.inodes c.commit_at.new.parts.blocks c.requires.exact.sets c.requires.thawed.room c.commit_at.ensures.commits c.commit_at.ensures.keeps.block_room
+    before.free_blocks before.free_inodes c.commit_at.new.parts.free_blocks c.requires.exact.sets c.requires.thawed.room c.commit_at.ensures.commits c.commit_at.ensures.keeps.block_room
 
 pub inumber-replaced-requires-clause-live : goal.inumber-replaced-requires-clause-live
 inumber-replaced-requires-clause-live g c =
@@ -60,11 +60,11 @@ commit_at-requires g c κs within =
     let old : Memory = g.R.Region.memory c.args.parts.now.region in
     let before = c.args.parts.now in
     let can = ready old c.args.to_move.now c.args.slot c.requires.can c.requires.onto c.args.touched.now c.requires.touches
-    before.blocks before.inodes c.requires.exact.sets c.requires.thawed.room in
+    before.free_blocks before.free_inodes c.requires.exact.sets c.requires.thawed.room in
     let room = has_room old c.args.to_move.now c.args.slot c.requires.can c.requires.onto c.args.touched.now c.requires.touches
-    before.blocks before.inodes c.requires.exact.sets c.requires.thawed.room in
+    before.free_blocks before.free_inodes c.requires.exact.sets c.requires.thawed.room in
     let loose = onto_loose (current_words old) c.args.to_move.now c.args.slot c.requires.can c.requires.onto c.args.touched.now c.requires.touches
-    (kept_of before) c.requires.thawed.clear in
+    (in_snapshot_of before) c.requires.thawed.clear in
     let count = onto_need (current_words old) c.args.to_move.now c.args.slot c.requires.can c.requires.onto c.args.touched.now c.requires.touches in (
       within,
       (
@@ -76,7 +76,7 @@ commit_at-requires g c κs within =
           some = omega (arith, count, c.requires.thawed.enough);
           room = room;
         },
-        (c.requires.found, record { room = omega (arith, c.requires.exact.frozen_room); same = λ b. refl }),
+        (c.requires.found, record { room = omega (arith, c.requires.exact.snapshot_room); same = λ b. refl }),
       ),
     )
 
@@ -104,20 +104,20 @@ get-inode-requires-clause-most g c =
     let is = named g (goal.at.get-inode-requires-clause-most g c).After-inumber-replaced in
     rw is (committed g (goal.at.get-inode-requires-clause-most g c).After-commit_at).kind.1
 
-pub give_back-requires-clause-sound : goal.give_back-requires-clause-sound
-give_back-requires-clause-sound g c =
-    let is = named g (goal.at.give_back-requires-clause-sound g c).After-inumber-replaced in
-    rw (c.get-inode.ensures.root, c.get-inode.ensures.size, is) (committed g (goal.at.give_back-requires-clause-sound g c).After-commit_at).gives.sound
+pub free_tree-requires-clause-sound : goal.free_tree-requires-clause-sound
+free_tree-requires-clause-sound g c =
+    let is = named g (goal.at.free_tree-requires-clause-sound g c).After-inumber-replaced in
+    rw (c.get-inode.ensures.root, c.get-inode.ensures.size, is) (committed g (goal.at.free_tree-requires-clause-sound g c).After-commit_at).gives.sound
 
-pub give_back-requires-clause-taken : goal.give_back-requires-clause-taken
-give_back-requires-clause-taken g c =
-    let is = named g (goal.at.give_back-requires-clause-taken g c).After-inumber-replaced in
-    rw (c.get-inode.ensures.root, c.get-inode.ensures.size, is) (committed g (goal.at.give_back-requires-clause-taken g c).After-commit_at).gives.taken
+pub free_tree-requires-clause-taken : goal.free_tree-requires-clause-taken
+free_tree-requires-clause-taken g c =
+    let is = named g (goal.at.free_tree-requires-clause-taken g c).After-inumber-replaced in
+    rw (c.get-inode.ensures.root, c.get-inode.ensures.size, is) (committed g (goal.at.free_tree-requires-clause-taken g c).After-commit_at).gives.taken
 
-pub give_back-requires-clause-known : goal.give_back-requires-clause-known
-give_back-requires-clause-known g c =
-    let whole = (committed g (goal.at.give_back-requires-clause-known g c).After-commit_at).whole in
-    ap (λ (kept : Set). length kept) c.commit_at.ensures.keeps.snapshot_blocks ∙ c.requires.exact.frozen_room ∙ sym (ap (λ n. n / 512) whole)
+pub free_tree-requires-clause-known : goal.free_tree-requires-clause-known
+free_tree-requires-clause-known g c =
+    let whole = (committed g (goal.at.free_tree-requires-clause-known g c).After-commit_at).whole in
+    ap (λ (snapshot : Set). length snapshot) c.commit_at.ensures.keeps.snapshot_blocks ∙ c.requires.exact.snapshot_room ∙ sym (ap (λ n. n / 512) whole)
 
 pub give-requires-clause-in_range : goal.give-requires-clause-in_range
 give-requires-clause-in_range g c =
@@ -153,16 +153,16 @@ returns-then-names-gt0 g c =
     let done = committed g (goal.at.returns-then-names-gt0 g c).After-commit_at in
     let is = named g at in
     let one : 1 ≤ c.names-names.result = rw c.names-names.ensures (some g at) in
-    let read : c.names-names.result ≡ slice_index before.counts (inumber_at image c.args.to_move.now.to_dir c.args.slot) =
-    c.names-names.ensures ∙ ap (λ i. slice_index before.counts i) is in
+    let read : c.names-names.result ≡ slice_index before.link_counts (inumber_at image c.args.to_move.now.to_dir c.args.slot) =
+    c.names-names.ensures ∙ ap (λ i. slice_index before.link_counts i) is in
     let more = onto_other image c.args.to_move.now c.args.slot c.requires.can c.requires.onto before c.requires.exact (omega (arith, read, c.if-names-gt0.true, one)) in
     record {
       performs = done.performs;
-      frozen = c.commit_at.ensures.keeps.snapshot_blocks;
+      snapshot_blocks = c.commit_at.ensures.keeps.snapshot_blocks;
       exact = exact_with _ _ before _ c.requires.exact (rw c.commit_at.ensures.keeps.free_inodes (done.other more)) c.commit_at.ensures.keeps.snapshot_blocks done.whole
           (rw (c.commit_at.ensures.keeps.link_counts, c.set.ensures) (length-set _ _ _))
           (rw (c.commit_at.ensures.keeps.link_counts, c.set.ensures, is)
-          (done.counts before.counts c.requires.exact.counts (low g at) (c.names-names.result - 1) (omega (arith, one, read))));
+          (done.counts before.link_counts c.requires.exact.counts (low g at) (c.names-names.result - 1) (omega (arith, one, read))));
     }
 
 -- the name was its last
@@ -174,17 +174,17 @@ returns g c =
     let done = committed g (goal.at.returns g c).After-commit_at in
     let is = named g at in
     let one : 1 ≤ c.names-names.result = rw c.names-names.ensures (some g at) in
-    let read : c.names-names.result ≡ slice_index before.counts (inumber_at image c.args.to_move.now.to_dir c.args.slot) =
-    c.names-names.ensures ∙ ap (λ i. slice_index before.counts i) is in
+    let read : c.names-names.result ≡ slice_index before.link_counts (inumber_at image c.args.to_move.now.to_dir c.args.slot) =
+    c.names-names.ensures ∙ ap (λ i. slice_index before.link_counts i) is in
     let last = onto_last image c.args.to_move.now c.args.slot c.requires.can c.requires.onto before c.requires.exact (omega (arith, read, c.if-names-gt0.false, one)) in
     record {
       performs = done.performs;
-      frozen = c.commit_at.ensures.keeps.snapshot_blocks;
+      snapshot_blocks = c.commit_at.ensures.keeps.snapshot_blocks;
       exact = exact_with _ _ before _ c.requires.exact
           (rw (c.give.ensures, c.commit_at.ensures.keeps.free_inodes, is)
-          (done.last c.give_back.new.blocks (rw (c.get-inode.ensures.root, c.get-inode.ensures.size, is, c.commit_at.ensures.keeps.snapshot_blocks) at c.give_back.ensures) last))
+          (done.last c.free_tree.new.blocks (rw (c.get-inode.ensures.root, c.get-inode.ensures.size, is, c.commit_at.ensures.keeps.snapshot_blocks) at c.free_tree.ensures) last))
           c.commit_at.ensures.keeps.snapshot_blocks done.whole
           (rw (c.commit_at.ensures.keeps.link_counts, c.set.ensures) (length-set _ _ _))
           (rw (c.commit_at.ensures.keeps.link_counts, c.set.ensures, is)
-          (done.counts before.counts c.requires.exact.counts (low g at) (c.names-names.result - 1) (omega (arith, one, read))));
+          (done.counts before.link_counts c.requires.exact.counts (low g at) (c.names-names.result - 1) (omega (arith, one, read))));
     }

@@ -2,7 +2,7 @@ use Rattle.std.proofs.Common.{◌∙◌, subst, arith}
 use Rattle.bp_calls.specs.ThawedFor.{IsThawedFor}
 use Rattle.bp_calls.proofs.CommitLaws.{lacking_space}
 use Rattle.bp_calls.proofs.TargetPaths.{directory_some}
-use Rattle.bp_shapes.specs.Sets.{kept_of}
+use Rattle.bp_shapes.specs.Sets.{in_snapshot_of}
 use Rattle.pm_region.specs.Memory.{current_words}
 use Rattle.bp_rename.specs.Planned.{TouchesOnto}
 use Rattle.bp_rename.specs.TouchesTwo.{AnyTree}
@@ -40,7 +40,7 @@ ready_ways-requires-clause-needs g c =
 
 pub move_onto-requires-clause-thawed : goal.move_onto-requires-clause-thawed
 move_onto-requires-clause-thawed g c =
-    subst (IsThawedFor (kept_of c.ready_ways.new.parts) (g.R.Region.memory c.ready_ways.new.parts.region) c.ready_ways.new.parts.blocks) (onto_change c.args.to_move.now c.args.slot c.requires.onto) c.in-Ok.ensures.ready.thawed
+    subst (IsThawedFor (in_snapshot_of c.ready_ways.new.parts) (g.R.Region.memory c.ready_ways.new.parts.region) c.ready_ways.new.parts.free_blocks) (onto_change c.args.to_move.now c.args.slot c.requires.onto) c.in-Ok.ensures.ready.thawed
 
 pub move_onto-requires-clause-touches : goal.move_onto-requires-clause-touches
 move_onto-requires-clause-touches g c =
@@ -52,8 +52,8 @@ pub returns-in-Ok : goal.returns-in-Ok
 returns-in-Ok g c =
     record {
       performs = c.in-Ok.ensures.ready.performs c.move_onto.new.parts
-          (onto_renames (kept_of c.ready_ways.new.parts) (g.R.Region.memory c.ready_ways.new.parts.region) (g.R.Region.memory c.move_onto.new.parts.region) c.args.to_move.now c.args.slot c.requires.onto c.move_onto.ensures.performs);
-      frozen = c.move_onto.ensures.frozen ∙ c.in-Ok.ensures.ready.frozen;
+          (onto_renames (in_snapshot_of c.ready_ways.new.parts) (g.R.Region.memory c.ready_ways.new.parts.region) (g.R.Region.memory c.move_onto.new.parts.region) c.args.to_move.now c.args.slot c.requires.onto c.move_onto.ensures.performs);
+      snapshot_blocks = c.move_onto.ensures.snapshot_blocks ∙ c.in-Ok.ensures.ready.snapshot_blocks;
       exact = c.move_onto.ensures.exact;
       refused = tt;
       same = tt;

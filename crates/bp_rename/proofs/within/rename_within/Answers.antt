@@ -3,7 +3,7 @@ use Rattle.bp_free.specs.Set.{members}
 use Rattle.bp_layout.specs.Need.{need}
 use Rattle.bp_layout.specs.Thaw.{thawed}
 use Rattle.bp_commit.specs.Performs.{room_for}
-use Rattle.bp_shapes.specs.Sets.{kept_of}
+use Rattle.bp_shapes.specs.Sets.{in_snapshot_of}
 use Rattle.pm_region.specs.Memory.{Memory, current_words, room_in}
 use Rattle.bp_calls.proofs.CommitLaws.{lacking_space}
 use Rattle.bp_rename.specs.CanRename.{moved_inode}
@@ -51,20 +51,20 @@ commit_at-requires g c κs inside =
     (named g (goal.at.commit_at-requires g c).After-touched_by-touched) in
     let change = within_change move c.requires.new c.requires.here in
     let room = subst (λ ch. room_for (need (current_words middle) ch) ≤ room_in middle + 2) change ready.thawed.room in
-    let clear = subst (λ ch. thawed (current_words middle) (kept_of c.ready_ways.new.parts) ch ≡ []) change ready.thawed.clear in
-    let enough = subst (λ ch. need (current_words middle) ch ≤ length (members c.ready_ways.new.parts.blocks)) change ready.thawed.enough in
+    let clear = subst (λ ch. thawed (current_words middle) (in_snapshot_of c.ready_ways.new.parts) ch ≡ []) change ready.thawed.clear in
+    let enough = subst (λ ch. need (current_words middle) ch ≤ length (members c.ready_ways.new.parts.free_blocks)) change ready.thawed.enough in
     let count = within_need_at (current_words middle) move.from_slot j move.name.now c.touched_by-touched.result move.from_dir can touches in (
       inside,
       (
         record {
           well_formed = ready.can.well_formed;
-          can = within_ready_at middle move.from_slot j move.name.now c.touched_by-touched.result c.ready_ways.new.parts.blocks c.ready_ways.new.parts.inodes ready.exact.sets move.from_dir room can touches;
-          loose = within_loose_at (current_words middle) move.from_slot j move.name.now c.touched_by-touched.result move.from_dir can touches (kept_of c.ready_ways.new.parts) clear;
+          can = within_ready_at middle move.from_slot j move.name.now c.touched_by-touched.result c.ready_ways.new.parts.free_blocks c.ready_ways.new.parts.free_inodes ready.exact.sets move.from_dir room can touches;
+          loose = within_loose_at (current_words middle) move.from_slot j move.name.now c.touched_by-touched.result move.from_dir can touches (in_snapshot_of c.ready_ways.new.parts) clear;
           fits = omega (arith, ready.exact.sets.block_room);
           some = omega (arith, count, enough);
-          room = within_room_at middle move.from_slot j move.name.now c.touched_by-touched.result c.ready_ways.new.parts.blocks c.ready_ways.new.parts.inodes ready.exact.sets move.from_dir room can touches;
+          room = within_room_at middle move.from_slot j move.name.now c.touched_by-touched.result c.ready_ways.new.parts.free_blocks c.ready_ways.new.parts.free_inodes ready.exact.sets move.from_dir room can touches;
         },
-        (ready.ways, record { room = omega (arith, ready.exact.frozen_room); same = λ b. refl }),
+        (ready.ways, record { room = omega (arith, ready.exact.snapshot_room); same = λ b. refl }),
       ),
     )
 
@@ -83,17 +83,17 @@ returns-in-Ok g c =
     let new : Memory = g.R.Region.memory c.commit_at.new.parts.region in
     record {
       performs = ready.performs c.commit_at.new.parts
-          (within_renames (kept_of c.ready_ways.new.parts) middle new move c.requires.new c.requires.here
-          (within_performs_at middle move.from_slot j move.name.now c.touched_by-touched.result c.ready_ways.new.parts.blocks c.ready_ways.new.parts.inodes ready.exact.sets
-          new c.commit_at.new.parts.blocks c.commit_at.ensures.commits c.commit_at.ensures.keeps.block_room move.from_dir room can touches (RenamesEntry move) (λ spells spelled. within c.requires.new c.requires.here spells spelled)));
-      frozen = c.commit_at.ensures.keeps.snapshot_blocks ∙ c.in-Ok.ensures.ready.frozen;
+          (within_renames (in_snapshot_of c.ready_ways.new.parts) middle new move c.requires.new c.requires.here
+          (within_performs_at middle move.from_slot j move.name.now c.touched_by-touched.result c.ready_ways.new.parts.free_blocks c.ready_ways.new.parts.free_inodes ready.exact.sets
+          new c.commit_at.new.parts.free_blocks c.commit_at.ensures.commits c.commit_at.ensures.keeps.block_room move.from_dir room can touches (RenamesEntry move) (λ spells spelled. within c.requires.new c.requires.here spells spelled)));
+      snapshot_blocks = c.commit_at.ensures.keeps.snapshot_blocks ∙ c.in-Ok.ensures.ready.snapshot_blocks;
       exact = exact_kept _ _ c.ready_ways.new.parts _ ready.exact
           (rw c.commit_at.ensures.keeps.free_inodes
-          (within_exact_at middle move.from_slot j move.name.now c.touched_by-touched.result c.ready_ways.new.parts.blocks c.ready_ways.new.parts.inodes ready.exact.sets new c.commit_at.new.parts.blocks c.commit_at.ensures.commits c.commit_at.ensures.keeps.block_room move.from_dir room can touches))
+          (within_exact_at middle move.from_slot j move.name.now c.touched_by-touched.result c.ready_ways.new.parts.free_blocks c.ready_ways.new.parts.free_inodes ready.exact.sets new c.commit_at.new.parts.free_blocks c.commit_at.ensures.commits c.commit_at.ensures.keeps.block_room move.from_dir room can touches))
           c.commit_at.ensures.keeps.snapshot_blocks c.commit_at.ensures.keeps.link_counts
-          (within_whole_at middle move.from_slot j move.name.now c.touched_by-touched.result c.ready_ways.new.parts.blocks c.ready_ways.new.parts.inodes ready.exact.sets new c.commit_at.new.parts.blocks c.commit_at.ensures.commits c.commit_at.ensures.keeps.block_room move.from_dir room can touches)
-          (within_counts_at middle move.from_slot j move.name.now c.touched_by-touched.result c.ready_ways.new.parts.blocks c.ready_ways.new.parts.inodes ready.exact.sets new c.commit_at.new.parts.blocks c.commit_at.ensures.commits c.commit_at.ensures.keeps.block_room move.from_dir room can touches
-          c.ready_ways.new.parts.counts ready.exact.counts);
+          (within_whole_at middle move.from_slot j move.name.now c.touched_by-touched.result c.ready_ways.new.parts.free_blocks c.ready_ways.new.parts.free_inodes ready.exact.sets new c.commit_at.new.parts.free_blocks c.commit_at.ensures.commits c.commit_at.ensures.keeps.block_room move.from_dir room can touches)
+          (within_counts_at middle move.from_slot j move.name.now c.touched_by-touched.result c.ready_ways.new.parts.free_blocks c.ready_ways.new.parts.free_inodes ready.exact.sets new c.commit_at.new.parts.free_blocks c.commit_at.ensures.commits c.commit_at.ensures.keeps.block_room move.from_dir room can touches
+          c.ready_ways.new.parts.link_counts ready.exact.counts);
       refused = tt;
       same = tt;
     }

@@ -12,31 +12,31 @@ use Rattle.bp_scan.proofs.directories.read_directory.Goals as goal
 
 -- the tree that was read is the directory's
 read : (g : given.Over) (c : goal.After-of-tree g) →
-    (c.of-tree.result.root ≡ root_of (current_words (g.R.Region.memory c.args.region.now)) c.args.inode)
-    × (c.of-tree.result.size ≡ size_of (current_words (g.R.Region.memory c.args.region.now)) c.args.inode)
+    (c.of-tree.result.root ≡ root_of (current_words (g.R.Region.memory c.args.region.now)) c.args.ino)
+    × (c.of-tree.result.size ≡ size_of (current_words (g.R.Region.memory c.args.region.now)) c.args.ino)
 read g c = (c.of-tree.ensures.root ∙ c.get-words.ensures.root, c.of-tree.ensures.size ∙ c.get-words.ensures.size)
 
 -- it has no more entries than blocks could hold
 few : (g : given.Over) (c : goal.After-of-tree g) → c.of-tree.result.size / 256 ≤ 16 * block_count (current_words (g.R.Region.memory c.args.region.now))
 few g c =
     let is = read g c in
-    begun_few (current_words (g.R.Region.memory c.args.region.now)) c.args.work.now (record { inode = c.args.inode; tree = c.of-tree.result }) c.requires is.0 is.1
+    begun_few (current_words (g.R.Region.memory c.args.region.now)) c.args.work.now (record { inode = c.args.ino; tree = c.of-tree.result }) c.requires is.0 is.1
 
 pub get-words-requires-clause-sound : goal.get-words-requires-clause-sound
 get-words-requires-clause-sound g c =
-    inodes_sound (current_words (g.R.Region.memory c.args.region.now)) c.args.work.now c.args.inode 0 c.requires.reading
+    inodes_sound (current_words (g.R.Region.memory c.args.region.now)) c.args.work.now c.args.ino 0 c.requires.reading
 
 pub read_names-requires-clause-sound : goal.read_names-requires-clause-sound
 read_names-requires-clause-sound g c =
     let is = read g (goal.at.read_names-requires-clause-sound g c).After-of-tree in
     begun_sound (current_words (g.R.Region.memory c.args.region.now)) c.args.work.now
-    (record { inode = c.args.inode; tree = c.of-tree.result }) c.requires is.0 is.1
+    (record { inode = c.args.ino; tree = c.of-tree.result }) c.requires is.0 is.1
 
 pub read_names-requires-clause-full : goal.read_names-requires-clause-full
 read_names-requires-clause-full g c =
     let is = read g (goal.at.read_names-requires-clause-full g c).After-of-tree in
     begun_full (current_words (g.R.Region.memory c.args.region.now)) c.args.work.now
-    (record { inode = c.args.inode; tree = c.of-tree.result }) c.requires is.0 is.1
+    (record { inode = c.args.ino; tree = c.of-tree.result }) c.requires is.0 is.1
 
 pub read_names-requires-clause-most : goal.read_names-requires-clause-most
 read_names-requires-clause-most g c =
@@ -56,7 +56,7 @@ returns-in_err-read_names-clause-fault g c =
     let is = read g (goal.at.returns-in_err-read_names-clause-fault g c).After-of-tree in
     let p = err_from_is_err_and c.from_residual.result c.from_residual.ensures.1 in
     rw (p.1, p.2) (begun_names_fail (current_words (g.R.Region.memory c.args.region.now)) c.args.work.now
-    (record { inode = c.args.inode; tree = c.of-tree.result }) c.requires is.0 is.1
+    (record { inode = c.args.ino; tree = c.of-tree.result }) c.requires is.0 is.1
     c.in_err-read_names.field-0.0.check c.in_err-read_names.field-0.0.place c.in_err-read_names.ensures.err)
 
 pub returns-clause-done : goal.returns-clause-done
@@ -64,4 +64,4 @@ returns-clause-done g c =
     let image = current_words (g.R.Region.memory c.args.region.now) in
     on_ok_then c.read_entries.result (λ inside.
     finished image c.read_entries.new.work
-    (record { inode = c.args.inode; tree = c.of-tree.result }) inside) c.read_entries.ensures.inside
+    (record { inode = c.args.ino; tree = c.of-tree.result }) inside) c.read_entries.ensures.inside

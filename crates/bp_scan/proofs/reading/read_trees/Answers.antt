@@ -4,7 +4,7 @@ use Rattle.bp_layout.specs.Words.{block_count}
 use Rattle.pm_region.specs.Memory.{current_words}
 use Rattle.bp_scan.proofs.Closing.{all_well_formed, all_free_blocks, all_others_live, all_free_inodes, all_counts, all_reached}
 use Rattle.bp_scan.proofs.Counting.{few_free, has_totals}
-use Rattle.bp_layout.specs.Thaw.{none_kept}
+use Rattle.bp_layout.specs.Thaw.{none_in_snapshot}
 use Rattle.bp_scan.proofs.reading.read_trees.Goals as goal
 
 pub all_totals-requires : goal.all_totals-requires
@@ -12,7 +12,7 @@ all_totals-requires g c =
     let image = current_words (g.R.Region.memory c.args.region.now) in
     let reading = c.in_ok-read_directories.ensures.reading in
     let none = c.in_ok-read_directories.ensures.none_left in
-    few_free image none_kept c.read_directories.new.work.blocks (all_free_blocks image c.read_directories.new.work reading none) (omega (arith, reading.room.blocks, reading.ready.formatted.sized.at_least))
+    few_free image none_in_snapshot c.read_directories.new.work.blocks (all_free_blocks image c.read_directories.new.work reading none) (omega (arith, reading.room.blocks, reading.ready.formatted.sized.at_least))
 
 pub returns-clause-well_formed : goal.returns-clause-well_formed
 returns-clause-well_formed g c =

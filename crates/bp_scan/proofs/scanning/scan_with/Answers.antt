@@ -13,4 +13,4 @@ returns-in_err-check_superblock-clause-well_formed g c =
 pub returns-in-Err-clause-well_formed : goal.returns-in-Err-clause-well_formed
 returns-in-Err-clause-well_formed g c =
     refused {T = Totals} (current_words (g.R.Region.memory c.args.region.now)) (Damaged c.in-Err.fault.check c.in-Err.fault.place) (Err (Damaged c.in-Err.fault.check c.in-Err.fault.place))
-    (c.in_ok-check_superblock.ensures.formatted.marked, c.in_ok-check_superblock.ensures.formatted.counted, c.in-Err.ensures.fault) refl
+    (c.in_ok-check_superblock.ensures.formatted.has_magic, c.in_ok-check_superblock.ensures.formatted.counted, c.in-Err.ensures.fault) refl

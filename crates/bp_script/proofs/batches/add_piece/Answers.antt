@@ -10,8 +10,8 @@ returns-clause-piece c =
     let longer = c.add_bytes_part.new.text.items in
     let path : spanned longer c.add_path_part-path.result ≡ path_bytes c.args.words.path.now =
     part_kept c.end_of.result c.add_path_part-path.new.text.items longer c.add_path_part-path.result c.in_ok-bytes.ensures.front (omega (arith, c.end_of.ensures)) ∙ c.add_path_part-path.ensures.part in
-    ap (λ (text : List ℕ). Some (record { path = text; off = c.in-Some.off; bytes = spanned longer c.in_ok-bytes.bytes })) path
-    ∙ sym (piece_is c.args.words.path.now c.args.words.off.now (first_word c.args.words.rest.now) c.in-Some.off (spanned longer c.in_ok-bytes.bytes) (sym c.is_empty.ensures ∙ c.if-is_empty.false)
+    ap (λ (text : List ℕ). Some (record { path = text; offset = c.in-Some.offset; bytes = spanned longer c.in_ok-bytes.bytes })) path
+    ∙ sym (piece_is c.args.words.path.now c.args.words.offset.now (first_word c.args.words.rest.now) c.in-Some.offset (spanned longer c.in_ok-bytes.bytes) (sym c.is_empty.ensures ∙ c.if-is_empty.false)
     (sym c.number.ensures ∙ c.in-Some.is) (sym c.in_ok-bytes.ensures.part))
 
 pub returns-clause-front : goal.returns-clause-front

@@ -19,7 +19,7 @@ returns-then-is_full-clause-meaning c =
     let cut = slice_split-cons (λ b. b == 32) c.in-Some.words.rest.now in
     let full = length-map c.loop-left.pieces.items (piece_in c.loop-left.text.items) ∙ eqb-true _ _ (sym c.is_full.ensures.value ∙ c.if-is_full.true) in
     asked_so (words_at c.args.first) done (words_at c.in-Some.words) bad_syntax (rw c.in-Some.is at c.loop-left.invariant.asks)
-    (ap (λ words. asks_on done (c.in-Some.words.path.now ∷ c.in-Some.words.off.now ∷ words)) cut.2 ∙ on_full done c.in-Some.words.path.now c.in-Some.words.off.now cut.0 cut.1 full)
+    (ap (λ words. asks_on done (c.in-Some.words.path.now ∷ c.in-Some.words.offset.now ∷ words)) cut.2 ∙ on_full done c.in-Some.words.path.now c.in-Some.words.offset.now cut.0 cut.1 full)
 
 pub returns-in_err-piece-clause-meaning : goal.returns-in_err-piece-clause-meaning
 returns-in_err-piece-clause-meaning c =
@@ -29,8 +29,8 @@ returns-in_err-piece-clause-meaning c =
     let cut = slice_split-cons (λ b. b == 32) words.rest.now in
     rw p.1 (
     asked_so (words_at c.args.first) done (words_at words) bad_syntax (rw c.in-Some.is at c.loop-left.invariant.asks)
-    (ap (λ ws. asks_on done (words.path.now ∷ words.off.now ∷ ws)) (words_told words.rest.now cut.0 cut.1 cut.2)
-    ∙ no_piece done words.path.now words.off.now (first_word words.rest.now) cut.1 (sym c.in_err-piece.ensures.piece))
+    (ap (λ ws. asks_on done (words.path.now ∷ words.offset.now ∷ ws)) (words_told words.rest.now cut.0 cut.1 cut.2)
+    ∙ no_piece done words.path.now words.offset.now (first_word words.rest.now) cut.1 (sym c.in_err-piece.ensures.piece))
     )
 
 pub returns-in_err-left-clause-meaning : goal.returns-in_err-left-clause-meaning
@@ -41,8 +41,8 @@ returns-in_err-left-clause-meaning c =
     let piece = piece_in c.add_piece.new.text.items c.in_ok-piece.piece in
     rw p.1 (
     asked_so (words_at c.args.first) done (words_at words) bad_syntax (rw c.in-Some.is at c.loop-left.invariant.asks)
-    (ap (λ ws. asks_on done (words.path.now ∷ words.off.now ∷ ws)) c.in_ok-piece.ensures.behind
-    ∙ on_piece done words.path.now words.off.now (first_word words.rest.now) (words_behind c.in_ok-piece.more) piece (sym c.in_ok-piece.ensures.piece)
+    (ap (λ ws. asks_on done (words.path.now ∷ words.offset.now ∷ ws)) c.in_ok-piece.ensures.behind
+    ∙ on_piece done words.path.now words.offset.now (first_word words.rest.now) (words_behind c.in_ok-piece.more) piece (sym c.in_ok-piece.ensures.piece)
     ∙ on_few (done ++ piece ∷ []) (words_behind c.in_ok-piece.more) c.in_err-left.ensures.few.0 c.in_err-left.ensures.few.1)
     )
 
@@ -58,8 +58,8 @@ loop-left-preserved c =
     let piece = piece_in longer given in
     let asks : asks_on (map (piece_in longer) c.push.new.self.items) (option_map_or words_at c.in_ok-left.left []) ≡ asks_on [] (words_at c.args.first) =
     ap₂ (λ (ps : List Piece) (ws : List (List ℕ)). asks_on ps ws) (ap (map (piece_in longer)) c.push.ensures.items ∙ one_more end text longer pieces given c.in_ok-piece.ensures.front c.loop-left.invariant.whole) c.in_ok-left.ensures.split
-    ∙ sym (on_piece done words.path.now words.off.now (first_word words.rest.now) (words_behind c.in_ok-piece.more) piece (sym c.in_ok-piece.ensures.piece))
-    ∙ ap (λ ws. asks_on done (words.path.now ∷ words.off.now ∷ ws)) (sym c.in_ok-piece.ensures.behind)
+    ∙ sym (on_piece done words.path.now words.offset.now (first_word words.rest.now) (words_behind c.in_ok-piece.more) piece (sym c.in_ok-piece.ensures.piece))
+    ∙ ap (λ ws. asks_on done (words.path.now ∷ words.offset.now ∷ ws)) (sym c.in_ok-piece.ensures.behind)
     ∙ (rw c.in-Some.is at c.loop-left.invariant.asks) in record {
       asks = asks;
       whole = rw c.push.ensures.items (

@@ -3,7 +3,7 @@ use Rattle.bp_script.specs.Commands.{in_grammar}
 use Rattle.bp_script.specs.Commands.Command.{log, space, sync}
 use Rattle.bp_session.proofs.ActingLaws.{command_long, command_short, does_call, does_crash, does_log, does_long, does_space, does_storm, does_cache, mask_fits, crash_not_left, no_sync_log, no_sync_storm, no_sync_cache, not_left}
 use Rattle.bp_session.specs.Work.{answer_in}
-use Rattle.bp_session.proofs.StaleLaws.{notes_cache, notes_crash, notes_log}
+use Rattle.bp_session.proofs.LeavesDirtyLaws.{notes_cache, notes_crash, notes_log}
 use Rattle.bp_session.proofs.acting.act_but_sync.Goals as goal
 
 pub apply-requires : goal.apply-requires
@@ -66,7 +66,7 @@ crash-requires-clause-mask g c =
 -- ---- what is noted
 
 pub returns-in-Ok-Call-clause-notes : goal.returns-in-Ok-Call-clause-notes
-returns-in-Ok-Call-clause-notes g c = rw c.region.ensures.memory at c.mark_drain.ensures
+returns-in-Ok-Call-clause-notes g c = rw c.region.ensures.memory at c.dirty_drained.ensures
 
 pub returns-in-Ok-Crash-clause-notes : goal.returns-in-Ok-Crash-clause-notes
 returns-in-Ok-Crash-clause-notes g c = notes_crash c.args.volume.now _ _ _ _ c.crash.ensures.crashes

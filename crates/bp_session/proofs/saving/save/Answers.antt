@@ -20,13 +20,13 @@ returns-clause-saved g c = on_ok c.flush.result (λ name was file.
     record {
       attached = c.flush.ensures.attached.attached name ∙ saved.attached;
       size = rw c.flush.ensures.attached.blocks saved.size;
-      has = rw c.flush.ensures.attached.blocks (known_stays c.args.marks.now was (image_bytes (current_words (g.R.Region.memory c.args.region.now))) _ _ _ saved.has (c.flush.ensures.contents name));
+      has = rw c.flush.ensures.attached.blocks (known_stays c.args.flags.now was (image_bytes (current_words (g.R.Region.memory c.args.region.now))) _ _ _ saved.has (c.flush.ensures.contents name));
     })
 
 pub returns-clause-partly : goal.returns-clause-partly
 returns-clause-partly g c = on_err c.flush.result (λ name was file.
     let saved = c.in_ok-write_changed.ensures.saved name was file in
-    known_mixed c.args.marks.now was (image_bytes (current_words (g.R.Region.memory c.args.region.now))) _ _ (known_stays c.args.marks.now was (image_bytes (current_words (g.R.Region.memory c.args.region.now))) _ _ _ saved.has (c.flush.ensures.contents name)))
+    known_mixed c.args.flags.now was (image_bytes (current_words (g.R.Region.memory c.args.region.now))) _ _ (known_stays c.args.flags.now was (image_bytes (current_words (g.R.Region.memory c.args.region.now))) _ _ _ saved.has (c.flush.ensures.contents name)))
 
 pub returns-clause-told : goal.returns-clause-told
 returns-clause-told g c = λ name was file. stays_told _ _ (c.flush.ensures.contents name) ∙ c.write_changed.ensures.told name was file

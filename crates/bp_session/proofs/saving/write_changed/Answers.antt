@@ -2,28 +2,28 @@ use Rattle.std.proofs.Common.{arith, rules, ◌∙◌, ◌≡◌, ◌*◌, ◌/�
 use Rattle.std.proofs.lemmas.Result.{err_from_is_err_and}
 use Rattle.pm_region.specs.Memory.{current_words}
 use Rattle.bp_layout.specs.Bytes.{image_bytes}
-use Rattle.bp_session.proofs.SavingLaws.{are_sizes, becomes_told, known_partly, known_written, stays_attached, unmarked_run}
+use Rattle.bp_session.proofs.SavingLaws.{are_sizes, becomes_told, known_partly, known_written, stays_attached, clean_run}
 use Rattle.bp_session.proofs.OthersLaws.{others_then}
 use Rattle.bp_session.proofs.saving.write_changed.Goals as goal
 
 pub loop-first-preserved : goal.loop-first-preserved
 loop-first-preserved g c =
     let here = c.loop-first.invariant in
-    let run = c.marked_run-run.result in
-    let count : length (take (4096 * run) c.loop-first.bytes) / 4096 ≡ run = omega (arith, c.marked_run-run.ensures.most, length-take (4096 * run) c.loop-first.bytes) in
+    let run = c.dirty_run-run.result in
+    let count : length (take (4096 * run) c.loop-first.bytes) / 4096 ≡ run = omega (arith, c.dirty_run-run.ensures.most, length-take (4096 * run) c.loop-first.bytes) in
     record {
-      within = c.marked_run-run.ensures.fits;
+      within = c.dirty_run-run.ensures.fits;
       attached = stays_attached _ _ _ here.attached c.write_blocks.ensures.attached;
       bytes = λ name was file.
           let is = here.attached.attached name ∙ file.attached in
           let sizes = are_sizes was (g.R.Region.memory c.args.region.now) (g.F.Files.view c.args.files.now).blocks file.size c.requires.size in
-          known_written c.args.marks.now was (image_bytes (current_words (g.R.Region.memory c.args.region.now))) c.read_blocks.new.into c.loop-first.first run
-          (omega (arith, sizes.whole, c.requires.size, c.marked_run-run.ensures.fits)) sizes.same (rw count at c.read_blocks.ensures) c.marked_run-run.ensures.marked _ _
+          known_written c.args.flags.now was (image_bytes (current_words (g.R.Region.memory c.args.region.now))) c.read_blocks.new.into c.loop-first.first run
+          (omega (arith, sizes.whole, c.requires.size, c.dirty_run-run.ensures.fits)) sizes.same (rw count at c.read_blocks.ensures) c.dirty_run-run.ensures.dirtied _ _
           (here.bytes name was file) (c.in_ok-write_blocks.ensures.written name is);
-      kept = λ none covers. absurd (unmarked_run c.args.marks.now c.loop-first.first run none (omega (arith, covers, c.loop-first-test.true)) c.if-run-eq0.false c.marked_run-run.ensures.marked);
+      kept = λ none covers. absurd (clean_run c.args.flags.now c.loop-first.first run none (omega (arith, covers, c.loop-first-test.true)) c.if-run-eq0.false c.dirty_run-run.ensures.dirtied);
       others = others_then (g.F.Files.view c.args.files.now) (g.F.Files.view c.loop-first.files) (g.F.Files.view c.write_blocks.new.self) here.attached here.others c.write_blocks.ensures.others;
       told = λ name was file.
-          becomes_told _ _ _ c.args.marks.now c.loop-first.first was (image_bytes (current_words (g.R.Region.memory c.args.region.now))) (here.bytes name was file) (c.in_ok-write_blocks.ensures.written name (here.attached.attached name ∙ file.attached)) ∙ here.told name was file;
+          becomes_told _ _ _ c.args.flags.now c.loop-first.first was (image_bytes (current_words (g.R.Region.memory c.args.region.now))) (here.bytes name was file) (c.in_ok-write_blocks.ensures.written name (here.attached.attached name ∙ file.attached)) ∙ here.told name was file;
       faults = search rules;
     }
 
@@ -32,9 +32,9 @@ returns-in_err-write_blocks-clause-partly g c =
     let p = err_from_is_err_and c.from_residual.result c.from_residual.ensures.1 in rw p.1
     (λ name was file.
     let here = c.loop-first.invariant in
-    let run = c.marked_run-run.result in
-    let count : length (take (4096 * run) c.loop-first.bytes) / 4096 ≡ run = omega (arith, c.marked_run-run.ensures.most, length-take (4096 * run) c.loop-first.bytes) in
+    let run = c.dirty_run-run.result in
+    let count : length (take (4096 * run) c.loop-first.bytes) / 4096 ≡ run = omega (arith, c.dirty_run-run.ensures.most, length-take (4096 * run) c.loop-first.bytes) in
     let sizes = are_sizes was (g.R.Region.memory c.args.region.now) (g.F.Files.view c.args.files.now).blocks file.size c.requires.size in
-    known_partly c.args.marks.now was (image_bytes (current_words (g.R.Region.memory c.args.region.now))) c.read_blocks.new.into c.loop-first.first run
-    (omega (arith, sizes.whole, c.requires.size, c.marked_run-run.ensures.fits)) sizes.same (rw count at c.read_blocks.ensures) c.marked_run-run.ensures.marked _ _
+    known_partly c.args.flags.now was (image_bytes (current_words (g.R.Region.memory c.args.region.now))) c.read_blocks.new.into c.loop-first.first run
+    (omega (arith, sizes.whole, c.requires.size, c.dirty_run-run.ensures.fits)) sizes.same (rw count at c.read_blocks.ensures) c.dirty_run-run.ensures.dirtied _ _
     (here.bytes name was file) (c.in_err-write_blocks.ensures.failed name (here.attached.attached name ∙ file.attached)))

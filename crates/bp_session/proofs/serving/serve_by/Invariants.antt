@@ -1,7 +1,7 @@
 use Rattle.std.proofs.Common.{[], ◌-◌, ◌≡◌, ◌≤◌, ℕ, List, length}
 use Rattle.std.specs.Io.KnownBytes.{Consumes}
 use Rattle.std.specs.Prelude.{None}
-use Rattle.bp_session.specs.Serving.{PieceOutcome, moment, with_stale}
+use Rattle.bp_session.specs.Serving.{PieceOutcome, moment, with_dirty}
 use Rattle.bp_session.proofs.serving.serve_by.Given as goal
 
 -- What was read so far was served.
@@ -10,8 +10,8 @@ invariant-loop-count g l =
     record {
       served : (input : List ℕ) × Consumes (g.S.Source.view l.fn.src).left (g.S.Source.view l.src).left input × (length input ≡ l.taken)
           × PieceOutcome None l.most [] input l.work.buffers.line.items
-          (with_stale l.fn.stale (moment l.fn.volume (g.F.Files.view l.fn.files) (g.K.Sink.view l.fn.out)))
-          (with_stale l.stale (moment l.volume (g.F.Files.view l.files) (g.K.Sink.view l.out)));
+          (with_dirty l.fn.dirty (moment l.fn.volume (g.F.Files.view l.fn.files) (g.K.Sink.view l.fn.out)))
+          (with_dirty l.dirty (moment l.volume (g.F.Files.view l.files) (g.K.Sink.view l.out)));
       source : (g.S.Source.view l.src).faults ≡ (g.S.Source.view l.fn.src).faults;
       taken : l.taken ≤ 1073741824;
     }

@@ -1,5 +1,5 @@
 use Rattle.std.proofs.Common.{◌≡◌, ◌≤◌, ◌-◌, take}
-use Rattle.bp_session.specs.Serving.{moment, with_stale}
+use Rattle.bp_session.specs.Serving.{moment, with_dirty}
 use Rattle.bp_replies.specs.Gathering.{waiting}
 use Rattle.bp_session.proofs.AheadLaws.{Waits}
 use Rattle.bp_session.proofs.serving.take_piece.Given as goal
@@ -10,9 +10,9 @@ invariant-loop-end g l =
     record {
       inside : l.at ≤ l.count;
       piece : l.work.piece.items ≡ l.fn.work.piece.items;
-      waits : Waits (with_stale l.fn.stale (moment l.fn.volume (g.F.Files.view l.fn.files) (g.K.Sink.view l.fn.out))) l.most
+      waits : Waits (with_dirty l.fn.dirty (moment l.fn.volume (g.F.Files.view l.fn.files) (g.K.Sink.view l.fn.out))) l.most
           l.fn.work.buffers.line.items (take l.at l.fn.work.piece.items) l.work.buffers.line.items (waiting l.work.buffers.replies)
-          (with_stale l.stale (moment l.volume (g.F.Files.view l.files) (g.K.Sink.view l.out)));
+          (with_dirty l.dirty (moment l.volume (g.F.Files.view l.files) (g.K.Sink.view l.out)));
     }
 
 abbrev pub decreases-loop-end : goal.decreases-loop-end

@@ -5,7 +5,7 @@ use Rattle.bp_shell.proofs.checking.check_file.Goals as goal
 
 pub returns-in-Err-clause-outcome : goal.returns-in-Err-clause-outcome
 returns-in-Err-clause-outcome g c = λ source.
-    read_stopped _ _ _ (record { left = refl; file = stays_equal _ _ (c.examine.ensures.reads.kept c.args.name.now) }) c.examine.ensures.flushed refl _ _ c.in-Err.ensures.reason c.in-Err.ensures.cause.failed c.in-Err.ensures.cause.others c.tell_stop.ensures
+    read_stopped _ _ _ (record { left = refl; file = stays_equal _ _ (c.examine.ensures.reads.kept c.args.name.now) }) c.examine.ensures.flushed refl _ _ c.in-Err.ensures.reason c.in-Err.ensures.cause.failed c.in-Err.ensures.cause.others c.report_stop.ensures
 
 pub returns-in-Ok-print-clause-outcome : goal.returns-in-Ok-print-clause-outcome
 returns-in-Ok-print-clause-outcome g c = λ source.

@@ -9,6 +9,6 @@ returns-clause-clean c =
       totals = c.in_ok-found.found.totals;
       free = c.count.result;
       holds = found.held;
-      leaves = counted c.args.region.now.base _ _ c.count.result found.frozen found.free found.block_room c.count.ensures;
+      leaves = counted c.args.region.now.base _ _ c.count.result found.snapshot_blocks found.free found.block_room c.count.ensures;
       line = refl;
     }

@@ -5,7 +5,7 @@ use Rattle.bp_shell.proofs.playing.play_file.Goals as goal
 
 pub returns-in-Err-clause-outcome : goal.returns-in-Err-clause-outcome
 returns-in-Err-clause-outcome g c = λ source.
-    read_stopped _ _ _ (record { left = refl; file = stays_equal _ _ (c.perform.ensures.reads.kept c.args.name.now) }) c.perform.ensures.flushed refl _ _ c.in-Err.ensures.reason c.in-Err.ensures.cause.failed c.in-Err.ensures.cause.others c.tell_stop.ensures
+    read_stopped _ _ _ (record { left = refl; file = stays_equal _ _ (c.perform.ensures.reads.kept c.args.name.now) }) c.perform.ensures.flushed refl _ _ c.in-Err.ensures.reason c.in-Err.ensures.cause.failed c.in-Err.ensures.cause.others c.report_stop.ensures
 
 pub returns-in-Ok-send-clause-outcome : goal.returns-in-Ok-send-clause-outcome
 returns-in-Ok-send-clause-outcome g c = λ source.

@@ -6,7 +6,7 @@ use Rattle.bp_shell.proofs.running.run_file.Goals as goal
 
 pub returns-in-Err-clause-outcome : goal.returns-in-Err-clause-outcome
 returns-in-Err-clause-outcome g c =
-    run_stopped _ _ (record { left = refl; file = stays_equal _ _ (c.open.ensures.kept c.args.name.now) }) c.open.ensures.flushed refl _ _ c.in-Err.ensures.reason c.in-Err.ensures.cause.failed c.in-Err.ensures.cause.others c.tell_stop.ensures
+    run_stopped _ _ (record { left = refl; file = stays_equal _ _ (c.open.ensures.kept c.args.name.now) }) c.open.ensures.flushed refl _ _ c.in-Err.ensures.reason c.in-Err.ensures.cause.failed c.in-Err.ensures.cause.others c.report_stop.ensures
 
 pub returns-in-Ok-clause-outcome : goal.returns-in-Ok-clause-outcome
 returns-in-Ok-clause-outcome g c =

@@ -17,7 +17,7 @@ returns-in-Err-clause-kinds c = rw c.stop_of.ensures (stop_kinds c.in-Err.fault)
 pub returns-in-Ok-clause-found : goal.returns-in-Ok-clause-found
 returns-in-Ok-clause-found c = record {
   whole = rw c.requires.fresh at (c.in-Ok.ensures.well_formed.0 refl);
-  frozen = rw c.requires.fresh at c.in-Ok.ensures.frozen;
+  snapshot_blocks = rw c.requires.fresh at c.in-Ok.ensures.snapshot_blocks;
   free = rw c.requires.fresh at c.in-Ok.ensures.blocks;
   block_room = c.in-Ok.ensures.block_room ∙ c.requires.blocks;
   named = rw c.requires.fresh at c.in-Ok.ensures.counts;

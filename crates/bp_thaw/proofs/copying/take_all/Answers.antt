@@ -14,17 +14,17 @@ one_place places i x b copies new low at of is =
 pub loop-i-init : goal.loop-i-init
 loop-i-init c = rw c.new-copies.ensures (record { of = refl; takes = takes_none c.args.blocks.now; count = search rules })
 
-pub take_least-requires : goal.take_least-requires
-take_least-requires c =
+pub alloc_lowest-requires : goal.alloc_lowest-requires
+alloc_lowest-requires c =
     omega (arith, c.requires, c.loop-i-test.true, c.len-i-end.ensures.value, c.loop-i.invariant.takes.count, c.loop-i.invariant.count, length-map c.loop-i.copies.items (λ (x : ℕ × ℕ). x.1))
 
 pub loop-i-preserved : goal.loop-i-preserved
 loop-i-preserved c =
     record {
-      of = one_place c.args.places.now.items c.loop-i.i _ c.take_least.result c.loop-i.copies.items c.push.new.self.items (omega (arith, c.loop-i-test.true, c.len-i-end.ensures.value))
+      of = one_place c.args.places.now.items c.loop-i.i _ c.alloc_lowest.result c.loop-i.copies.items c.push.new.self.items (omega (arith, c.loop-i-test.true, c.len-i-end.ensures.value))
           (ap (λ ps. get_or ps c.loop-i.i 0) (sym c.deref.ensures.0)) c.loop-i.invariant.of c.push.ensures.items;
-      takes = subst (TakesAll c.args.blocks.now c.take_least.new.self) (sym (ap blocks_of c.push.ensures.items ∙ map-more (λ (x : ℕ × ℕ). x.1) c.loop-i.copies.items _))
-          (takes_one c.args.blocks.now c.loop-i.blocks c.take_least.new.self (blocks_of c.loop-i.copies.items) c.take_least.result c.loop-i.invariant.takes c.take_least.ensures);
+      takes = subst (TakesAll c.args.blocks.now c.alloc_lowest.new.self) (sym (ap blocks_of c.push.ensures.items ∙ map-more (λ (x : ℕ × ℕ). x.1) c.loop-i.copies.items _))
+          (takes_one c.args.blocks.now c.loop-i.blocks c.alloc_lowest.new.self (blocks_of c.loop-i.copies.items) c.alloc_lowest.result c.loop-i.invariant.takes c.alloc_lowest.ensures);
       count = omega (arith, c.push.ensures.len, c.loop-i.invariant.count);
     }
 

@@ -29,16 +29,16 @@ find_on-requires-clause-way g c =
 pub loop-i-preserved : goal.loop-i-preserved
 loop-i-preserved g c =
     let image = current_words (g.R.Region.memory c.args.region.now) in
-    let kept = has c.args.frozen.now in
+    let in_snapshot = has c.args.snapshot_blocks.now in
     let ways = c.args.ways.now.items in
     let low : c.loop-i.i < length ways = omega (arith, c.loop-i-test.true, c.len-i-end.ensures.value) in
     let way = c.index-deref-i.result in
     let is : get_or ways c.loop-i.i way ≡ way = ap (λ ws. get_or ws c.loop-i.i way) (sym c.deref.ensures.0) ∙ sym c.index-deref-i.is in
     let before : List WordPath = map (λ (path : ArrayVec ℕ). path.items) (take c.loop-i.i ways) in
     record {
-      found = c.find_on.ensures.places (found_in image kept [] before) c.loop-i.invariant.found
-          ∙ ap (map (address image)) (sym (found_in-more image kept [] before way.items))
-          ∙ ap (λ ps. map (address image) (found_in image kept [] ps)) (sym (one_way ways c.loop-i.i way low is));
+      found = c.find_on.ensures.places (found_in image in_snapshot [] before) c.loop-i.invariant.found
+          ∙ ap (map (address image)) (sym (found_in-more image in_snapshot [] before way.items))
+          ∙ ap (λ ps. map (address image) (found_in image in_snapshot [] ps)) (sym (one_way ways c.loop-i.i way low is));
       few = omega (arith, c.find_on.ensures.few, c.loop-i.invariant.few);
     }
 
@@ -47,4 +47,4 @@ returns g c =
     let ways = c.args.ways.now.items in
     let image = current_words (g.R.Region.memory c.args.region.now) in
     let end : c.loop-i.i ≡ length ways = omega (arith, c.loop-i-test.false, c.loop-i.auto.i-end, c.len-i-end.ensures.value) in
-    c.loop-i.invariant.found ∙ ap (λ ps. map (address image) (found_in image (has c.args.frozen.now) [] (map (λ path. path.items) ps))) (ap (λ n. take n ways) end ∙ take-length ways)
+    c.loop-i.invariant.found ∙ ap (λ ps. map (address image) (found_in image (has c.args.snapshot_blocks.now) [] (map (λ path. path.items) ps))) (ap (λ n. take n ways) end ∙ take-length ways)

@@ -7,6 +7,6 @@ use Rattle.bp_thaw.proofs.finding.find.Given as goal
 
 abbrev pub invariant-loop-i : goal.invariant-loop-i
 invariant-loop-i g l = record {
-  found : l.places.items ≡ map (address (current_words (g.R.Region.memory l.region))) (found_in (current_words (g.R.Region.memory l.region)) (has l.frozen) [] (map (λ path. path.items) (take l.i l.ways.items)));
+  found : l.places.items ≡ map (address (current_words (g.R.Region.memory l.region))) (found_in (current_words (g.R.Region.memory l.region)) (has l.snapshot_blocks) [] (map (λ path. path.items) (take l.i l.ways.items)));
   few : length l.places.items ≤ 12 * l.i;
 }

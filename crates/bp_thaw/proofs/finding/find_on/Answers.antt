@@ -1,7 +1,7 @@
 use Rattle.std.proofs.Common.{◌≡◌, ℕ, ◌+◌, ◌-◌, ◌*◌, ◌<◌, Bool, false, get_or, length, map, take, refl, sym, ◌∙◌, ap, arith}
 use Rattle.pm_region.specs.Memory.{current_words}
 use Rattle.bp_free.specs.Set.{has}
-use Rattle.bp_layout.specs.Thaw.{is_kept_at, is_there_now}
+use Rattle.bp_layout.specs.Thaw.{is_in_snapshot_at, is_there_now}
 use Rattle.bp_layout.specs.WordPaths.{address}
 use Rattle.bp_tree.proofs.RegionWords.{length_now}
 use Rattle.bp_thaw.specs.Fronts.{found_on}
@@ -24,14 +24,14 @@ loop-depth-init g c = record { found = λ found e. e; place = refl; few = omega 
 pub returns-then-not-is_there-clause-places : goal.returns-then-not-is_there-clause-places
 returns-then-not-is_there-clause-places g c found e =
     let image = current_words (g.R.Region.memory c.args.region.now) in
-    let kept : ℕ → Bool = has c.args.frozen.now in
+    let in_snapshot : ℕ → Bool = has c.args.snapshot_blocks.now in
     let way = c.args.way.now.items in
     let d : ℕ = c.loop-depth.depth in
     let low : d < length way = omega (arith, c.loop-depth-test.true, c.len-end.ensures.value) in
     let none : is_there_now image (take d way) ≡ false = sym c.is_there.ensures ∙ c.if-not-is_there.true in
     let all : length way - d + d ≡ length way = omega (arith, low) in
-    let ends = found-ends image c.requires.well_formed way c.requires.way kept found d (length way - d) low none (omega (arith, low)) in
-    c.loop-depth.invariant.found found e ∙ ap (map (address image)) (sym ends ∙ ap (found_on image kept found way) all)
+    let ends = found-ends image c.requires.well_formed way c.requires.way in_snapshot found d (length way - d) low none (omega (arith, low)) in
+    c.loop-depth.invariant.found found e ∙ ap (map (address image)) (sym ends ∙ ap (found_on image in_snapshot found way) all)
 
 pub load-requires : goal.load-requires
 load-requires g c =
@@ -43,7 +43,7 @@ pub overflow_cast-block : goal.overflow_cast-block
 overflow_cast-block g c = omega (arith, (looked g (goal.at.overflow_cast-block g c).After-block_of-block).fits)
 
 pub is_free-requires : goal.is_free-requires
-is_free-requires g c = omega (arith, (looked g (goal.at.is_free-requires g c).After-block_of-block).inside, c.requires.frozen)
+is_free-requires g c = omega (arith, (looked g (goal.at.is_free-requires g c).After-block_of-block).inside, c.requires.snapshot_blocks)
 
 pub overflow_add-place : goal.overflow_add-place
 overflow_add-place g c =
@@ -53,12 +53,12 @@ overflow_add-place g c =
 pub loop-depth-preserved : goal.loop-depth-preserved
 loop-depth-preserved g c =
     let image = current_words (g.R.Region.memory c.args.region.now) in
-    let kept : ℕ → Bool = has c.args.frozen.now in
+    let in_snapshot : ℕ → Bool = has c.args.snapshot_blocks.now in
     let way = c.args.way.now.items in
     let d : ℕ = c.loop-depth.depth in
     let at = looked g (goal.at.loop-depth-preserved g c).After-block_of-block in
     let step = c.loop-depth.invariant in
-    let is : is_kept_at image kept (take d way) ≡ c.is_free.result = at.kept kept ∙ sym c.is_free.ensures in
+    let is : is_in_snapshot_at image in_snapshot (take d way) ≡ c.is_free.result = at.kept in_snapshot ∙ sym c.is_free.ensures in
     let next : 512 * c.block_of-block.result + c.from.result ≡ address image (take (d + 1) way) =
     omega (arith, at.next, c.from.ensures ∙ ap (λ xs. get_or xs d 0) c.deref.ensures.0) in
     elim c.if-is_free.branch [
@@ -66,14 +66,14 @@ loop-depth-preserved g c =
           rw w.places-is
           (record {
             found = λ found e.
-                add_step image kept found way d _ _ _ (step.found found e) step.place (is ∙ w.if-is_free.true) w.add_place.ensures.old w.add_place.ensures.new;
+                add_step image in_snapshot found way d _ _ _ (step.found found e) step.place (is ∙ w.if-is_free.true) w.add_place.ensures.old w.add_place.ensures.new;
             place = next;
             few = omega (arith, w.add_place.ensures.few, step.few);
           })
       | else-is_free w ↦
           rw w.places-is
           (record {
-            found = λ found e. step.found found e ∙ ap (map (address image)) (sym (found-passes image kept found way d (is ∙ w.if-is_free.false)));
+            found = λ found e. step.found found e ∙ ap (map (address image)) (sym (found-passes image in_snapshot found way d (is ∙ w.if-is_free.false)));
             place = next;
             few = omega (arith, step.few);
           })
@@ -83,4 +83,4 @@ pub returns-clause-places : goal.returns-clause-places
 returns-clause-places g c found e =
     let image = current_words (g.R.Region.memory c.args.region.now) in
     let end : c.loop-depth.depth ≡ length c.args.way.now.items = omega (arith, c.loop-depth-test.false, c.loop-depth.auto.depth-end, c.len-end.ensures.value) in
-    c.loop-depth.invariant.found found e ∙ ap (λ n. map (address image) (found_on image (has c.args.frozen.now) found c.args.way.now.items n)) end
+    c.loop-depth.invariant.found found e ∙ ap (λ n. map (address image) (found_on image (has c.args.snapshot_blocks.now) found c.args.way.now.items n)) end

@@ -9,15 +9,15 @@ use Rattle.bp_thaw.proofs.thawing.thaw.Goals.{After-take_all-copies}
 use Rattle.bp_thaw.proofs.thawing.thaw.Goals as goal
 
 -- a block is taken for each place that is found
-copying : (g : given.Over) (c : After-take_all-copies g) → IsCopying (has c.args.parts.now.frozen) (paths_in c.args.targets.now)
-    (g.R.Region.memory c.args.parts.now.region) c.args.parts.now.blocks c.take_all-copies.new.blocks c.find-places.result.items c.take_all-copies.result.items
+copying : (g : given.Over) (c : After-take_all-copies g) → IsCopying (has c.args.parts.now.snapshot_blocks) (paths_in c.args.targets.now)
+    (g.R.Region.memory c.args.parts.now.region) c.args.parts.now.free_blocks c.take_all-copies.new.blocks c.find-places.result.items c.take_all-copies.result.items
 copying g c = record { can = c.requires.can; found = c.find-places.ensures; of = c.take_all-copies.ensures.of; takes = c.take_all-copies.ensures.takes }
 
 pub returns-then-is_empty-clause-thaws : goal.returns-then-is_empty-clause-thaws
 returns-then-is_empty-clause-thaws g c =
     let can = c.requires.can in
     let none = none_found _ _ _ _ can c.find-places.result.items c.find-places.ensures (eqb-true _ _ (sym c.is_empty.ensures ∙ c.if-is_empty.true)) in
-    thaws_nothing _ _ (g.R.Region.memory c.args.parts.now.region) c.args.parts.now.blocks can none
+    thaws_nothing _ _ (g.R.Region.memory c.args.parts.now.region) c.args.parts.now.free_blocks can none
 
 pub take_all-copies-requires : goal.take_all-copies-requires
 take_all-copies-requires g c = enough _ _ _ _ c.requires.can c.find-places.result.items c.find-places.ensures

@@ -11,6 +11,6 @@ use Rattle.bp_thaw.proofs.thawing.thaw_need.Goals as goal
 pub returns-clause-need : goal.returns-clause-need
 returns-clause-need g c =
     let image = current_words (g.R.Region.memory c.args.parts.now.region) in
-    let kept = has c.args.parts.now.frozen in
+    let in_snapshot = has c.args.parts.now.snapshot_blocks in
     let paths = paths_in c.args.targets.now in
-    c.len.ensures.value ∙ ap length (c.find.ensures ∙ ap (map (address image)) (found_is image c.requires.well_formed kept paths c.requires.ways)) ∙ length-map (thawed_on image kept paths) (address image)
+    c.len.ensures.value ∙ ap length (c.find.ensures ∙ ap (map (address image)) (found_is image c.requires.well_formed in_snapshot paths c.requires.ways)) ∙ length-map (thawed_on image in_snapshot paths) (address image)

@@ -4,7 +4,7 @@ use Rattle.bp_free.specs.Set.{has}
 use Rattle.bp_tree.proofs.RegionWords.{length_now}
 use Rattle.bp_thaw.specs.Fronts.{found_on}
 use Rattle.bp_thaw.proofs.FindSteps.{IsOnWay, found-passes, on_way, place_inside}
-use Rattle.bp_thaw.proofs.OneWay.{kept_is_thawed, none_on_way}
+use Rattle.bp_thaw.proofs.OneWay.{snapshot_is_thawed, none_on_way}
 use Rattle.bp_thaw.proofs.walking.is_clear.Given as given
 use Rattle.bp_thaw.proofs.walking.is_clear.Goals.{After-block_of-block}
 use Rattle.bp_thaw.proofs.walking.is_clear.Goals as goal
@@ -29,15 +29,15 @@ pub overflow_cast-block : goal.overflow_cast-block
 overflow_cast-block g c = omega (arith, (looked g (goal.at.overflow_cast-block g c).After-block_of-block).fits)
 
 pub is_free-requires : goal.is_free-requires
-is_free-requires g c = omega (arith, (looked g (goal.at.is_free-requires g c).After-block_of-block).inside, c.requires.frozen)
+is_free-requires g c = omega (arith, (looked g (goal.at.is_free-requires g c).After-block_of-block).inside, c.requires.snapshot_blocks)
 
 pub returns-then-is_free : goal.returns-then-is_free
 returns-then-is_free g c =
     let image = current_words (g.R.Region.memory c.args.parts.now.region) in
-    let kept : ℕ → Bool = has c.args.parts.now.frozen in
+    let in_snapshot : ℕ → Bool = has c.args.parts.now.snapshot_blocks in
     let low : c.loop-depth.depth < length c.args.way.now.items = omega (arith, c.loop-depth-test.true, c.len-depth-end.ensures.value) in
-    let is = (looked g (goal.at.returns-then-is_free g c).After-block_of-block).kept kept ∙ sym c.is_free.ensures ∙ c.if-is_free.true in
-    (λ never. absurd (true≢false (sym never)), λ none. absurd (kept_is_thawed image kept c.args.way.now.items c.loop-depth.depth low is none))
+    let is = (looked g (goal.at.returns-then-is_free g c).After-block_of-block).kept in_snapshot ∙ sym c.is_free.ensures ∙ c.if-is_free.true in
+    (λ never. absurd (true≢false (sym never)), λ none. absurd (snapshot_is_thawed image in_snapshot c.args.way.now.items c.loop-depth.depth low is none))
 
 pub overflow_add-place : goal.overflow_add-place
 overflow_add-place g c =
@@ -47,20 +47,20 @@ overflow_add-place g c =
 pub loop-depth-preserved : goal.loop-depth-preserved
 loop-depth-preserved g c =
     let image = current_words (g.R.Region.memory c.args.parts.now.region) in
-    let kept : ℕ → Bool = has c.args.parts.now.frozen in
+    let in_snapshot : ℕ → Bool = has c.args.parts.now.snapshot_blocks in
     let d : ℕ = c.loop-depth.depth in
     let at = looked g (goal.at.loop-depth-preserved g c).After-block_of-block in
-    let is = at.kept kept ∙ sym c.is_free.ensures ∙ c.if-is_free.false in
+    let is = at.kept in_snapshot ∙ sym c.is_free.ensures ∙ c.if-is_free.false in
     record {
-      none = found-passes image kept [] c.args.way.now.items d is ∙ c.loop-depth.invariant.none;
+      none = found-passes image in_snapshot [] c.args.way.now.items d is ∙ c.loop-depth.invariant.none;
       place = omega (arith, at.next, c.from.ensures ∙ ap (λ xs. get_or xs d 0) c.deref.ensures.0);
     }
 
 pub returns : goal.returns
 returns g c =
     let image = current_words (g.R.Region.memory c.args.parts.now.region) in
-    let kept : ℕ → Bool = has c.args.parts.now.frozen in
+    let in_snapshot : ℕ → Bool = has c.args.parts.now.snapshot_blocks in
     let way = c.args.way.now.items in
     let end : c.loop-depth.depth ≡ length way = omega (arith, c.loop-depth-test.false, c.loop-depth.auto.depth-end, c.len-depth-end.ensures.value) in
-    let all : found_on image kept [] way (length way) ≡ [] = ap (λ n. found_on image kept [] way n) (sym end) ∙ c.loop-depth.invariant.none in
-    (λ is. none_on_way image c.requires.well_formed kept way c.requires.way all, λ none. refl)
+    let all : found_on image in_snapshot [] way (length way) ≡ [] = ap (λ n. found_on image in_snapshot [] way n) (sym end) ∙ c.loop-depth.invariant.none in
+    (λ is. none_on_way image c.requires.well_formed in_snapshot way c.requires.way all, λ none. refl)

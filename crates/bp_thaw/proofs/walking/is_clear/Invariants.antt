@@ -7,6 +7,6 @@ use Rattle.bp_thaw.proofs.walking.is_clear.Given as goal
 
 abbrev pub invariant-loop-depth : goal.invariant-loop-depth
 invariant-loop-depth g l = record {
-  none : found_on (current_words (g.R.Region.memory l.parts.region)) (has l.parts.frozen) [] l.way.items l.depth ≡ [];
+  none : found_on (current_words (g.R.Region.memory l.parts.region)) (has l.parts.snapshot_blocks) [] l.way.items l.depth ≡ [];
   place : l.place ≡ address (current_words (g.R.Region.memory l.parts.region)) (take l.depth l.way.items);
 }

@@ -10,11 +10,11 @@ use Rattle.bp_layout.specs.Need.Change.{overwrites}
 use Rattle.bp_limits.specs.CallLimits.{max_batch}
 use Rattle.bp_plain.specs.Seen.{piece_in}
 use Rattle.bp_plain.proofs.Carried.{sum_lies}
-use Rattle.bp_shapes.specs.Sets.{kept_of}
+use Rattle.bp_shapes.specs.Sets.{in_snapshot_of}
 use Rattle.pm_region.specs.Memory.{current_words}
 use Rattle.bp_volume.specs.Carried.CarriesOut.{unchanged}
 use Rattle.bp_volume.proofs.BatchLaws.{batch_makes, batch_nothing, patches_bytes, patches_in, patches_many}
-use Rattle.bp_volume.proofs.CacheLaws.{files_keep_all, kept_thawed, names_kept}
+use Rattle.bp_volume.proofs.CacheLaws.{files_keep_all, snapshot_thawed, names_kept}
 use Rattle.bp_volume.proofs.ChangeLaws.{carried_or_lacks, lacks_space, performs_call}
 use Rattle.bp_volume.proofs.FewStretches.{few_overwrites}
 use Rattle.bp_volume.proofs.FewThawed.{few_room, performs_room}
@@ -54,7 +54,7 @@ batch-requires-clause-room g c = λ enough.
     let sum = sum_lies c.args.text.now c.args.pieces.now c.requires.lie in
     let bytes = patches_bytes image pieces patches c.requires.found in
     let many : length patches ≡ length c.args.pieces.now = patches_many image pieces patches c.requires.found ∙ length-map c.args.pieces.now (piece_in c.args.text.now) in
-    few_room (kept_of c.args.parts.now) (g.R.Region.memory c.args.parts.now.region) (overwrites (stretches_of patches))
+    few_room (in_snapshot_of c.args.parts.now) (g.R.Region.memory c.args.parts.now.region) (overwrites (stretches_of patches))
     (few_overwrites image c.requires.ready.well_formed.first patches (patches_in image c.requires.ready.well_formed.first pieces patches c.requires.found) (omega (arith, many, c.requires.few))
     (omega (arith, bytes, sum, c.requires.total, c.requires.short))) c.requires.ready.room
 
@@ -70,16 +70,16 @@ returns-clause-called g c =
     let few = few_overwrites image c.requires.ready.well_formed.first patches (patches_in image c.requires.ready.well_formed.first pieces patches c.requires.found) (omega (arith, many, c.requires.few)) (omega (arith, bytes, short)) in
     let makes = batch_makes image pieces c.requires.paths short patches c.requires.found (omega (arith, sum, c.requires.total, c.if-total-eq0.false)) in
     carried_or_lacks _ _ _ c.batch.result c.map_err.result c.map_err.ensures.cases
-    (on_ok_weaker c.batch.result (λ performs. performs_call (kept_of c.args.parts.now) _ _ _ (overwrites (stretches_of patches)) _ c.requires.ready.well_formed c.requires.ready.frozen makes performs
+    (on_ok_weaker c.batch.result (λ performs. performs_call (in_snapshot_of c.args.parts.now) _ _ _ (overwrites (stretches_of patches)) _ c.requires.ready.well_formed c.requires.ready.snapshot_blocks makes performs
     (λ over tree stands. pieces_get image _ c.requires.ready.well_formed.first pieces patches c.requires.found over tree.now stands.now)
-    (performs_room (kept_of c.args.parts.now) _ _ _ _ performs few c.requires.ready.room))
+    (performs_room (in_snapshot_of c.args.parts.now) _ _ _ _ performs few c.requires.ready.room))
     c.batch.ensures.performs)
     (on_err_weaker c.batch.result (ap (λ (parts : Parts g.row.R.Denot). g.R.Region.memory parts.region)) c.batch.ensures.same)
-    (MatchResult-weaker c.batch.result c.batch.ensures.refused (λ _ nothing. nothing) (lacks_space _ _ (overwrites (stretches_of patches)) makes (kept_of c.args.parts.now) c.requires.ready.frozen))
+    (MatchResult-weaker c.batch.result c.batch.ensures.refused (λ _ nothing. nothing) (lacks_space _ _ (overwrites (stretches_of patches)) makes (in_snapshot_of c.args.parts.now) c.requires.ready.snapshot_blocks))
 
 pub returns-clause-names : goal.returns-clause-names
 returns-clause-names g c =
     names_kept (g.R.Region.memory c.args.parts.now.region) (g.R.Region.memory c.batch.new.parts.region) c.batch.result
-    (on_ok_weaker c.batch.result (λ performs. kept_thawed _ _ (OverwritesFiles (patches_seen c.args.patches.now)) c.requires.ready.well_formed.first
+    (on_ok_weaker c.batch.result (λ performs. snapshot_thawed _ _ (OverwritesFiles (patches_seen c.args.patches.now)) c.requires.ready.well_formed.first
     (λ image sound over. files_keep_all image _ sound (keeps image _ (patches_seen c.args.patches.now) over)) performs.effect) c.batch.ensures.performs)
     (on_err_weaker c.batch.result (ap (λ (parts : Parts g.row.R.Denot). g.R.Region.memory parts.region)) c.batch.ensures.same)

@@ -4,7 +4,7 @@ use Rattle.bp_calls.specs.Entrant.{entrant_of}
 use Rattle.bp_calls.proofs.Refusals.{tells}
 use Rattle.bp_free.specs.declared.parts.Parts.{Parts}
 use Rattle.bp_layout.specs.Need.Change.{enters as change_of}
-use Rattle.bp_shapes.specs.Sets.{kept_of}
+use Rattle.bp_shapes.specs.Sets.{in_snapshot_of}
 use Rattle.bp_volume.specs.Carried.CarriesOut.{changed}
 use Rattle.bp_volume.proofs.CacheLaws.{cache_thawed, created_enters, on_ok_was}
 use Rattle.bp_volume.proofs.ChangeLaws.{carried_lacks, lacks_space, performs_call}
@@ -23,7 +23,7 @@ create_in-requires-clause-reached g c = reached_at _ c.requires.ready.well_forme
 
 pub create_in-requires-clause-room : goal.create_in-requires-clause-room
 create_in-requires-clause-room g c = λ free least enough.
-    few_room (kept_of c.args.parts.now) (g.R.Region.memory c.args.parts.now.region) (change_of c.args.new.dir (entrant_of free))
+    few_room (in_snapshot_of c.args.parts.now) (g.R.Region.memory c.args.parts.now.region) (change_of c.args.new.dir (entrant_of free))
     (few_entered _ c.requires.ready.well_formed.first c.args.new.dir (reached_at _ c.requires.ready.well_formed.first _ c.args.new.dir c.requires.new.new.parent) (entrant_of free)) c.requires.ready.room
 
 pub slot_for-slot-requires-clause-reached : goal.slot_for-slot-requires-clause-reached
@@ -37,16 +37,16 @@ returns-in_err-map_err-clause-called g c =
     rw (p.1, p.2) (carried_lacks _ _ _ c.create_in.result _ c.in_err-map_err.ensures.cases
     (on_err_weaker c.create_in.result (ap (λ (parts : Parts g.row.R.Denot). g.R.Region.memory parts.region)) c.create_in.ensures.same)
     (MatchResult-weaker c.create_in.result c.create_in.ensures.refused (λ _ nothing. nothing)
-    (λ lacks refused. lacks_space _ _ (change_of c.args.new.dir (entrant_of told.0)) makes (kept_of c.args.parts.now) c.requires.ready.frozen lacks (refused told.0 told.1))))
+    (λ lacks refused. lacks_space _ _ (change_of c.args.new.dir (entrant_of told.0)) makes (in_snapshot_of c.args.parts.now) c.requires.ready.snapshot_blocks lacks (refused told.0 told.1))))
 
 pub returns-clause-called : goal.returns-clause-called
 returns-clause-called g c =
     let told = tells _ _ _ c.requires.ready.exact.sets in
     let makes = making_makes _ c.args.text.now c.args.new.dir c.args.new.name.now c.requires.new told.0 told.1 c.args.kind in
     let done = on_ok_was c.create_in.result _ c.in_ok-map_err.ensures.cases c.create_in.ensures.performs told.0 told.1 in
-    changed (performs_call (kept_of c.args.parts.now) _ _ _ (change_of c.args.new.dir (entrant_of told.0)) _ c.requires.ready.well_formed c.requires.ready.frozen makes done
+    changed (performs_call (in_snapshot_of c.args.parts.now) _ _ _ (change_of c.args.new.dir (entrant_of told.0)) _ c.requires.ready.well_formed c.requires.ready.snapshot_blocks makes done
     (λ enters. making_shows _ c.args.text.now c.args.new.dir c.args.new.name.now c.requires.new c.args.kind _ (created_gains _ _ c.requires.ready.well_formed.first c.args.new.dir c.args.new.name.now c.args.kind enters))
-    (performs_room (kept_of c.args.parts.now) _ _ _ _ done
+    (performs_room (in_snapshot_of c.args.parts.now) _ _ _ _ done
     (few_entered _ c.requires.ready.well_formed.first c.args.new.dir (reached_at _ c.requires.ready.well_formed.first _ c.args.new.dir c.requires.new.new.parent) (entrant_of told.0)) c.requires.ready.room))
 
 pub returns-clause-right : goal.returns-clause-right

@@ -6,5 +6,5 @@ returns c = record {
   unlink = λ tree text stands alone. unlink_plainly c.args.image.now tree stands alone text;
   rmdir = λ tree text stands alone. rmdir_plainly c.args.image.now tree stands alone text;
   truncate = λ tree text size stands alone. truncate_plainly c.args.image.now tree stands alone text size;
-  write = λ tree text new i off stands alone. write_plainly c.args.image.now tree stands alone text new i off;
+  write = λ tree text new i offset stands alone. write_plainly c.args.image.now tree stands alone text new i offset;
 }

@@ -7,11 +7,11 @@ use Rattle.bp_layout.specs.Formatted.{version_of}
 use Rattle.bp_layout.specs.Inode.{size_of}
 use Rattle.bp_layout.specs.Need.Change.{resizes}
 use Rattle.bp_limits.specs.CallLimits.{greatest_size}
-use Rattle.bp_shapes.specs.Sets.{kept_of}
+use Rattle.bp_shapes.specs.Sets.{in_snapshot_of}
 use Rattle.pm_region.specs.Memory.{current_words}
 use Rattle.bp_volume.specs.Carried.CarriesOut.{unchanged}
 use Rattle.bp_volume.proofs.AskingLaws.{at_reached}
-use Rattle.bp_volume.proofs.CacheLaws.{all_kept, kept_thawed, names_kept}
+use Rattle.bp_volume.proofs.CacheLaws.{all_kept, snapshot_thawed, names_kept}
 use Rattle.bp_volume.proofs.ChangeLaws.{carried_or_lacks, lacks_space, performs_call}
 use Rattle.bp_volume.proofs.FewBlocks.{few_resized}
 use Rattle.bp_volume.proofs.FewThawed.{few_room, performs_room}
@@ -27,7 +27,7 @@ truncate-requires-clause-reached g c = at_reached _ c.requires.ready.well_formed
 
 pub truncate-requires-clause-room : goal.truncate-requires-clause-room
 truncate-requires-clause-room g c = λ enough.
-    few_room (kept_of c.args.parts.now) (g.R.Region.memory c.args.parts.now.region) (resizes c.args.file.inumber c.args.size)
+    few_room (in_snapshot_of c.args.parts.now) (g.R.Region.memory c.args.parts.now.region) (resizes c.args.file.inumber c.args.size)
     (few_resized _ c.requires.ready.well_formed.first c.args.file.inumber (at_reached _ c.requires.ready.well_formed.first c.args.text.now c.args.file.inumber c.requires.at) c.args.size) c.requires.ready.room
 
 pub returns-then-size-greatest_size-clause-called : goal.returns-then-size-greatest_size-clause-called
@@ -51,18 +51,18 @@ returns-clause-called g c =
     let limit : c.greatest_size.result ≡ greatest_size (version_of (current_words (g.R.Region.memory c.args.parts.now.region))) = c.greatest_size.ensures.size ∙ ap greatest_size c.version.ensures in
     let makes = truncate_makes _ c.args.text.now c.args.file.inumber c.requires.at c.requires.kind c.args.size (omega (arith, limit)) other in
     carried_or_lacks _ _ _ c.truncate.result c.map_err.result c.map_err.ensures.cases
-    (on_ok_weaker c.truncate.result (λ performs. performs_call (kept_of c.args.parts.now) _ _ _ (resizes c.args.file.inumber c.args.size) _ c.requires.ready.well_formed c.requires.ready.frozen makes performs
+    (on_ok_weaker c.truncate.result (λ performs. performs_call (in_snapshot_of c.args.parts.now) _ _ _ (resizes c.args.file.inumber c.args.size) _ c.requires.ready.well_formed c.requires.ready.snapshot_blocks makes performs
     (λ resizes_file. truncate_shows _ c.args.text.now c.args.file.inumber c.requires.at c.requires.kind c.args.size _ (sized_gets _ _ c.requires.ready.well_formed.first c.args.file.inumber c.args.size resizes_file))
-    (performs_room (kept_of c.args.parts.now) _ _ _ _ performs
+    (performs_room (in_snapshot_of c.args.parts.now) _ _ _ _ performs
     (few_resized _ c.requires.ready.well_formed.first c.args.file.inumber (at_reached _ c.requires.ready.well_formed.first c.args.text.now c.args.file.inumber c.requires.at) c.args.size) c.requires.ready.room))
     c.truncate.ensures.performs)
     (on_err_weaker c.truncate.result (ap (λ (parts : Parts g.row.R.Denot). g.R.Region.memory parts.region)) c.truncate.ensures.same)
-    (MatchResult-weaker c.truncate.result c.truncate.ensures.refused (λ _ nothing. nothing) (lacks_space _ _ (resizes c.args.file.inumber c.args.size) makes (kept_of c.args.parts.now) c.requires.ready.frozen))
+    (MatchResult-weaker c.truncate.result c.truncate.ensures.refused (λ _ nothing. nothing) (lacks_space _ _ (resizes c.args.file.inumber c.args.size) makes (in_snapshot_of c.args.parts.now) c.requires.ready.snapshot_blocks))
 
 pub returns-clause-names : goal.returns-clause-names
 returns-clause-names g c =
     names_kept (g.R.Region.memory c.args.parts.now.region) (g.R.Region.memory c.truncate.new.parts.region) c.truncate.result
-    (on_ok_weaker c.truncate.result (λ performs. kept_thawed _ _ (ResizesFile c.args.file.inumber c.args.size) c.requires.ready.well_formed.first
+    (on_ok_weaker c.truncate.result (λ performs. snapshot_thawed _ _ (ResizesFile c.args.file.inumber c.args.size) c.requires.ready.well_formed.first
     (λ image sound resized. file_keeps_all image _ sound c.args.file.inumber resized.changes) performs.effect) c.truncate.ensures.performs)
     (on_err_weaker c.truncate.result (ap (λ (parts : Parts g.row.R.Denot). g.R.Region.memory parts.region)) c.truncate.ensures.same)
 

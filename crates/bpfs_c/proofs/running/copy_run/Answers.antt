@@ -3,4 +3,4 @@ use Rattle.bpfs_c.specs.Runs.HasPiece.{some}
 use Rattle.bpfs_c.proofs.running.copy_run.Goals as goal
 
 pub returns : goal.returns
-returns c = some c.run_at.result (omega arith) c.run_at.ensures c.tell_run.ensures.told c.tell_run.ensures.count
+returns c = some c.run_at.result (omega arith) c.run_at.ensures c.report_run.ensures.told c.report_run.ensures.count

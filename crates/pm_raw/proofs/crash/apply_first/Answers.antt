@@ -1,7 +1,7 @@
 use Rattle.std.proofs.Common.{◌∙◌, ap, arith, drop, sym}
 use Rattle.std.proofs.lemmas.List.{take_rest}
 use Rattle.pm_epochs.specs.Log.{words_after}
-use Rattle.pm_raw.proofs.PieceLaws.{run-done, stores_of-barrier, stores_of-ended, stores_of-mark}
+use Rattle.pm_raw.proofs.PieceLaws.{run-done, stores_of-barrier, stores_of-ended, stores_of-call_end}
 use Rattle.pm_raw.proofs.crash.apply_first.Goals as goal
 
 pub loop-rest-preserved-in-Stores : goal.loop-rest-preserved-in-Stores
@@ -13,7 +13,7 @@ loop-rest-preserved-in-Stores c =
 
 pub loop-rest-preserved : goal.loop-rest-preserved
 loop-rest-preserved c =
-    sym (ap (words_after c.loop-rest.words) (stores_of-mark c.loop-rest.mask.now c.loop-rest.rest c.take_first.new.self c.in-Mark.ensures.events))
+    sym (ap (words_after c.loop-rest.words) (stores_of-call_end c.loop-rest.mask.now c.loop-rest.rest c.take_first.new.self c.in-CallEnd.ensures.events))
     ∙ c.loop-rest.invariant
 
 pub returns-in-Barrier : goal.returns-in-Barrier

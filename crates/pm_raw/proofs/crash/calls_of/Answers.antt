@@ -1,10 +1,10 @@
 use Rattle.std.proofs.Common.{◌∙◌, ap, arith, length, sym}
 use Rattle.std.proofs.lemmas.List.{take_rest}
-use Rattle.pm_raw.proofs.PieceLaws.{marks_of-barrier, marks_of-mark, run-kept, run-length, run-lost, run-within}
+use Rattle.pm_raw.proofs.PieceLaws.{call_ends_of-barrier, call_ends_of-call_end, run-kept, run-length, run-lost, run-within}
 use Rattle.pm_raw.proofs.crash.calls_of.Goals as goal
 
 pub overflow_add-calls : goal.overflow_add-calls
-overflow_add-calls c = omega (arith, c.loop-rest.invariant.few, ap length c.in-Mark.ensures.events, c.len-events.ensures)
+overflow_add-calls c = omega (arith, c.loop-rest.invariant.few, ap length c.in-CallEnd.ensures.events, c.len-events.ensures)
 
 pub returns-then-not-keeps_first : goal.returns-then-not-keeps_first
 returns-then-not-keeps_first c =
@@ -30,16 +30,16 @@ loop-rest-preserved-in-Barrier c =
     let are = c.in-Barrier.ensures.events in
     record {
       few = omega (arith, step.few, ap length are);
-      so_far = omega (arith, step.so_far, marks_of-barrier c.loop-rest.mask.now c.loop-rest.rest c.take_first.new.self are);
+      so_far = omega (arith, step.so_far, call_ends_of-barrier c.loop-rest.mask.now c.loop-rest.rest c.take_first.new.self are);
     }
 
 pub loop-rest-preserved : goal.loop-rest-preserved
 loop-rest-preserved c =
     let step = c.loop-rest.invariant in
-    let are = c.in-Mark.ensures.events in
+    let are = c.in-CallEnd.ensures.events in
     record {
       few = omega (arith, step.few, ap length are);
-      so_far = omega (arith, step.so_far, marks_of-mark c.loop-rest.mask.now c.loop-rest.rest c.take_first.new.self are);
+      so_far = omega (arith, step.so_far, call_ends_of-call_end c.loop-rest.mask.now c.loop-rest.rest c.take_first.new.self are);
     }
 
 pub slice_bounds-mask-count : goal.slice_bounds-mask-count

@@ -1,9 +1,9 @@
 use Rattle.std.proofs.Common.{◌∙◌, ap, arith, drop, length, take}
-use Rattle.pm_epochs.specs.Log.{marks}
-use Rattle.pm_epochs.specs.Replay.{marks_of}
+use Rattle.pm_epochs.specs.Log.{call_ends}
+use Rattle.pm_epochs.specs.Replay.{call_ends_of}
 use Rattle.pm_region.proofs.EpochLaws.{epoch_start-low}
-use Rattle.pm_raw.proofs.EpochLaws.{marks-from, marks-low, marks-split, marks_of-low}
-use Rattle.pm_raw.proofs.PlaceLaws.{marks-below, marks-places}
+use Rattle.pm_raw.proofs.EpochLaws.{call_ends-from, call_ends-low, call_ends-split, call_ends_of-low}
+use Rattle.pm_raw.proofs.PlaceLaws.{call_ends-below, call_ends-places}
 use Rattle.pm_raw.proofs.crash.kept_calls.Goals as goal
 
 pub behind-requires : goal.behind-requires
@@ -14,9 +14,9 @@ overflow_add-result c =
     let log = c.args.log.now in
     let start = c.args.start in
     let mask = c.mask.result.now in
-    let before = c.before-2.ensures ∙ marks-below log c.args.mark_places.now.items start c.requires.places in
-    let behind = c.calls_of.ensures ∙ ap (marks_of 0 mask) c.behind.ensures in
-    omega (arith, before, behind, marks_of-low mask (drop start log), marks-split start log, marks-low log, c.requires.small)
+    let before = c.before-2.ensures ∙ call_ends-below log c.args.call_end_places.now.items start c.requires.places in
+    let behind = c.calls_of.ensures ∙ ap (call_ends_of 0 mask) c.behind.ensures in
+    omega (arith, before, behind, call_ends_of-low mask (drop start log), call_ends-split start log, call_ends-low log, c.requires.small)
 
 pub returns-clause-kept : goal.returns-clause-kept
 returns-clause-kept c =
@@ -24,13 +24,13 @@ returns-clause-kept c =
     let cut = c.args.choice.now.cut in
     let before =
     c.before-2.ensures
-    ∙ marks-below log c.args.mark_places.now.items c.args.start c.requires.places
-    ∙ ap (λ n. marks (take n log)) c.requires.start in
+    ∙ call_ends-below log c.args.call_end_places.now.items c.args.start c.requires.places
+    ∙ ap (λ n. call_ends (take n log)) c.requires.start in
     let behind =
     c.calls_of.ensures
-    ∙ ap (λ mask. marks_of 0 mask c.behind.result) c.mask.ensures
-    ∙ ap (marks_of 0 cut.mask) (c.behind.ensures ∙ ap (λ n. drop n log) c.requires.start) in
-    omega (arith, before, behind, marks-from cut.epoch cut.mask log)
+    ∙ ap (λ mask. call_ends_of 0 mask c.behind.result) c.mask.ensures
+    ∙ ap (call_ends_of 0 cut.mask) (c.behind.ensures ∙ ap (λ n. drop n log) c.requires.start) in
+    omega (arith, before, behind, call_ends-from cut.epoch cut.mask log)
 
 pub returns-clause-of : goal.returns-clause-of
-returns-clause-of c = c.len.ensures ∙ ap length c.requires.places ∙ marks-places 0 c.args.log.now
+returns-clause-of c = c.len.ensures ∙ ap length c.requires.places ∙ call_ends-places 0 c.args.log.now

@@ -1,6 +1,6 @@
 use Rattle.std.proofs.Common.{◌≡◌, ◌+◌, ◌-◌, Some, ap, arith, drop, take, refl, ◌∙◌}
 use Rattle.pm_epochs.specs.Kind.{event_of, value_at}
-use Rattle.pm_epochs.specs.declared.event.Event.TheVariants.{Barrier, Mark}
+use Rattle.pm_epochs.specs.declared.event.Event.TheVariants.{Barrier, CallEnd}
 use Rattle.pm_runs.proofs.PieceLaws.{told-one, told-row}
 use Rattle.pm_runs.proofs.pieces.run_at.Goals as goal
 
@@ -32,13 +32,13 @@ returns-in-Barrier c =
       rest = refl;
     }
 
-pub returns-in-Mark : goal.returns-in-Mark
-returns-in-Mark c =
+pub returns-in-CallEnd : goal.returns-in-CallEnd
+returns-in-CallEnd c =
     let events = c.args.region.now.events in
     let value = value_at events c.args.first in
-    let begins = c.row-kind.ensures.get ∙ ap (λ kind. Some (event_of kind value)) c.in-Mark.is in
+    let begins = c.row-kind.ensures.get ∙ ap (λ kind. Some (event_of kind value)) c.in-CallEnd.is in
     record {
-      told = told-one events c.args.first Mark begins;
+      told = told-one events c.args.first CallEnd begins;
       within = omega (arith, c.requires);
       begun = λ room. omega arith;
       kind = begins;

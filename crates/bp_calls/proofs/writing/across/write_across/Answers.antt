@@ -12,24 +12,24 @@ use Rattle.bp_layout.specs.Need.Change.{writes}
 use Rattle.bp_layout.specs.Thaw.{thawed}
 use Rattle.bp_layout.specs.WordPaths.{inode_path}
 use Rattle.bp_layout.specs.Words.{height_of}
-use Rattle.bp_shapes.specs.Sets.{kept_of}
+use Rattle.bp_shapes.specs.Sets.{in_snapshot_of}
 use Rattle.pm_region.specs.Memory.{current_words}
 use Rattle.bp_calls.proofs.writing.across.write_across.Given.{Over}
 use Rattle.bp_calls.proofs.writing.across.write_across.Goals.{After-touched_across-touched}
 use Rattle.bp_calls.proofs.writing.across.write_across.Goals as goal
 
 -- what is touched is that of the write
-across : (g : Over) (c : After-touched_across-touched g) → WritesAcross (kept_of c.args.parts.now) (g.R.Region.memory c.args.parts.now.region)
-    c.args.parts.now.blocks c.args.parts.now.inodes c.args.i c.args.off c.args.bytes.now c.touched_across-touched.result
+across : (g : Over) (c : After-touched_across-touched g) → WritesAcross (in_snapshot_of c.args.parts.now) (g.R.Region.memory c.args.parts.now.region)
+    c.args.parts.now.free_blocks c.args.parts.now.free_inodes c.args.ino c.args.offset c.args.bytes.now c.touched_across-touched.result
 across g c =
     let touches = c.touched_across-touched.ensures in
-    planned_across c.args.i c.plan_write-plan.result c.plan_write-plan.ensures c.requires.can.into c.requires.below c.requires.past
+    planned_across c.args.ino c.plan_write-plan.result c.plan_write-plan.ensures c.requires.can.into c.requires.below c.requires.past
     touches.words touches.runs touches.trees
 
 pub find_ways-found-requires : goal.find_ways-found-requires
 find_ways-found-requires g c =
     let write = across g (goal.at.find_ways-found-requires g c).After-touched_across-touched in
-    record { touched = at_shape c.args.i write; some = search rules; in_range = at_inside c.args.i write }
+    record { touched = at_shape c.args.ino write; some = search rules; in_range = at_inside c.args.ino write }
 
 pub need_found-need-requires : goal.need_found-need-requires
 need_found-need-requires g c =
@@ -48,9 +48,9 @@ write_planned-requires g c =
       size = size_planned planned;
       root = planned.run.root ∙ ap (λ j. inode_path (height_of (root_of (current_words old) 0)) j 1) (sym planned.inode);
       small = subst (λ (bs : List ℕ). (k : ℕ) → slice_index bs k < 256) (sym planned.bytes_are) (λ k. omega (arith, c.type_inv.bytes k));
-      clear = of_plan planned (λ i off (bytes : List ℕ). thawed (current_words old) (kept_of parts) (writes i off (length bytes)) ≡ []) c.requires.can.clear;
-      room = of_plan planned (λ i off (bytes : List ℕ). HasRoomThawed old parts.blocks (writes i off (length bytes))) c.requires.can.room;
-      enough = subst (λ n. n ≤ length (members parts.blocks)) c.need_found-need.ensures.need c.in-Ok.ensures.enough;
+      clear = of_plan planned (λ i offset (bytes : List ℕ). thawed (current_words old) (in_snapshot_of parts) (writes i offset (length bytes)) ≡ []) c.requires.can.clear;
+      room = of_plan planned (λ i offset (bytes : List ℕ). HasRoomThawed old parts.free_blocks (writes i offset (length bytes))) c.requires.can.room;
+      enough = subst (λ n. n ≤ length (members parts.free_blocks)) c.need_found-need.ensures.need c.in-Ok.ensures.enough;
       found = c.find_ways-found.ensures;
     }
 
@@ -58,15 +58,15 @@ pub returns-in-Ok : goal.returns-in-Ok
 returns-in-Ok g c =
     committed
     (from_plan c.plan_write-plan.ensures
-    (λ i off (bytes : List ℕ).
-    CommitsChange g.R.Region.memory c.args.parts.now c.write_planned.new.parts (writes i off (length bytes)) (WritesFile i off bytes))
+    (λ i offset (bytes : List ℕ).
+    CommitsChange g.R.Region.memory c.args.parts.now c.write_planned.new.parts (writes i offset (length bytes)) (WritesFile i offset bytes))
     c.write_planned.ensures)
 
 pub returns-in-Err : goal.returns-in-Err
 returns-in-Err g c =
     let image = current_words (g.R.Region.memory c.args.parts.now.region) in
-    let needs : c.need_found-need.result ≡ need image (writes c.args.i c.args.off (length c.args.bytes.now)) =
-    from_plan c.plan_write-plan.ensures (λ i off (bytes : List ℕ). c.need_found-need.result ≡ need image (writes i off (length bytes)))
+    let needs : c.need_found-need.result ≡ need image (writes c.args.ino c.args.offset (length c.args.bytes.now)) =
+    from_plan c.plan_write-plan.ensures (λ i offset (bytes : List ℕ). c.need_found-need.result ≡ need image (writes i offset (length bytes)))
     c.need_found-need.ensures.need in
     lacking_blocks g.R.Region.memory c.args.parts.now c.requires.exact
-    (subst (λ n. LacksBlocks image (kept_of c.args.parts.now) n c.in-Err.lacks) needs c.in-Err.ensures.refused) c.in-Err.ensures.free
+    (subst (λ n. LacksBlocks image (in_snapshot_of c.args.parts.now) n c.in-Err.lacks) needs c.in-Err.ensures.refused) c.in-Err.ensures.free

@@ -24,10 +24,10 @@ pub returns-then-is_under : goal.returns-then-is_under
 returns-then-is_under c n =
     let run = c.args.self.now in
     let other = c.args.other.now in
-    let k : ℕ = other.off / 8 in
+    let k : ℕ = other.offset / 8 in
     let high : run.height ≡ other.height = omega arith in
     let root : run.root.items ≡ other.root.items = (bytes_eq-Decides run.root.items other.root.items).0 (sym c.is_under.ensures ∙ c.if-is_under.true) in
     let path : run_path run k ≡ run_path other k = ap (λ (r : List ℕ). r ++ digits (suc run.height) k) root ∙ ap (λ h. other.root.items ++ digits (suc h) k) high in
-    subst (λ (p : WordPath). (n ≤ c.alike_words.result) ↔ BothBegin (run_path run (run.off / 8)) p n) path
+    subst (λ (p : WordPath). (n ≤ c.alike_words.result) ↔ BothBegin (run_path run (run.offset / 8)) p n) path
     (subst (λ a. (n ≤ c.alike_words.result) ↔ BothBegin (run_path run a) (run_path run k) n) c.end_word-first.ensures
     (subst (λ b. (n ≤ c.alike_words.result) ↔ BothBegin (run_path run c.end_word-first.result) (run_path run b) n) c.end_word-last.ensures (c.alike_words.ensures n)))

@@ -24,14 +24,14 @@ returns-then-i-eq1 c n =
     let even : (i - 1) % 2 ≡ 0 = omega (arith, odd) in
     let half : i / 2 ≡ (i - 1) / 2 = omega (arith, odd) in
     let last : end_path touched i ≡ run_path run ((run_end run - 1) / 8) =
-    end-at touched.runs.now (word_paths touched) i run c.if-i-of_runs.true c.index-self-i.is ∙ ap (λ k. run_path run (if k == 0 then run.off / 8 else (run_end run - 1) / 8)) odd in
-    let first : end_path touched (i - 1) ≡ run_path run (run.off / 8) =
+    end-at touched.runs.now (word_paths touched) i run c.if-i-of_runs.true c.index-self-i.is ∙ ap (λ k. run_path run (if k == 0 then run.offset / 8 else (run_end run - 1) / 8)) odd in
+    let first : end_path touched (i - 1) ≡ run_path run (run.offset / 8) =
     end-at touched.runs.now (word_paths touched) (i - 1) run (omega (arith, c.if-i-of_runs.true)) (subst (λ k. run ≡ slice_index_or touched.runs.now k run) half c.index-self-i.is)
-    ∙ ap (λ k. run_path run (if k == 0 then run.off / 8 else (run_end run - 1) / 8)) even in
-    let own : (m : ℕ) → (m ≤ c.alike.result) ↔ BothBegin (run_path run (run.off / 8)) (run_path run ((run_end run - 1) / 8)) m =
-    subst (λ (r : Run). (m : ℕ) → (m ≤ c.alike.result) ↔ BothBegin (run_path r (r.off / 8)) (run_path r ((run_end r - 1) / 8)) m) (sym c.index-self-i.is) c.alike.ensures in
+    ∙ ap (λ k. run_path run (if k == 0 then run.offset / 8 else (run_end run - 1) / 8)) even in
+    let own : (m : ℕ) → (m ≤ c.alike.result) ↔ BothBegin (run_path run (run.offset / 8)) (run_path run ((run_end run - 1) / 8)) m =
+    subst (λ (r : Run). (m : ℕ) → (m ≤ c.alike.result) ↔ BothBegin (run_path r (r.offset / 8)) (run_path r ((run_end r - 1) / 8)) m) (sym c.index-self-i.is) c.alike.ensures in
     subst (λ (p : WordPath). (n ≤ c.min.result) ↔ (n ≤ c.args.most) × BothBegin p (end_path touched 0) n) (sym last)
-    (begin-through (end_path touched 0) (run_path run (run.off / 8)) (run_path run ((run_end run - 1) / 8)) c.args.most c.alike.result
+    (begin-through (end_path touched 0) (run_path run (run.offset / 8)) (run_path run ((run_end run - 1) / 8)) c.args.most c.alike.result
     (subst (λ (p : WordPath). BothBegin p (end_path touched 0) c.args.most) first c.requires.before) own c.min.result
     (omega (arith, c.min.ensures), omega (arith, c.min.ensures)) (λ m most mine. omega (arith, c.min.ensures, most, mine)) n)
 
@@ -53,15 +53,15 @@ returns-in-Some c n =
     let first = c.index-self-0.result in
     let alike = c.in-Some.alike in
     let even : i % 2 ≡ 0 = omega (arith, c.if-i-eq1.false) in
-    let path : end_path touched i ≡ run_path run (run.off / 8) =
-    end-at touched.runs.now (word_paths touched) i run c.if-i-of_runs.true c.index-self-i.is ∙ ap (λ k. run_path run (if k == 0 then run.off / 8 else (run_end run - 1) / 8)) even in
-    let start : end_path touched 0 ≡ run_path first (first.off / 8) = end-at touched.runs.now (word_paths touched) 0 first (omega (arith, c.if-i-of_runs.true)) c.index-self-0.is in
-    let own : (n ≤ alike) ↔ BothBegin (run_path run (run.off / 8)) (run_path first (first.off / 8)) n =
-    subst (λ (r : Run). (n ≤ alike) ↔ BothBegin (run_path r (r.off / 8)) (run_path first (first.off / 8)) n) (sym c.index-self-i.is)
-    (subst (λ (r : Run). (n ≤ alike) ↔ BothBegin (run_path (slice_index_or touched.runs.now (i / 2) run) ((slice_index_or touched.runs.now (i / 2) run).off / 8)) (run_path r (r.off / 8)) n) (sym c.index-self-0.is) (c.in-Some.ensures n)) in
+    let path : end_path touched i ≡ run_path run (run.offset / 8) =
+    end-at touched.runs.now (word_paths touched) i run c.if-i-of_runs.true c.index-self-i.is ∙ ap (λ k. run_path run (if k == 0 then run.offset / 8 else (run_end run - 1) / 8)) even in
+    let start : end_path touched 0 ≡ run_path first (first.offset / 8) = end-at touched.runs.now (word_paths touched) 0 first (omega (arith, c.if-i-of_runs.true)) c.index-self-0.is in
+    let own : (n ≤ alike) ↔ BothBegin (run_path run (run.offset / 8)) (run_path first (first.offset / 8)) n =
+    subst (λ (r : Run). (n ≤ alike) ↔ BothBegin (run_path r (r.offset / 8)) (run_path first (first.offset / 8)) n) (sym c.index-self-i.is)
+    (subst (λ (r : Run). (n ≤ alike) ↔ BothBegin (run_path (slice_index_or touched.runs.now (i / 2) run) ((slice_index_or touched.runs.now (i / 2) run).offset / 8)) (run_path r (r.offset / 8)) n) (sym c.index-self-0.is) (c.in-Some.ensures n)) in
     subst (λ (p : WordPath). (n ≤ c.min-in-Some.result) ↔ (n ≤ c.args.most) × BothBegin p (end_path touched 0) n) (sym path)
-    (subst (λ (p : WordPath). (n ≤ c.min-in-Some.result) ↔ (n ≤ c.args.most) × BothBegin (run_path run (run.off / 8)) p n) (sym start)
-    (begin-least (run_path run (run.off / 8)) (run_path first (first.off / 8)) c.args.most alike c.min-in-Some.result n own c.min-in-Some.ensures))
+    (subst (λ (p : WordPath). (n ≤ c.min-in-Some.result) ↔ (n ≤ c.args.most) × BothBegin (run_path run (run.offset / 8)) p n) (sym start)
+    (begin-least (run_path run (run.offset / 8)) (run_path first (first.offset / 8)) c.args.most alike c.min-in-Some.result n own c.min-in-Some.ensures))
 
 pub loop-depth-init : goal.loop-depth-init
 loop-depth-init c = refl

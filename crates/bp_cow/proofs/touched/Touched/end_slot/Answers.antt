@@ -21,7 +21,7 @@ pub slot-requires-clause-depth : goal.slot-requires-clause-depth
 slot-requires-clause-depth c =
     let touched = c.args.self.now in
     let run = c.index-self-i.result in
-    let number : ℕ = if c.args.i % 2 == 0 then run.off / 8 else (run_end run - 1) / 8 in
+    let number : ℕ = if c.args.i % 2 == 0 then run.offset / 8 else (run_end run - 1) / 8 in
     let low : c.args.depth < length (run_path run number) = subst (λ p. c.args.depth < length p) (end-at touched.runs.now (word_paths touched) c.args.i run c.if-i-of_runs.true c.index-self-i.is) c.requires.depth in
     subst (λ (r : Run). c.args.depth < length (run_path r c.end_word.result)) c.index-self-i.is (omega (arith, low, length-run_path run number, length-run_path run c.end_word.result))
 
@@ -30,7 +30,7 @@ returns-then-i-of_runs c =
     let touched = c.args.self.now in
     let run = c.index-self-i.result in
     c.slot.ensures ∙ ap (λ k. slice_index (run_path (slice_index_or touched.runs.now (c.args.i / 2) run) k) c.args.depth) c.end_word.ensures
-    ∙ ap (λ (r : Run). slice_index (run_path r (if c.args.i % 2 == 0 then r.off / 8 else (run_end r - 1) / 8)) c.args.depth) (sym c.index-self-i.is)
+    ∙ ap (λ (r : Run). slice_index (run_path r (if c.args.i % 2 == 0 then r.offset / 8 else (run_end r - 1) / 8)) c.args.depth) (sym c.index-self-i.is)
     ∙ ap (λ (p : List ℕ). slice_index p c.args.depth) (sym (end-at touched.runs.now (word_paths touched) c.args.i run c.if-i-of_runs.true c.index-self-i.is))
 
 pub path_slot-requires-clause-word : goal.path_slot-requires-clause-word

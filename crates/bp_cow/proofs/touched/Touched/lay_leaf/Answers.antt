@@ -14,7 +14,7 @@ pub meets-requires-clause-run : goal.meets-requires-clause-run
 meets-requires-clause-run c = c.requires.touched.runs c.run-item.result (has-item c.args.self.now.runs.now c.loop-run.run-index c.run-item.result c.loop-run-test.true c.run-item.is)
 
 -- a run that has no bytes in the leaf leaves its words
-past : (run : Run) (first slot old : ℕ) → slot < 512 → (run_end run ≤ 8 * first) ⊎ (8 * first + 4096 ≤ run.off) → run_word run (first + slot) old ≡ old
+past : (run : Run) (first slot old : ℕ) → slot < 512 → (run_end run ≤ 8 * first) ⊎ (8 * first + 4096 ≤ run.offset) → run_word run (first + slot) old ≡ old
 past run first slot old low (inl before) = run_word-outside run (first + slot) old (inr (omega (arith, before)))
 past run first slot old low (inr behind) = run_word-outside run (first + slot) old (inl (omega (arith, behind, low)))
 

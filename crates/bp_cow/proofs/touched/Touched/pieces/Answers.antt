@@ -35,7 +35,7 @@ returns-in-Some-clause-live c slot small counted =
     let up : length run.root.items + run.height - c.args.depth ≡ c.args.way.now.len - c.args.depth = omega (arith, long) in
     let is = live-level run c.in-Some.leaf.index c.args.depth (omega (arith, c.len.ensures.value, c.if-len-depth.true)) (omega (arith, long, c.if-depth-end.true)) in
     c.block_pieces.ensures.live slot small
-    (subst (λ l. slot < leaf_live run.size l (run.off / 4096 + c.in-Some.leaf.index)) up (subst (λ n. slot < n) (at.live c.args.self.now.trees.now c.args.depth ∙ is) counted))
+    (subst (λ l. slot < leaf_live run.size l (run.offset / 4096 + c.in-Some.leaf.index)) up (subst (λ n. slot < n) (at.live c.args.self.now.trees.now c.args.depth ∙ is) counted))
 
 pub word_pieces-requires-clause-depth : goal.word_pieces-requires-clause-depth
 word_pieces-requires-clause-depth c =

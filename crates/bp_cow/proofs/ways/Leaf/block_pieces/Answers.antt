@@ -17,6 +17,6 @@ block_pieces-requires-clause-block c =
 pub returns-clause-live : goal.returns-clause-live
 returns-clause-live c slot small counted =
     let run = c.args.self.now.run.now in
-    let block : (c.first_leaf.result + c.args.self.now.index) / 2 ^ (9 * c.args.level) ≡ (run.off / 4096 + c.args.self.now.index) / 512 ^ c.args.level =
+    let block : (c.first_leaf.result + c.args.self.now.index) / 2 ^ (9 * c.args.level) ≡ (run.offset / 4096 + c.args.self.now.index) / 512 ^ c.args.level =
     ap (λ n. (c.first_leaf.result + c.args.self.now.index) / n) (power_of_two c.args.level) ∙ ap (λ n. (n + c.args.self.now.index) / 512 ^ c.args.level) c.first_leaf.ensures in
     c.block_pieces.ensures.live slot small (subst (λ n. slot < level_live run.size c.args.level n) (sym block) counted)

@@ -4,5 +4,5 @@ use Rattle.bp_export.proofs.entries.Entries.of.Goals as goal
 
 pub returns : goal.returns
 returns g c =
-    are_entries (current_words (g.R.Region.memory c.args.region.now)) c.requires.well_formed c.args.i c.requires.reached c.requires.directory _
+    are_entries (current_words (g.R.Region.memory c.args.region.now)) c.requires.well_formed c.args.ino c.requires.reached c.requires.directory _
     (rw (← c.in_ok-entries.ensures) c.sort.ensures.all) c.sort.ensures.sorted

@@ -7,4 +7,4 @@ pub returns : goal.returns
 returns c =
     ap₂ named_rows c.in_ok-extend_from_slice.ensures.items c.in_ok-push.ensures.items
     ∙ rows_pushed _ _ _ _ c.self.invariant (search (rules, c.len-first.ensures)) refl
-    ∙ ap (λ xs. xs ++ (c.args.inode, c.args.name.now) ∷ []) c.self.view_is
+    ∙ ap (λ xs. xs ++ (c.args.ino, c.args.name.now) ∷ []) c.self.view_is

@@ -1,9 +1,9 @@
 use Rattle.std.proofs.Common.{length, ap, arith}
 use Rattle.bp_second.specs.Shown.{shown_memory}
-use Rattle.bp_second.proofs.SecondLaws.{length-second}
+use Rattle.bp_second.proofs.SnapshotLaws.{length-second}
 use Rattle.bp_second.proofs.shown.ShownRegion.load.Goals as goal
 
-pub load-requires-in-Second : goal.load-requires-in-Second
-load-requires-in-Second g c =
-    let size = ap (λ shown. length (shown_memory g.R.Region.memory shown).base) c.in-Second.is in
-    omega (arith, c.requires, size, length-second (g.R.Region.memory c.in-Second.second.region.now))
+pub load-requires-in-Snapshot : goal.load-requires-in-Snapshot
+load-requires-in-Snapshot g c =
+    let size = ap (λ shown. length (shown_memory g.R.Region.memory shown).base) c.in-Snapshot.is in
+    omega (arith, c.requires, size, length-second (g.R.Region.memory c.in-Snapshot.second.region.now))

@@ -17,8 +17,8 @@ rescan-requires-clause-inodes g c = c.self.invariant.volume.exact.sets.inode_roo
 pub rescan-requires-clause-counts : goal.rescan-requires-clause-counts
 rescan-requires-clause-counts g c = c.self.invariant.volume.exact.count_room ∙ ap (λ n. 64 * n) (blocks-crashed _ _ _ c.self.invariant.volume _ (c.in_ok-kept.ensures.right.0 refl) _ c.in_ok-kept.ensures.left)
 
-pub rescan-requires-clause-frozen : goal.rescan-requires-clause-frozen
-rescan-requires-clause-frozen g c = c.self.invariant.volume.exact.frozen_room ∙ blocks-crashed _ _ _ c.self.invariant.volume _ (c.in_ok-kept.ensures.right.0 refl) _ c.in_ok-kept.ensures.left
+pub rescan-requires-clause-snapshot_blocks : goal.rescan-requires-clause-snapshot_blocks
+rescan-requires-clause-snapshot_blocks g c = c.self.invariant.volume.exact.snapshot_room ∙ blocks-crashed _ _ _ c.self.invariant.volume _ (c.in_ok-kept.ensures.right.0 refl) _ c.in_ok-kept.ensures.left
 
 pub rescan-requires-clause-pending : goal.rescan-requires-clause-pending
 rescan-requires-clause-pending g c = c.self.invariant.volume.scans ∙ ap (λ n. 64 * n) (blocks-crashed _ _ _ c.self.invariant.volume _ (c.in_ok-kept.ensures.right.0 refl) _ c.in_ok-kept.ensures.left)
@@ -26,7 +26,7 @@ rescan-requires-clause-pending g c = c.self.invariant.volume.scans ∙ ap (λ n.
 pub invariant_of-self-2 : goal.invariant_of-self-2
 invariant_of-self-2 g c = record {
   volume = crashed_volume _ _ _ c.self.invariant.volume _ (c.in_ok-kept.ensures.right.0 refl) (g.R.Region.memory c.rescan.new.parts.region) (ap g.R.Region.memory c.rescan.ensures.region ∙ c.in_ok-kept.ensures.left) _ _
-      c.rescan.ensures.frozen c.rescan.ensures.exact c.rescan.ensures.pending;
+      c.rescan.ensures.snapshot_blocks c.rescan.ensures.exact c.rescan.ensures.pending;
   right = c.clear.ensures _;
 }
 

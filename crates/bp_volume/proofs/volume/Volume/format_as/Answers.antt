@@ -31,10 +31,10 @@ scanned-requires-clause-counts g c =
     let size = length_laid (g.R.Region.memory c.args.region) (g.R.Region.memory c.lay_out.new.region) _ (g.R.Region.memory c.drain.new.self) c.lay_out.ensures.stores c.drain.ensures in
     omega (arith, size, c.words.ensures.count, ap length c.in-Ok.ensures.counts, length-replicate {A = ℕ})
 
-pub scanned-requires-clause-frozen : goal.scanned-requires-clause-frozen
-scanned-requires-clause-frozen g c =
+pub scanned-requires-clause-snapshot_blocks : goal.scanned-requires-clause-snapshot_blocks
+scanned-requires-clause-snapshot_blocks g c =
     let size = length_laid (g.R.Region.memory c.args.region) (g.R.Region.memory c.lay_out.new.region) _ (g.R.Region.memory c.drain.new.self) c.lay_out.ensures.stores c.drain.ensures in
-    omega (arith, size, c.words.ensures.count, ap length c.in-Ok.ensures.frozen, length-replicate {A = Bool})
+    omega (arith, size, c.words.ensures.count, ap length c.in-Ok.ensures.snapshot_blocks, length-replicate {A = Bool})
 
 pub scanned-requires-clause-pending : goal.scanned-requires-clause-pending
 scanned-requires-clause-pending g c =

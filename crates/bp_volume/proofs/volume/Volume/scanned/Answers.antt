@@ -9,7 +9,7 @@ invariant_of-result g c =
     let memory : Memory = g.R.Region.memory c.args.region in
     let blocks : block_count memory.base ≡ block_count (current_words memory) = ap block_count (sym (words_fresh memory c.requires.fresh)) in
     record {
-      volume = scanned_volume memory _ _ c.requires.fresh c.requires.roomy (c.in-Ok.ensures.well_formed.0 refl) c.in-Ok.ensures.frozen
+      volume = scanned_volume memory _ _ c.requires.fresh c.requires.roomy (c.in-Ok.ensures.well_formed.0 refl) c.in-Ok.ensures.snapshot_blocks
           (record {
             sets = record {
               block_room = c.scan_whole.ensures.block_room ∙ c.requires.blocks ∙ blocks;
@@ -19,7 +19,7 @@ invariant_of-result g c =
             };
             counts = c.in-Ok.ensures.counts;
             count_room = c.scan_whole.ensures.count_room ∙ c.requires.counts ∙ ap (λ n. 64 * n) blocks;
-            frozen_room = c.scan_whole.ensures.frozen_room ∙ c.requires.frozen ∙ blocks;
+            snapshot_room = c.scan_whole.ensures.snapshot_room ∙ c.requires.snapshot_blocks ∙ blocks;
           })
           (c.scan_whole.ensures.pending ∙ c.requires.pending ∙ ap (λ n. 64 * n) blocks);
       right = rw (words_fresh memory c.requires.fresh) c.requires.right;

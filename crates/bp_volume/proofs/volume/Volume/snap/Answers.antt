@@ -1,14 +1,14 @@
 use Rattle.std.proofs.Common.{◌∙◌}
 use Rattle.bp_volume.proofs.CachedLaws.{cached_super}
 use Rattle.bp_volume.proofs.SnapLaws.{snap_calls}
-use Rattle.bp_volume.proofs.SuperLaws.{file_call_super, super_mark_fits}
+use Rattle.bp_volume.proofs.SuperLaws.{file_call_super, super_call_end_fits}
 use Rattle.bp_volume.proofs.volume.Volume.snap.Goals as goal
 
-pub mark-requires : goal.mark-requires
-mark-requires g c = super_mark_fits _ _ _ _ (snap_calls _ _ _ c.self.invariant.volume.well_formed c.snap_at-made.ensures.snaps) (rw c.self.view_is c.make_room.ensures.room)
+pub end_call-requires : goal.end_call-requires
+end_call-requires g c = super_call_end_fits _ _ _ _ (snap_calls _ _ _ c.self.invariant.volume.well_formed c.do_snap-made.ensures.snaps) (rw c.self.view_is c.make_room.ensures.room)
 
 pub invariant_of-self : goal.invariant_of-self
-invariant_of-self g c = cached_super _ _ _ _ _ _ _ _ _ _ c.self.invariant.volume c.self.invariant.right (snap_calls _ _ _ c.self.invariant.volume.well_formed c.snap_at-made.ensures.snaps) c.snap_at-made.ensures.exact c.snap_at-made.ensures.frozen c.mark.ensures
+invariant_of-self g c = cached_super _ _ _ _ _ _ _ _ _ _ c.self.invariant.volume c.self.invariant.right (snap_calls _ _ _ c.self.invariant.volume.well_formed c.do_snap-made.ensures.snaps) c.do_snap-made.ensures.exact c.do_snap-made.ensures.snapshot_blocks c.end_call.ensures
 
 pub returns : goal.returns
-returns g c = file_call_super c.args.self.now _ _ _ _ _ (c.self.view_is ∙ c.make_room.ensures.memory) c.self.invariant.volume.safe (snap_calls _ _ _ c.self.invariant.volume.well_formed c.snap_at-made.ensures.snaps) c.mark.ensures
+returns g c = file_call_super c.args.self.now _ _ _ _ _ (c.self.view_is ∙ c.make_room.ensures.memory) c.self.invariant.volume.safe (snap_calls _ _ _ c.self.invariant.volume.well_formed c.do_snap-made.ensures.snaps) c.end_call.ensures

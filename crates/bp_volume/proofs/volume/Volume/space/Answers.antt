@@ -7,20 +7,20 @@ use Rattle.bp_volume.proofs.volume.Volume.space.Goals as goal
 
 pub overflow_sub-live : goal.overflow_sub-live
 overflow_sub-live g c =
-    omega (arith, some_live _ c.self.invariant.volume.well_formed.first _ _ _ c.self.invariant.volume.frozen c.self.invariant.volume.exact.sets, c.room.ensures, c.count-free.ensures)
+    omega (arith, some_live _ c.self.invariant.volume.well_formed.first _ _ _ c.self.invariant.volume.snapshot_blocks c.self.invariant.volume.exact.sets, c.room.ensures, c.count-free.ensures)
 
 pub overflow_sub-live-2 : goal.overflow_sub-live-2
 overflow_sub-live-2 g c =
-    omega (arith, some_live _ c.self.invariant.volume.well_formed.first _ _ _ c.self.invariant.volume.frozen c.self.invariant.volume.exact.sets, c.room.ensures, c.count-free.ensures)
+    omega (arith, some_live _ c.self.invariant.volume.well_formed.first _ _ _ c.self.invariant.volume.snapshot_blocks c.self.invariant.volume.exact.sets, c.room.ensures, c.count-free.ensures)
 
 pub returns-clause-free : goal.returns-clause-free
 returns-clause-free g c =
     subst (λ (memory : Memory). HasSpace (current_words memory) c.count-free.result) c.self.view_is
     (subst (λ n. HasSpace (current_words (g.R.Region.memory c.self.inside.parts.region)) n) (sym c.count-free.ensures)
-    (space_counted _ c.self.invariant.volume.well_formed.first c.self.inside.parts.frozen c.self.inside.parts.blocks c.self.inside.parts.inodes c.self.invariant.volume.frozen c.self.invariant.volume.exact.sets))
+    (space_counted _ c.self.invariant.volume.well_formed.first c.self.inside.parts.snapshot_blocks c.self.inside.parts.free_blocks c.self.inside.parts.free_inodes c.self.invariant.volume.snapshot_blocks c.self.invariant.volume.exact.sets))
 
 pub returns-clause-live : goal.returns-clause-live
 returns-clause-live g c =
     subst (λ (memory : Memory). HasLive (current_words memory) (c.room.result - c.count-free.result - 1)) c.self.view_is
-    (live_counted _ c.self.invariant.volume.well_formed.first c.self.inside.parts.frozen c.self.inside.parts.blocks c.self.inside.parts.inodes c.self.invariant.volume.frozen c.self.invariant.volume.exact.sets _
-    (omega (arith, some_live _ c.self.invariant.volume.well_formed.first c.self.inside.parts.frozen c.self.inside.parts.blocks c.self.inside.parts.inodes c.self.invariant.volume.frozen c.self.invariant.volume.exact.sets, c.room.ensures, c.count-free.ensures)))
+    (live_counted _ c.self.invariant.volume.well_formed.first c.self.inside.parts.snapshot_blocks c.self.inside.parts.free_blocks c.self.inside.parts.free_inodes c.self.invariant.volume.snapshot_blocks c.self.invariant.volume.exact.sets _
+    (omega (arith, some_live _ c.self.invariant.volume.well_formed.first c.self.inside.parts.snapshot_blocks c.self.inside.parts.free_blocks c.self.inside.parts.free_inodes c.self.invariant.volume.snapshot_blocks c.self.invariant.volume.exact.sets, c.room.ensures, c.count-free.ensures)))

@@ -13,7 +13,7 @@ invariant_of-self c =
     let none = no-undos region.current undos (ap (λ (m : Memory). m.events) c.self.view_is ∙ c.requires.drained) in
     record {
       barriers = step.barriers;
-      marks = step.marks;
+      call_ends = step.call_ends;
       within = within-none _ undos none;
       few = c.requires.few;
       counted = step.counted;

@@ -1,7 +1,7 @@
 use Rattle.std.proofs.Common.{◌≡◌, ◌∙◌, [], ◌∷◌, ◌++◌, ap, arith, length, refl}
 use Rattle.pm_raw.specs.declared.region.RawRegion.TheInside.{Inside}
 use Rattle.pm_raw.specs.Entries.{no_word, signal_of}
-use Rattle.pm_raw.specs.Places.{is_barrier, is_mark}
+use Rattle.pm_raw.specs.Places.{is_barrier, is_call_end}
 use Rattle.pm_raw.specs.RawRegion.{undos_of}
 use Rattle.pm_raw.proofs.EntryLaws.{within-signal}
 use Rattle.pm_raw.proofs.PlaceLaws.{placed-more, placed-room}
@@ -21,15 +21,15 @@ note_signal-requires-clause-barriers_room c =
     let told = sizes region _ c.self.invariant c.self.view_is in
     placed-room is_barrier _ (undos_of region) region.entries.room c.self.invariant.barriers (omega (arith, c.requires, told.events, told.capacity, told.undos))
 
-pub note_signal-requires-clause-marks_room : goal.note_signal-requires-clause-marks_room
-note_signal-requires-clause-marks_room c =
+pub note_signal-requires-clause-call_ends_room : goal.note_signal-requires-clause-call_ends_room
+note_signal-requires-clause-call_ends_room c =
     let region = c.self.inside in
     let told = sizes region _ c.self.invariant c.self.view_is in
-    placed-room is_mark _ (undos_of region) region.entries.room c.self.invariant.marks (omega (arith, c.requires, told.events, told.capacity, told.undos))
+    placed-room is_call_end _ (undos_of region) region.entries.room c.self.invariant.call_ends (omega (arith, c.requires, told.events, told.capacity, told.undos))
 
 -- the region as it is left
 abbrev next : After-push → Inside
-next c = record c.self.inside { entries = c.push.new.self; barriers = c.note_signal.new.barriers; marks = c.note_signal.new.marks }
+next c = record c.self.inside { entries = c.push.new.self; barriers = c.note_signal.new.barriers; call_ends = c.note_signal.new.call_ends }
 
 -- it has the signal behind its log
 pushed : (c : After-push) → IsPushed c.self.inside (next c) (no_word ∷ []) (c.args.value ∷ [])
@@ -58,7 +58,7 @@ invariant_of-self c =
     let note = c.note_signal.ensures in
     consistent-pushed region (next c) _ _ step (pushed c)
     (placed-more is_barrier region.barriers _ undos _ (event ∷ []) place region.entries.room _ there undos_are c.push.ensures.room step.barriers note.barriers)
-    (placed-more is_mark region.marks _ undos _ (event ∷ []) place region.entries.room _ there undos_are c.push.ensures.room step.marks note.marks)
+    (placed-more is_call_end region.call_ends _ undos _ (event ∷ []) place region.entries.room _ there undos_are c.push.ensures.room step.call_ends note.call_ends)
 
 pub returns : goal.returns
 returns c =

@@ -42,7 +42,7 @@ stored c =
           ∙ sym (ap (λ behind. region.entries.saved ++ take 1 behind) (drop_more region.current word 0 inside));
       room = c.push.ensures.room;
       barriers = refl;
-      marks = refl;
+      call_ends = refl;
       drains = refl;
     }
 

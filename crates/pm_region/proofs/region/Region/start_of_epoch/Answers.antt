@@ -5,7 +5,7 @@ use Rattle.pm_epochs.specs.Log.{barriers}
 use Rattle.pm_region.specs.Epochs.{epoch_start}
 use Rattle.pm_region.proofs.EpochLaws.{barriers_past, epoch_start_past}
 use Rattle.pm_region.proofs.region.Region.start_of_epoch.Goals as goal
-use Rattle.pm_region.proofs.region.Region.start_of_epoch.Goals.{in-Store, in-Barrier, in-Mark}
+use Rattle.pm_region.proofs.region.Region.start_of_epoch.Goals.{in-Store, in-Barrier, in-CallEnd}
 
 pub loop-i-preserved : goal.loop-i-preserved
 loop-i-preserved g c =
@@ -18,7 +18,7 @@ loop-i-preserved g c =
     let left_is : loop.left ≡ c.match-kind.left + barriers (event ∷ []) = elim c.match-kind.branch [
       | in-Store w ↦ grind arith
       | in-Barrier w ↦ grind arith
-      | in-Mark w ↦ grind arith
+      | in-CallEnd w ↦ grind arith
     ] in
     let count : barriers (drop loop.i events) ≡ barriers (event ∷ []) + barriers rest = ap barriers here ∙ barriers_past event rest in
     let start = ap (epoch_start loop.left) here ∙ epoch_start_past loop.left c.match-kind.left event rest (omega arith) left_is in

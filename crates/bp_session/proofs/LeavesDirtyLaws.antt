@@ -1,0 +1,74 @@
+-- What a file holds of the words of the last drain behind a line, and which of its blocks may lack some.
+use Rattle.std.proofs.Common.{refl, sym, ◌∙◌, subst, inl, inr, ◌≡◌, ℕ, ◌*◌, List, length, Bool, false, true}
+use Rattle.pm_epochs.specs.Replay.{PowerCut}
+use Rattle.bp_io.specs.Views.{View}
+use Rattle.bp_layout.specs.Words.{Image}
+use Rattle.bp_limits.specs.Limits.{call_room}
+use Rattle.bp_plain.specs.Calls.{Answer}
+use Rattle.bp_script.specs.Commands.{Command}
+use Rattle.pm_region.specs.Memory.{Memory, current_words, drained, with_room}
+use Rattle.bp_session.specs.Acting.{CrashesByCaches, CrashesTo, Does, LeavesDirty, NotesDrain, is_crash, to_save}
+use Rattle.bp_session.specs.Changed.{AreDirty, AreClean, CoversDrain}
+use Rattle.bp_session.specs.Files.{Holds, HoldsAs}
+use Rattle.bp_session.specs.declared.outcome.Outcome.{Outcome}
+use Rattle.bp_session.specs.declared.outcome.Outcome.TheVariants.{Answered, Synced, Counted, Kept, Logged, BadChoice, BadSyntax, TooLong, NoMemory}
+use Rattle.bp_session.proofs.ActingLaws.{saves_nothing, size-with_room}
+use Rattle.bp_session.proofs.ChangedLaws.{holds_drained, holds_lost, holds_more}
+
+-- ---- which blocks may
+
+pub leaves_synced : (memory : Memory) (before after : List Bool) → AreClean after → LeavesDirty Synced memory before after
+leaves_synced memory before after cleared = record {
+  crashed = λ e. absurd (let no : false ≡ true = e in cc);
+  synced = λ _. cleared;
+  others = λ _ other. absurd (other refl);
+}
+
+pub leaves_other : (outcome : Outcome) (memory : Memory) (before noted after : List Bool) → ¬ (outcome ≡ Synced) → NotesDrain outcome memory before noted → (is_crash outcome ≡ true → AreDirty after) → (is_crash outcome ≡ false → after ≡ noted)
+    → LeavesDirty outcome memory before after
+leaves_other outcome memory before noted after other notes crashed others = record {
+  crashed = crashed;
+  synced = λ e. absurd (other e);
+  others = λ no _. subst (λ (flags : List Bool). NotesDrain outcome memory before flags) (sym (others no)) notes;
+}
+
+pub notes_crash : (old new : Memory) (cut : PowerCut) (outcome : Outcome) (flags : List Bool) → CrashesTo old cut outcome new → NotesDrain outcome old flags flags
+notes_crash old new cut outcome flags (inl does) = rw does.told refl
+notes_crash old new cut outcome flags (inr does) = rw does.told refl
+
+pub notes_cache : (old new : Memory) (seed : ℕ) (outcome : Outcome) (flags : List Bool) → CrashesByCaches old seed outcome new → NotesDrain outcome old flags flags
+notes_cache old new seed outcome flags (inl does) = rw does.told refl
+notes_cache old new seed outcome flags (inr lacks) = rw lacks.told refl
+
+pub notes_log : (memory : Memory) (outcome : Outcome) (events barriers calls : ℕ) (flags : List Bool) → outcome ≡ Logged events barriers calls → NotesDrain outcome memory flags flags
+notes_log memory outcome events barriers calls flags is = rw is refl
+
+-- ---- a line that is no sync, over a file that stays
+
+module _ (old new : Memory) (command : Command) (answer : Answer) (before after : List Bool) (files : View) (name : List ℕ) (saved : Image) (size : length old.base ≡ 512 * files.blocks) (held : HoldsAs before files old.base name saved) where
+  stays : after ≡ before → new.base ≡ old.base → HoldsAs after files new.base name saved
+  stays flags base = rw (flags, base) held
+
+  holds_behind : (outcome : Outcome) → Does old command outcome answer new → ¬ (outcome ≡ Synced) → LeavesDirty outcome old before after → HoldsAs after files new.base name saved
+  holds_behind Synced does other leaves = absurd (other refl)
+  holds_behind Answered does other leaves =
+      let notes : CoversDrain old before after = leaves.others refl other in
+      let next : length (with_room call_room old).base ≡ 512 * files.blocks = size-with_room call_room old ∙ size in
+      subst (λ (base : Image). HoldsAs after files base name saved) (sym does.base)
+      (holds_more before after old.base (with_room call_room old).base files.blocks size next notes.more notes.changes files name saved refl held)
+  holds_behind (Kept c n) does other leaves = holds_lost after files new.base name saved (leaves.crashed refl) held.file
+  holds_behind (Counted free live) does other leaves = stays (leaves.others refl other) does.base
+  holds_behind (Logged events barriers calls) does other leaves =
+      stays (leaves.others refl other) does.base
+  holds_behind BadChoice does other leaves = stays (leaves.others refl other) does.base
+  holds_behind NoMemory does other leaves = stays (leaves.others refl other) does.base
+  holds_behind BadSyntax does other leaves = stays (leaves.others refl other) does.base
+  holds_behind TooLong does other leaves = stays (leaves.others refl other) does.base
+
+  pub acts_done : (outcome : Outcome) → Does old command outcome answer new → ¬ (outcome ≡ Synced) → LeavesDirty outcome old before after → HoldsAs after files new.base name (to_save command old saved)
+  acts_done outcome does other leaves = rw (saves_nothing old new command answer does other saved) (holds_behind outcome does other leaves)
+
+-- ---- a sync
+
+pub holds_synced : (old new : Memory) (flags : List Bool) (now : View) (name : List ℕ) → new ≡ drained old → Holds now name (current_words old) → HoldsAs flags now new.base name (current_words old)
+holds_synced old new flags now name done file = rw done (holds_drained flags now (current_words old) name file)

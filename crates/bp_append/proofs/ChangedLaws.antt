@@ -19,7 +19,7 @@ use Rattle.bp_append.specs.Grown.{changed, epoch_of_links}
 stays : (image : Image) (place value : ℕ) → (get_or image place 0 == value) ≡ true → set image place value ≡ image
 stays image place value is = subst (λ v. set image place v ≡ image) (eqb-true (get_or image place 0) value is) (set-get_or image place 0)
 
--- what holds of the others behind a link that stands already, and of that link with those behind one that does not
+-- what holds of the others after a link that stands already, and of that link with those after one that does not
 by_link : (P : List (ℕ × ℕ) → Type 0) (image : Image) (link : ℕ × ℕ) (links : List (ℕ × ℕ)) →
     ((get_or image link.0 0 == link.1) ≡ true → P (changed image links)) → P (link ∷ changed (set image link.0 link.1) links) → P (changed image (link ∷ links))
 by_link P image link links stands stored = go (get_or image link.0 0 == link.1) refl
@@ -54,8 +54,8 @@ pub few_changed : (image : Image) (links : List (ℕ × ℕ)) → length (change
 few_changed image [] = omega arith
 few_changed image (link ∷ links) =
     let without = few_changed image links in
-    let behind = few_changed (set image link.0 link.1) links in
-    by_link (λ rest. length rest ≤ length (link ∷ links)) image link links (λ is. omega (arith, without)) (omega (arith, behind))
+    let past_end = few_changed (set image link.0 link.1) links in
+    by_link (λ rest. length rest ≤ length (link ∷ links)) image link links (λ is. omega (arith, without)) (omega (arith, past_end))
 
 -- the others of links in a row, once the first ones are stored
 abbrev Splits : Image → List (ℕ × ℕ) → List (ℕ × ℕ) → Type 0
@@ -68,8 +68,8 @@ changed_append image (link ∷ links) ys =
   where
     go : (b : Bool) → (get_or image link.0 0 == link.1) ≡ b → Splits image links ys → Splits (set image link.0 link.1) links ys →
         Splits image (link ∷ links) ys
-    go true is without behind = rw is (without ∙ ap (λ i. changed image links ++ changed (after_stores i links) ys) (sym (stays image link.0 link.1 is)))
-    go false is without behind = rw is (ap (λ rest. link ∷ rest) behind)
+    go true is without past_end = rw is (without ∙ ap (λ i. changed image links ++ changed (after_stores i links) ys) (sym (stays image link.0 link.1 is)))
+    go false is without past_end = rw is (ap (λ rest. link ∷ rest) past_end)
 
 -- ---- the words after links
 

@@ -54,7 +54,7 @@ built_kept old new {root} {size} {bytes} {Member} {Full} whole same built =
       full = λ premise. tree_full old new root size whole stays (built.full premise);
     }
 
--- the same tree, told otherwise
+-- the same tree, reported otherwise
 pub built_as : (image : Image) (root size : ℕ) (bytes others : ℕ → ℕ) (Member Other : ℕ → Type 0) (Full Fully : Type 0) → ((i : ℕ) → i < size → bytes i ≡ others i) → ((b : ℕ) → Member b → Other b) → ((b : ℕ) → Other b → Member b) →
     (Fully → Full) → IsBuilt image root size bytes Member Full → IsBuilt image root size others Other Fully
 built_as image root size bytes others Member Other Full Fully same to from premise built = record {
@@ -91,7 +91,7 @@ children_one image block level size slot bytes Member Full word inside built = r
   full = λ premise c at below. rw at (built.full premise);
 }
 
--- the same slots, told otherwise
+-- the same slots, reported otherwise
 pub children_as : (image : Image) (block level size : ℕ) (At Also : ℕ → Type 0) (bytes : ℕ → ℕ) (Member Other : ℕ → Type 0) (Full Fully : Type 0) →
     ((c : ℕ) → c * span level < size → Also c → At c) → ((c : ℕ) → c * span level < size → At c → Also c) → ((x : ℕ) → Member x → Other x) → ((x : ℕ) → Other x → Member x) → (Fully → Full) →
     Children image block level size At bytes Member Full → Children image block level size Also bytes Other Fully
@@ -107,7 +107,7 @@ children_as image block level size At Also bytes Member Other Full Fully less mo
   full = λ fully c at below. children.full (premise fully) c (less c below at) below;
 }
 
--- the same bytes, told otherwise
+-- the same bytes, reported otherwise
 pub children_bytes : {image : Image} {block level size : ℕ} {At : ℕ → Type 0} (bytes others : ℕ → ℕ) {Member : ℕ → Type 0} {Full : Type 0} →
     ((c i : ℕ) → At c → c * span level < size → i < piece size level c → bytes (c * span level + i) ≡ others (c * span level + i)) →
     Children image block level size At bytes Member Full → Children image block level size At others Member Full

@@ -19,7 +19,7 @@ use Rattle.bp_layout.proofs.TreeLaws.{live_above, live_content}
 use Rattle.bp_tree.proofs.Digits.{length-digits}
 use Rattle.bp_append.specs.Prepared.{HasLooseEnd}
 use Rattle.bp_append.proofs.TallyLaws.{span-positive, span-suc}
-use Rattle.bp_tree.proofs.LooseWays.{inode_under, kept_node, loose-front}
+use Rattle.bp_tree.proofs.LooseWays.{inode_under, kept_node, loose-prefix}
 
 -- ---- the nodes on the way to a byte
 
@@ -80,11 +80,11 @@ slot_within index level =
     let next : (index + 1) * span level ≤ (index / 512 * 512 + 512) * span level = mul-le-mul_right (span level) (omega arith) in
     rw wide (grind (arith, next))
 
--- a node with a word behind the size has the byte at the size
-pub behind_within : (root size depth index level : ℕ) → depth + level ≡ height_of root → (IsLivePointer root size (suc depth) index → ⊥) → (depth ≡ height_of root → size < 8 * index + 8) →
+-- a node with a word after the size has the byte at the size
+pub past_end_within : (root size depth index level : ℕ) → depth + level ≡ height_of root → (IsLivePointer root size (suc depth) index → ⊥) → (depth ≡ height_of root → size < 8 * index + 8) →
     size < index / 512 * span level + span level
-behind_within root size depth index zero at no_pointer ends = let low = ends (omega (arith, at)) in omega (arith, low)
-behind_within root size depth index (suc level) at no_pointer ends =
+past_end_within root size depth index zero at no_pointer ends = let low = ends (omega (arith, at)) in omega (arith, low)
+past_end_within root size depth index (suc level) at no_pointer ends =
     elim (cases_lt (index * span level) size) [
       | inl less ↦ absurd (no_pointer (record { level = level; height = omega (arith, at); live = less }))
       | inr over ↦ let some : 0 < span level = span-positive level in lt_of_lt_of_le (omega (arith, over, some)) (slot_within index level)
@@ -92,7 +92,7 @@ behind_within root size depth index (suc level) at no_pointer ends =
 
 -- ---- the ways to them
 
--- the path of a front of a way is a front of its path
+-- the path of a prefix of a way is a prefix of its path
 split_path : (h t height index d k slot : ℕ) (rest : WordPath) → digits (suc height) index ≡ digits d k ++ slot ∷ rest → tree_path h t (suc height) index ≡ tree_path h t d k ++ slot ∷ rest
 split_path h zero height index d k slot rest e = e
 split_path h (suc i) height index d k slot rest e = ap (λ ds. inode_path h (suc i) 1 ++ ds) e ∙ sym (append_assoc (inode_path h (suc i) 1) (digits d k) (slot ∷ rest))
@@ -119,12 +119,12 @@ module _ (image : Image) (wf : IsWellFormed image) where
         subst (λ b. IsLoose image in_snapshot (length (root_path_now image t) - 1) (if b then tree_path (heights_now image 0) t (suc (heights_now image t)) (size_of image t / 8) else root_path_now image t)) (and_from _ _ (lt-ltb _ _ some) (lt-ltb _ _ low)) loose in
         let through = digits-through (heights_now image t) (size_of image t) live.level d k live.height (le_of_lt live.live) high in
         sym (kept_node image wf in_snapshot t d k reached live present)
-        ∙ loose-front image in_snapshot (length (root_path_now image t) - 1) (tree_path (heights_now image 0) t d k) through.0 through.1.0 (root_short (heights_now image 0) t d k)
+        ∙ loose-prefix image in_snapshot (length (root_path_now image t) - 1) (tree_path (heights_now image 0) t d k) through.0 through.1.0 (root_short (heights_now image 0) t d k)
         (subst (IsLoose image in_snapshot (length (root_path_now image t) - 1)) (split_path (heights_now image 0) t (heights_now image t) (size_of image t / 8) d k through.0 through.1.0 through.1.1) way)
 
     -- the block with its inode
     loose_inode : t ≢ 0 → in_snapshot (node image (root_of image 0) (heights_now image 0) ((8 * t + 1) / 512)) ≡ false
-    loose_inode some = sym (kept_node image wf in_snapshot 0 (heights_now image 0) ((8 * t + 1) / 512) inode_file leaf (inode_under image wf t reached)) ∙ front t some loose
+    loose_inode some = sym (kept_node image wf in_snapshot 0 (heights_now image 0) ((8 * t + 1) / 512) inode_file leaf (inode_under image wf t reached)) ∙ prefix t some loose
       where
         leaf : IsLivePointer (root_of image 0) (size_of image 0) (height_of (root_of image 0)) ((8 * t + 1) / 512)
         leaf =
@@ -137,7 +137,7 @@ module _ (image : Image) (wf : IsWellFormed image) where
             let whole : length (inode_path (heights_now image 0) (suc i) 1 ++ []) ≡ length (inode_path (heights_now image 0) (suc i) 1) + 0 = length-append (inode_path (heights_now image 0) (suc i) 1) [] in
             let long : length (inode_path (heights_now image 0) (suc i) 1) ≡ suc (heights_now image 0) = length-digits (suc (heights_now image 0)) (8 * suc i + 1) in
             let short : length (digits (heights_now image 0) ((8 * suc i + 1) / 512)) ≡ heights_now image 0 = length-digits (heights_now image 0) ((8 * suc i + 1) / 512) in
-            loose-front image in_snapshot (length (root_path_now image (suc i)) - 1) (digits (heights_now image 0) ((8 * suc i + 1) / 512)) ((8 * suc i + 1) % 512) (digits depth index) (omega (arith, whole, long, short))
+            loose-prefix image in_snapshot (length (root_path_now image (suc i)) - 1) (digits (heights_now image 0) ((8 * suc i + 1) / 512)) ((8 * suc i + 1) % 512) (digits depth index) (omega (arith, whole, long, short))
             (subst (IsLoose image in_snapshot (length (root_path_now image (suc i)) - 1)) (append_assoc (digits (heights_now image 0) ((8 * suc i + 1) / 512)) ((8 * suc i + 1) % 512 ∷ []) (digits depth index)) is)
 
         either : (i : ℕ) (b : Bool) → IsLoose image in_snapshot (length (root_path_now image (suc i)) - 1) (if b then tree_path (heights_now image 0) (suc i) (suc (heights_now image (suc i))) (size_of image (suc i) / 8) else root_path_now image (suc i)) →
@@ -145,9 +145,9 @@ module _ (image : Image) (wf : IsWellFormed image) where
         either i true is = way i (suc (heights_now image (suc i))) (size_of image (suc i) / 8) is
         either i false is = way i 0 0 is
 
-        front : (u : ℕ) → u ≢ 0 → IsLoose image in_snapshot (length (root_path_now image u) - 1) (end_path_now image u) → is_in_snapshot_at image in_snapshot (digits (heights_now image 0) ((8 * u + 1) / 512)) ≡ false
-        front zero some is = absurd (some refl)
-        front (suc i) some is = either i (nat_lt 0 (size_of image (suc i)) && nat_lt (size_of image (suc i)) (span (heights_now image (suc i)))) is
+        prefix : (u : ℕ) → u ≢ 0 → IsLoose image in_snapshot (length (root_path_now image u) - 1) (end_path_now image u) → is_in_snapshot_at image in_snapshot (digits (heights_now image 0) ((8 * u + 1) / 512)) ≡ false
+        prefix zero some is = absurd (some refl)
+        prefix (suc i) some is = either i (nat_lt 0 (size_of image (suc i)) && nat_lt (size_of image (suc i)) (span (heights_now image (suc i)))) is
 
     -- so that with its root word
     loose_root : (place : ℕ) → t ≢ 0 → RootPlace image t place → in_snapshot (place / 512) ≡ false

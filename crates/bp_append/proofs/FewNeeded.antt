@@ -12,7 +12,7 @@ use Rattle.bp_append.specs.Tally.{met}
 use Rattle.bp_append.proofs.NeedLaws.{need_is, tall_low}
 use Rattle.bp_append.proofs.TallyLaws.{met_none, met_some, span-leaf, span-positive, span-suc}
 
--- as far apart as so many steps, two offsets have quotients that are no further apart
+-- as far apart as as many steps, two offsets have quotients that are no further apart
 pub div_near : (a b s many : ℕ) → 0 < s → a ≤ b + many * s → a / s ≤ b / s + many
 div_near a b s many some near =
     let rest = lt-div-mul-add {a = b} {b = s} some in
@@ -62,9 +62,9 @@ module _ (image : Image) (root size from to many : ℕ) (few : many ≤ 512) (ne
   levels_few zero = omega (arith, leaves_few)
   levels_few (suc level) = omega (arith, levels_few level, level_few level)
 
-  -- so many at most
+  -- as many at most
   pub few_needed : size ≤ from → (0 < size → height_of root ≤ max_height) → length (nodes_for image root size from to) ≤ many + 2 + 3 * max_height
-  few_needed behind low =
+  few_needed past_end low =
       let all = levels_few (height_with root size to) in
       let tall : height_with root size to ≤ max_height = tall_low root size to low in
-      omega (arith, all, tall, need_is image root size from to behind)
+      omega (arith, all, tall, need_is image root size from to past_end)

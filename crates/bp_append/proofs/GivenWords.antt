@@ -16,12 +16,12 @@ bare c = ap (λ n. n % 256) (zero-div (256 ^ c))
 bare-word : (k c : ℕ) → k < run_words → byte_of (get_or (replicate run_words 0) k 0) c ≡ 0
 bare-word k c low = ap (λ w. byte_of w c) (get_or-replicate run_words k 0 0 low) ∙ bare c
 
--- words of 0 before the given bytes, and behind them
+-- words of 0 before the given bytes, and after them
 pub early-word : (k c offset from : ℕ) (bytes : List ℕ) → k < run_words → offset < from → byte_of (get_or (replicate run_words 0) k 0) c ≡ given from bytes offset
 early-word k c offset from bytes low before = bare-word k c low ∙ sym (given-before from bytes offset before)
 
 pub late-word : (k c offset from : ℕ) (bytes : List ℕ) → k < run_words → from ≤ offset → length bytes ≤ offset - from → byte_of (get_or (replicate run_words 0) k 0) c ≡ given from bytes offset
-late-word k c offset from bytes low behind past = bare-word k c low ∙ sym (given-there from bytes offset behind ∙ get_or_past bytes (offset - from) 0 past)
+late-word k c offset from bytes low past_end past = bare-word k c low ∙ sym (given-there from bytes offset past_end ∙ get_or_past bytes (offset - from) 0 past)
 
 -- the given bytes laid over nothing
 pub given_over : (from : ℕ) (bytes : List ℕ) (offset c : ℕ) → byte_over from bytes offset (byte_of 0 c) ≡ given from bytes offset

@@ -1,7 +1,7 @@
--- What going down through the last slot of a node, and filling it behind the slot, leaves as it was.
+-- What going down through the last slot of a node, and filling it after the slot, leaves as it was.
 use Rattle.std.proofs.Common.{◌≡◌, ◌≢◌, ℕ, suc, ◌+◌, ◌-◌, ◌*◌, ◌<◌, ◌≤◌, min, List, length, get_or, refl, sym, ◌∙◌, subst, subst₂, arith, inl, inr, mul-le-mul_right}
 use Rattle.std.proofs.lemmas.Bool.{cases_lt}
-use Rattle.bp_layout.proofs.MemberLaws.{has-behind, has-front}
+use Rattle.bp_layout.proofs.MemberLaws.{has-after, has-prefix}
 use Rattle.bp_layout.specs.Words.{Image, block_of}
 use Rattle.bp_layout.specs.Tree.{byte, span, HasBlock, IsFull}
 use Rattle.bp_layout.specs.Members.{Has}
@@ -19,7 +19,7 @@ use Rattle.bp_append.proofs.ChildrenLaws.{children_before}
 use Rattle.bp_append.proofs.FillLaws.{may_length, apart_parts, block_row}
 use Rattle.bp_append.proofs.VisitLaws.{slot_views, top_number, shape, present, parts, beside, whole_links, inside_slot, piece_is, kid_block, kid_own, block_taken}
 
--- Going down through the last slot of a node, and filling it behind the slot: what each asks for and gives.
+-- Going down through the last slot of a node, and filling it after the slot: what each asks for and gives.
 pub record GoesOn (old middle new : Memory) (free_old free_middle free_new : List ℕ) (root size below start block slot from to : ℕ) (raw : List ℕ)
     (links : List (ℕ × ℕ)) : Type 0 where
   pub can : CanVisit old free_old root size (suc below) start block from to
@@ -34,7 +34,7 @@ pub record Views : Type 0 where
   pub later : Image
   -- the blocks that going down took, and those that the filling took
   pub down : List ℕ
-  pub behind : List ℕ
+  pub past_end : List ℕ
 
 module _ {old middle new : Memory} {free_old free_middle free_new : List ℕ} {root size below start block slot from to : ℕ} {raw : List ℕ}
     {links : List (ℕ × ℕ)}
@@ -43,9 +43,9 @@ module _ {old middle new : Memory} {free_old free_middle free_new : List ℕ} {r
   open (slot_views can last) use {was, top, begin, low, kid}
 
   abbrev pub views : Views
-  views = record { halfway = current_words middle; later = current_words new; down = visits.taken; behind = fills.taken }
+  views = record { halfway = current_words middle; later = current_words new; down = visits.taken; past_end = fills.taken }
 
-  open views use {halfway, later, down, behind}
+  open views use {halfway, later, down, past_end}
 
   -- the blocks of the node before it, and those of the part in the slot
   abbrev pub Has_old : ℕ → Type 0
@@ -65,15 +65,15 @@ module _ {old middle new : Memory} {free_old free_middle free_new : List ℕ} {r
   not_free x has m = can.outside x m has
 
   pub in_first : (x : ℕ) → Has down x → Has free_old x
-  in_first x m = subst (λ f. Has f x) (sym visits.takes) (has-front down free_middle x m)
+  in_first x m = subst (λ f. Has f x) (sym visits.takes) (has-prefix down free_middle x m)
 
-  in_middle : (x : ℕ) → Has behind x → Has free_middle x
-  in_middle x m = subst (λ f. Has f x) (sym fills.takes) (has-front behind free_new x m)
+  in_middle : (x : ℕ) → Has past_end x → Has free_middle x
+  in_middle x m = subst (λ f. Has f x) (sym fills.takes) (has-prefix past_end free_new x m)
 
-  pub in_second : (x : ℕ) → Has behind x → Has free_old x
-  in_second x m = subst (λ f. Has f x) (sym visits.takes) (has-behind down free_middle x (in_middle x m))
+  pub in_second : (x : ℕ) → Has past_end x → Has free_old x
+  in_second x m = subst (λ f. Has f x) (sym visits.takes) (has-after down free_middle x (in_middle x m))
 
-  pub apart_taken : (x : ℕ) → Has down x → Has behind x → ⊥
+  pub apart_taken : (x : ℕ) → Has down x → Has past_end x → ⊥
   apart_taken x m n = apart_parts down free_middle x (rw visits.takes at can.usable.apart) m (in_middle x n)
 
   pub block_free : Has free_old block → ⊥
@@ -85,9 +85,9 @@ module _ {old middle new : Memory} {free_old free_middle free_new : List ℕ} {r
   pub own : Has_kid block → ⊥
   own = kid_own can last
 
-  -- the slots that are filled lie behind the slot
-  pub behind_slot : (c : ℕ) → low ≤ start + c * span below → slot < c
-  behind_slot c over = elim (cases_lt slot c) [
+  -- the slots that are filled lie after the slot
+  pub past_end_slot : (c : ℕ) → low ≤ start + c * span below → slot < c
+  past_end_slot c over = elim (cases_lt slot c) [
     | inl less ↦ less
     | inr more ↦
         let up : c * span below ≤ slot * span below = mul-le-mul_right (span below) more in
@@ -95,14 +95,14 @@ module _ {old middle new : Memory} {free_old free_middle free_new : List ℕ} {r
   ]
 
   -- words of blocks where the filling stores nothing
-  pub same_second : (x k : ℕ) → k < 512 → (Has behind x → ⊥) → (x ≡ block → k ≤ slot) →
+  pub same_second : (x k : ℕ) → k < 512 → (Has past_end x → ⊥) → (x ≡ block → k ≤ slot) →
       get_or later (512 * x + k) 0 ≡ get_or halfway (512 * x + k) 0
   same_second x k few out before = may_frame _ 0 _ middle new fills.stores.part (512 * x + k) (λ v m. elim m [
-    | inl t ↦ out (subst (Has behind) (block_row x k few) t)
+    | inl t ↦ out (subst (Has past_end) (block_row x k few) t)
     | inr filled ↦
         let here : x ≡ block = omega (arith, filled.at, filled.few, few) in
         let at : filled.slot ≡ k = omega (arith, filled.at, filled.few, few, here) in
-        let over = behind_slot filled.slot (filled.node below refl) in
+        let over = past_end_slot filled.slot (filled.node below refl) in
         omega (arith, before here, at, over)
   ])
 

@@ -30,7 +30,7 @@ use Rattle.bp_commit.proofs.PerformsLaws.{performs_word}
 use Rattle.bp_append.specs.Prepared.{need_for, CanPrepare, PreparesWith}
 use Rattle.bp_append.specs.Stores.{prep_stores}
 use Rattle.bp_append.proofs.CallerLaws.{prepared_can_resize}
-use Rattle.bp_append.proofs.StoresLaws.{behind_whole}
+use Rattle.bp_append.proofs.StoresLaws.{past_end_whole}
 use Rattle.bp_layout.specs.Inode.{RootPlace}
 use Rattle.bp_layout.specs.Inode.RootPlace.{inode}
 
@@ -188,10 +188,10 @@ module _ (in_snapshot : ℕ → Bool) (old middle new : Memory) (free_old free_n
       }) loose_place
 
   few : prep_stores (size_of image (suc n)) from to (need_for image (suc n) from to) + 1 ≤ most_stores_thawed (need image change)
-  few = go _ _ _ grown_need (behind_whole (size_of image (suc n)) from to max_height)
+  few = go _ _ _ grown_need (past_end_whole (size_of image (suc n)) from to max_height)
     where
-      go : (made needs behind : ℕ) → needs ≡ made → behind ≤ 512 * suc max_height → 512 * made + behind + 2 + 1 ≤ 512 * (needs + 6) + 64
-      go made needs behind e low = omega (arith, e, low)
+      go : (made needs past_end : ℕ) → needs ≡ made → past_end ≤ 512 * suc max_height → 512 * made + past_end + 2 + 1 ≤ 512 * (needs + 6) + 64
+      go made needs past_end e low = omega (arith, e, low)
 
   pub grown_size : size_of (current_words new) (suc n) ≡ to
   grown_size = rw committed (size_here mid wf_mid n to place can_resize)

@@ -3,7 +3,7 @@ use Rattle.std.proofs.Common.{ℕ, ◌+◌, ◌/◌, ◌≡◌, ◌≤◌, List,
 use Rattle.pm_epochs.specs.declared.event.Event.TheVariants.{Store}
 use Rattle.pm_epochs.specs.Log.{StoresTo}
 use Rattle.pm_epochs.proofs.MayLaws.{StoresMay-append, StoresMay-weaker}
-use Rattle.pm_epochs.proofs.PieceLaws.{IsPiece-append, IsPiece-more, IsPiece-store, StoresTo-front, StoresTo-behind}
+use Rattle.pm_epochs.proofs.PieceLaws.{IsPiece-append, IsPiece-more, IsPiece-store, StoresTo-prefix, StoresTo-after}
 use Rattle.bp_layout.proofs.MemberLaws.{each-append, each-as, each-has, each-of}
 use Rattle.bp_layout.specs.Members.{Has}
 use Rattle.pm_region.specs.Memory.{Memory, Adds}
@@ -49,6 +49,6 @@ into_twice xs ys May most more old middle new one two = record {
     piece = IsPiece-append 0 most 0 more one.part.added two.part.added one.part.piece two.part.piece;
   };
   stored = each-append (λ b. StoresTo (InBlock b) (one.part.added ++ two.part.added)) xs ys
-      (each-as (λ b. StoresTo (InBlock b) one.part.added) (λ b. StoresTo (InBlock b) (one.part.added ++ two.part.added)) (λ b. StoresTo-front (InBlock b) one.part.added two.part.added) xs one.stored)
-      (each-as (λ b. StoresTo (InBlock b) two.part.added) (λ b. StoresTo (InBlock b) (one.part.added ++ two.part.added)) (λ b. StoresTo-behind (InBlock b) one.part.added two.part.added) ys two.stored);
+      (each-as (λ b. StoresTo (InBlock b) one.part.added) (λ b. StoresTo (InBlock b) (one.part.added ++ two.part.added)) (λ b. StoresTo-prefix (InBlock b) one.part.added two.part.added) xs one.stored)
+      (each-as (λ b. StoresTo (InBlock b) two.part.added) (λ b. StoresTo (InBlock b) (one.part.added ++ two.part.added)) (λ b. StoresTo-after (InBlock b) one.part.added two.part.added) ys two.stored);
 }

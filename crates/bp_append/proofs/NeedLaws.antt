@@ -24,7 +24,7 @@ use Rattle.std.proofs.lemmas.List.FromFn.{filter_of_map_range_with_len_more, len
 use Rattle.bp_append.proofs.EdgeCounts.{idles_none, idles_more}
 use Rattle.bp_append.proofs.SpineLaws.{absent, spine_idle, spine_at_idle, dead_node, null_node}
 
-module _ (image : Image) (root size from to : ℕ) (behind : size ≤ from) where
+module _ (image : Image) (root size from to : ℕ) (past_end : size ≤ from) where
   -- the height of the tree with the bytes in it
   abbrev tall : ℕ
   tall = height_with root size to
@@ -36,25 +36,25 @@ module _ (image : Image) (root size from to : ℕ) (behind : size ≤ from) wher
   abbrev lacking : ℕ → ℕ → ℕ → List TreeNode
   lacking level first n = filter Lacks (map (λ i. record { level = level; index = i }) (range_with_len first n))
 
-  -- how many nodes of a level stand behind the first
-  abbrev behind_count : ℕ → ℕ
-  behind_count level = (to - 1) / span level - from / span level
+  -- how many nodes of a level stand after the first
+  abbrev past_end_count : ℕ → ℕ
+  past_end_count level = (to - 1) / span level - from / span level
 
   -- the nodes of the levels below one
   abbrev nodes_below : ℕ → List TreeNode
   nodes_below levels = flat_map (nodes_over from to) (range_with_len 0 levels)
 
-  behind_first : (level index : ℕ) → from / span level < index → size ≤ index * span level
-  behind_first level index less =
+  after_first : (level index : ℕ) → from / span level < index → size ≤ index * span level
+  after_first level index less =
       let up : (from / span level + 1) * span level ≤ index * span level = mul-le-mul_right (span level) (omega (arith, less)) in
       let step : (from / span level + 1) * span level ≡ from / span level * span level + span level = grind arith in
       let rest = lt-div-mul-add {a = from} {b = span level} (span-positive level) in
-      omega (arith, up, step, rest, behind)
+      omega (arith, up, step, rest, past_end)
 
   all_pass : (level n index : ℕ) → from / span level < index → length (lacking level index n) ≡ n
   all_pass level zero index less = refl
   all_pass level (suc n) index less =
-      let dead = dead_node image root size level index (behind_first level index less) in
+      let dead = dead_node image root size level index (after_first level index less) in
       let more = lacking level (index + 1) n in
       ap (λ b. length (if not b then record { level = level; index = index } ∷ more else more)) dead
       ∙ ap suc (all_pass level n (index + 1) (omega (arith, less)))
@@ -63,12 +63,12 @@ module _ (image : Image) (root size from to : ℕ) (behind : size ≤ from) wher
   at_level level some =
       let first : ℕ = from / span level in
       let rest : ℕ = (to - 1) / span level - from / span level in
-      let pass = all_pass level (behind_count level) (from / span level + 1) (omega arith) in
+      let pass = all_pass level (past_end_count level) (from / span level + 1) (omega arith) in
       met_is (is_present image root size (record { level = level; index = from / span level })) pass
     where
-      met_is : (b : Bool) → length (lacking level (from / span level + 1) (behind_count level)) ≡ behind_count level →
-          length (if not b then record { level = level; index = from / span level } ∷ lacking level (from / span level + 1) (behind_count level)
-          else lacking level (from / span level + 1) (behind_count level)) + (if nat_lt from to && b then 1 else 0) ≡ met level from to
+      met_is : (b : Bool) → length (lacking level (from / span level + 1) (past_end_count level)) ≡ past_end_count level →
+          length (if not b then record { level = level; index = from / span level } ∷ lacking level (from / span level + 1) (past_end_count level)
+          else lacking level (from / span level + 1) (past_end_count level)) + (if nat_lt from to && b then 1 else 0) ≡ met level from to
       met_is true pass = rw (met_some level from to some, lt-ltb from to some) (omega (arith, pass))
       met_is false pass = rw (met_some level from to some, lt-ltb from to some) (omega (arith, pass))
 
@@ -288,12 +288,12 @@ pub tall_enough : (root size to : ℕ) → 0 < size → height_of root ≤ heigh
 tall_enough root size to some = rw (ne_eqb size 0 (λ e. omega (arith, e, some))) (omega arith)
 
 pub need_is : (image : Image) (root size from to : ℕ) → size ≤ from → length (nodes_for image root size from to) ≡ needs image root size from to (suc (height_with root size to))
-need_is image root size from to behind = go (cases_eq size 0) (cases_eq (block_of root) 0)
+need_is image root size from to past_end = go (cases_eq size 0) (cases_eq (block_of root) 0)
   where
     go : (size ≡ 0) ⊎ (size ≡ 0 → ⊥) → (block_of root ≡ 0) ⊎ (block_of root ≡ 0 → ⊥) → length (nodes_for image root size from to) ≡ needs image root size from to (suc (height_with root size to))
-    go (inl e) _ = law_null image root size from to behind (inl e)
-    go (inr some) (inl e) = law_null image root size from to behind (inr e)
-    go (inr some) (inr present) = law_present image root size from to behind (omega (arith, some)) present (tall_enough root size to (omega (arith, some)))
+    go (inl e) _ = law_null image root size from to past_end (inl e)
+    go (inr some) (inl e) = law_null image root size from to past_end (inr e)
+    go (inr some) (inr present) = law_present image root size from to past_end (omega (arith, some)) present (tall_enough root size to (omega (arith, some)))
 
 -- the tree of that height holds the end
 pub tall_fits : (root size to : ℕ) → to ≤ max_size → to ≤ span (height_with root size to)

@@ -56,7 +56,7 @@ module _ (in_snapshot : ℕ → Bool) (first new : Memory) (free_old free_new : 
   made = makes.made
 
   order : size_of old t ≤ to
-  order = le_trans can.behind can.order
+  order = le_trans can.past_end can.order
 
   taken_are : Each (IsFreeBlock old in_snapshot) made.taken
   taken_are = each_left _ made.taken free_new (rw made.takes at can.are_free)
@@ -124,7 +124,7 @@ module _ (in_snapshot : ℕ → Bool) (first new : Memory) (free_old free_new : 
     reads = subst₂ (λ z r. ReadsAs (IsReadByWords middle t) middle z r makes.top) (sym sizes) (sym roots)
         (built_reads (IsReadByWords middle t) middle (size_of old t) to (root_of old t) makes.top (given_at from raw 0) made.taken (from ≡ 0)
         (λ by. none_below (by_old old middle t meaning can.reached by)) order null made.tree (free_middle made.taken taken_free)
-        (λ i low. given-before from raw (0 + i) (omega (arith, low, can.behind)))
+        (λ i low. given-before from raw (0 + i) (omega (arith, low, can.past_end)))
         (rw (made.height, version_stays old middle meaning.trees.has_magic) (tall_most (version_of old) (root_of old t) (size_of old t) to (can.well.low t can.reached) can.fits)));
     sizes = λ u r. size-same old middle can.well agrees u r;
     roots = λ u r away. roots_stay u r;
@@ -142,7 +142,7 @@ module _ (in_snapshot : ℕ → Bool) (first new : Memory) (free_old free_new : 
         (prepared old middle can.well t place makes.top from to raw made.taken can.reached at null_ready taken_free (given_at from raw 0) (from ≡ 0)
         (built_as middle makes.top to (given_at from raw 0) (given_at from raw 0) (Has made.taken) (λ b. HasBlock old (root_of old t) (size_of old t) b ⊎ Has made.taken b) (from ≡ 0) (from ≡ 0)
         (λ i low. refl) (λ b m. inr m) (λ b m. elim m [ inl has ↦ absurd (no_block_old b has) | inr taken ↦ taken ]) (λ p. p) made.tree)
-        (λ o low. given-before from raw (0 + o) (omega (arith, low, can.behind)) ∙ sym (old_byte o low))
+        (λ o low. given-before from raw (0 + o) (omega (arith, low, can.past_end)) ∙ sym (old_byte o low))
         (λ o above below. ap (given from raw) (zero_plus o))
         (λ by. can.by_words by ∙ none_below by)
         made.height can.fits order
@@ -154,5 +154,5 @@ module _ (in_snapshot : ℕ → Bool) (first new : Memory) (free_old free_new : 
       zero_plus : (o : ℕ) → 0 + o ≡ o
       zero_plus o = omega arith
 
-      few : (taken needed behind : ℕ) → taken ≡ needed → 512 * taken + 1 ≤ 512 * needed + behind + 2
-      few taken needed behind e = omega (arith, e)
+      few : (taken needed past_end : ℕ) → taken ≡ needed → 512 * taken + 1 ≤ 512 * needed + past_end + 2
+      few taken needed past_end e = omega (arith, e)

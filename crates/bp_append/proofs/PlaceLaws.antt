@@ -89,8 +89,8 @@ leads_to image (suc i) wf reached = subst (Leads image (suc i)) (sym (append-nil
 
 pub grow_can : {in_snapshot : ℕ → Bool} (memory : Memory) (free : List ℕ) (t : ℕ) (path : WordPath) (from to : ℕ) → CanPrepare in_snapshot memory free t path from to → CanGrow memory free (root_of (current_words memory) t) (size_of (current_words memory) t) from to
 grow_can memory free t path from to can = record {
-  behind = can.behind;
-  order = le_trans can.behind can.order;
+  past_end = can.past_end;
+  order = le_trans can.past_end can.order;
   fits = le_trans can.fits (size_most (version_of (current_words memory)));
   sound = can.well.sound t can.reached;
   some = let some : 8 ≤ block_count (current_words memory) = can.well.formatted.sized.at_least in omega (arith, some, length-current_words memory);

@@ -27,7 +27,7 @@ use Rattle.pm_epochs.specs.declared.event.Event.TheVariants.{Barrier}
 use Rattle.pm_epochs.specs.Log.{words_after, StoresTo}
 use Rattle.pm_epochs.specs.May.{AnyAt, StoresMay, EachMay, AnyOf, links_of}
 use Rattle.pm_epochs.proofs.MayLaws.{StoresMay-append, StoresMay-weaker}
-use Rattle.pm_epochs.proofs.PieceLaws.{IsPiece-append, IsPiece-more, IsPiece-barrier, StoresTo-front}
+use Rattle.pm_epochs.proofs.PieceLaws.{IsPiece-append, IsPiece-more, IsPiece-barrier, StoresTo-prefix}
 use Rattle.pm_region.specs.Memory.{Memory, current_words, Adds}
 use Rattle.pm_region.proofs.MemoryLaws.{adds_both, current_words-adds}
 use Rattle.bp_commit.specs.Performs.{InBlock, IsOpen, AddsTaking}
@@ -123,7 +123,7 @@ module _ (in_snapshot : ℕ → Bool) (old between new : Memory) (taken : List �
       once = once;
       free = free;
       stored = each-as (λ b. StoresTo (InBlock b) events) (λ b. StoresTo (InBlock b) ((events ++ Barrier ∷ []) ++ epoch_of_links done))
-          (λ b found. StoresTo-front (InBlock b) (events ++ Barrier ∷ []) (epoch_of_links done) (StoresTo-front (InBlock b) events (Barrier ∷ []) found)) taken stores.stored;
+          (λ b found. StoresTo-prefix (InBlock b) (events ++ Barrier ∷ []) (epoch_of_links done) (StoresTo-prefix (InBlock b) events (Barrier ∷ []) found)) taken stores.stored;
       only = StoresMay-append (AnyAt Open) (events ++ Barrier ∷ []) (epoch_of_links done)
           (StoresMay-append (AnyAt Open) events (Barrier ∷ []) (StoresMay-weaker May (AnyAt Open) opens events stores.part.may) tt)
           (may_epoch (AnyAt Open) done (may_changed (AnyAt Open) (current_words between) links open_links));

@@ -1,4 +1,4 @@
--- A tree whose links are done but for its root word, and what the store of that makes of the image.
+-- A tree whose links are done except for its root word, and what the store of that makes of the image.
 use Rattle.std.proofs.Common.{◌≡◌, ◌≢◌, ◌⊎◌, ℕ, suc, ◌+◌, ◌-◌, ◌*◌, ◌/◌, ◌%◌, ◌<◌, ◌≤◌, List, length, set, get_or, refl, sym, ◌∙◌, ap, subst₂, arith, inl, inr, get_or-set_other, lt_of_lt_of_le, le_trans}
 use Rattle.std.proofs.lemmas.List.{length-set}
 use Rattle.bp_layout.proofs.MemberLaws.{each-has}
@@ -105,7 +105,7 @@ module _ (old image : Image) (wf : IsWellFormed old) (t place other from to : �
 
   module _ (bytes : ℕ → ℕ) (Full : Type 0) (built : IsBuilt image other to bytes (λ b. HasBlock old (root_of old t) (size_of old t) b ⊎ Has taken b) Full)
       (kept : (o : ℕ) → o < size_of old t → bytes o ≡ byte old (root_of old t) o)
-      (behind : (o : ℕ) → size_of old t ≤ o → o < to → bytes o ≡ given from raw o) (full : IsReadByWords old t → Full)
+      (past_end : (o : ℕ) → size_of old t ≤ o → o < to → bytes o ≡ given from raw o) (full : IsReadByWords old t → Full)
       (height : height_of other ≡ height_with (root_of old t) (size_of old t) to) (fits : to ≤ greatest_size (version_of old))
       (order : size_of old t ≤ to)
       (frame : (u b k : ℕ) → IsReached old u → u ≢ t → HasBlock old (root_of old u) (size_of old u) b → k < 512 → 512 * b + k ≢ place → get_or last (512 * b + k) 0 ≡ get_or old (512 * b + k) 0)
@@ -178,7 +178,7 @@ module _ (old image : Image) (wf : IsWellFormed old) (t place other from to : �
       height = rw shape.here height;
       low = rw (shape.here, version_stays old last meaning_last.trees.has_magic, height) (tall_most (version_of old) (root_of old t) (size_of old t) to (wf.low t reached) fits);
       kept = λ o low. rw shape.here (tree_last.bytes_are o (lt_of_lt_of_le low order) ∙ kept o low);
-      bytes_are = λ o above below. rw shape.here (tree_last.bytes_are o below ∙ behind o above below);
+      bytes_are = λ o above below. rw shape.here (tree_last.bytes_are o below ∙ past_end o above below);
       sound = rw shape.here tree_last.sound;
       full = λ by. rw shape.here (tree_last.full (full by));
       blocks = λ b has. tree_last.blocks b (rw shape.here at has);

@@ -1,6 +1,6 @@
 -- One node after another on top of a tree.
 use Rattle.std.proofs.Common.{◌≡◌, ◌⊎◌, ℕ, suc, ◌+◌, ◌-◌, ◌*◌, ◌/◌, ◌<◌, ◌≤◌, min, List, [], ◌∷◌, ◌++◌, length, refl, sym, ◌∙◌, ap, subst, arith, inl, inr, lt-ltb, le-ltb, le_trans}
-use Rattle.bp_layout.proofs.MemberLaws.{apart-append, has-behind, has-either, has-front}
+use Rattle.bp_layout.proofs.MemberLaws.{apart-append, has-after, has-either, has-prefix}
 use Rattle.bp_limits.specs.Limits.{max_height}
 use Rattle.std.proofs.lemmas.Bool.{cases_lt}
 use Rattle.std.proofs.lemmas.List.{append_assoc, length-append}
@@ -64,10 +64,10 @@ module _ {first middle last : Memory} {free_first free_middle free_last raw : Li
     (two : Rises middle last free_middle free_last mid_root top mid high from to raw) (usable : AreApart free_first) (order : low ≤ mid)
     (rest : mid < high) (one_more : high ≡ suc mid) (height_mid : height_of mid_root ≡ mid) where
   in_middle : (x : ℕ) → Has free_middle x → Has free_first x
-  in_middle x m = subst (λ f. Has f x) (sym one.takes) (has-behind one.taken free_middle x m)
+  in_middle x m = subst (λ f. Has f x) (sym one.takes) (has-after one.taken free_middle x m)
 
   in_two : (x : ℕ) → Has two.taken x → Has free_middle x
-  in_two x m = subst (λ f. Has f x) (sym two.takes) (has-front two.taken free_last x m)
+  in_two x m = subst (λ f. Has f x) (sym two.takes) (has-prefix two.taken free_last x m)
 
   apart_both : (x : ℕ) → Has one.taken x → Has free_middle x → ⊥
   apart_both x m n = apart_parts one.taken free_middle x (rw one.takes at usable) m n
@@ -113,14 +113,14 @@ module _ {first middle last : Memory} {free_first free_middle free_last raw : Li
     stores = into_more (one.taken ++ two.taken) (one.taken ++ two.taken) _ _ _ _ first last (λ b m. m) (λ w v m. m)
         (most _ _ _ (length-append one.taken two.taken))
         (into_twice one.taken two.taken (λ place value. InBlocks (one.taken ++ two.taken) place) _ _ first middle last
-        (into_more one.taken one.taken _ _ _ _ first middle (λ b m. m) (λ w v m. has-front one.taken two.taken (w / 512) m) (omega arith) one.stores)
-        (into_more two.taken two.taken _ _ _ _ middle last (λ b m. m) (λ w v m. has-behind one.taken two.taken (w / 512) m) (omega arith) two.stores));
+        (into_more one.taken one.taken _ _ _ _ first middle (λ b m. m) (λ w v m. has-prefix one.taken two.taken (w / 512) m) (omega arith) one.stores)
+        (into_more two.taken two.taken _ _ _ _ middle last (λ b m. m) (λ w v m. has-after one.taken two.taken (w / 512) m) (omega arith) two.stores));
     chain = one.chain ++ two.chain;
     named = two.named ∙ ap (λ r. raised_by r two.chain) one.named ∙ sym (raised_append root one.chain two.chain);
     tall = omega (arith, one.tall, two.tall, height_mid, length-append one.chain two.chain);
     inside = λ b m. elim (has-either one.chain two.chain b m) [
-      | inl l ↦ has-front one.taken two.taken b (one.inside b l)
-      | inr r ↦ has-behind one.taken two.taken b (two.inside b r)
+      | inl l ↦ has-prefix one.taken two.taken b (one.inside b l)
+      | inr r ↦ has-after one.taken two.taken b (two.inside b r)
     ];
     apart = apart-append one.chain two.chain one.apart two.apart (λ b m n. apart_both b (one.inside b m) (in_two b (two.inside b n)));
     down = down_append (current_words last) root one.chain two.chain
@@ -134,8 +134,8 @@ module _ {first middle last : Memory} {free_first free_middle free_last raw : Li
         (λ b. Has_old links b ⊎ Has (one.taken ++ two.taken) b) _ (Full links)
         (λ i small. same_byte links i (below.bytes_are i) (omega (arith, small)) (cases_lt i (span mid)))
         (λ b m. elim m [
-          | inl has ↦ elim (below.blocks b has) [ inl old ↦ inl old | inr t ↦ inr (has-front one.taken two.taken b t) ]
-          | inr t ↦ inr (has-behind one.taken two.taken b t)
+          | inl has ↦ elim (below.blocks b has) [ inl old ↦ inl old | inr t ↦ inr (has-prefix one.taken two.taken b t) ]
+          | inr t ↦ inr (has-after one.taken two.taken b t)
         ])
         (λ b m. elim m [
           | inl old ↦ inl (below.has b (inl old))

@@ -1,6 +1,6 @@
--- One node on top of a tree: the root word stands in its first slot, and what lies behind that is filled.
+-- One node on top of a tree: the root word stands in its first slot, and what lies after that is filled.
 use Rattle.std.proofs.Common.{◌≡◌, ◌≢◌, ◌⊎◌, ℕ, zero, suc, ◌+◌, ◌-◌, ◌*◌, ◌/◌, ◌<◌, ◌≤◌, min, max, List, [], ◌∷◌, length, set, get_or, refl, sym, ◌∙◌, ap, subst, subst₂, arith, inl, inr, get_or-set_same, get_or-set_other, lt-ltb, le-ltb, lt_of_mul-lt-mul_right}
-use Rattle.bp_layout.proofs.MemberLaws.{each-has, has-front}
+use Rattle.bp_layout.proofs.MemberLaws.{each-has, has-prefix}
 use Rattle.std.proofs.lemmas.Bool.{cases_eq}
 use Rattle.std.proofs.lemmas.List.{length-set}
 use Rattle.bp_layout.specs.Words.{Image, block_of, height_of, slot_word}
@@ -108,7 +108,7 @@ module _ {old : Memory} (stored : Memory) {free_old free_middle : List ℕ} (roo
           512 * here + 512 ≤ two
       room_of all low here one two a b c = omega (arith, a, b, c)
 
-  -- and what is filled behind the first slot
+  -- and what is filled after the first slot
   module _ {new : Memory} {free_new : List ℕ} (raw : List ℕ)
       (fills : FillsFrom stored new free_middle free_new block (suc level) 0 (span level) from to (given_at from raw 0)) where
     abbrev top : ℕ
@@ -140,8 +140,8 @@ module _ {old : Memory} (stored : Memory) {free_old free_middle : List ℕ} (roo
     abbrev First : ℕ → Type 0
     First c = c ≡ 0
 
-    abbrev Behind : ℕ → Type 0
-    Behind c = span level ≤ 0 + c * span level
+    abbrev PastEnd : ℕ → Type 0
+    PastEnd c = span level ≤ 0 + c * span level
 
     sums : (taken here all low spare : ℕ) → taken ≡ here → all + spare ≡ low + 1 + here → suc taken + low ≡ all + spare
     sums taken here all low spare a b = omega (arith, a, b)
@@ -153,7 +153,7 @@ module _ {old : Memory} (stored : Memory) {free_old free_middle : List ℕ} (roo
     block_low = (usable_all.low.0, usable_all.high.0)
 
     in_taken : (x : ℕ) → Has fills.taken x → Has free_middle x
-    in_taken x m = subst (λ f. Has f x) (sym fills.takes) (has-front fills.taken free_new x m)
+    in_taken x m = subst (λ f. Has f x) (sym fills.takes) (has-prefix fills.taken free_new x m)
 
     in_old : (x : ℕ) → Has fills.taken x → Has free_old x
     in_old x m = subst (λ f. Has f x) (sym takes) (inr (in_taken x m))
@@ -252,12 +252,12 @@ module _ {old : Memory} (stored : Memory) {free_old free_middle : List ℕ} (roo
             low_byte i low = let e : 0 * span level + i ≡ i = omega arith in rw (e, lt-ltb i (span level) low) refl
 
         other_slots : (links : List (ℕ × ℕ)) → AreOutside free_old links →
-            Children (now links) block level size_now Behind (bytes_now links) (Has fills.taken) (Full links)
+            Children (now links) block level size_now PastEnd (bytes_now links) (Has fills.taken) (Full links)
         other_slots links out =
-            let slots : Children (current_words new) block level size_now Behind (given_at from raw 0) (Has fills.taken) (from ≤ span level) =
-            subst (λ z. Children (current_words new) block level (min z (span (suc level))) Behind (given_at from raw 0) (Has fills.taken) (from ≤ span level))
+            let slots : Children (current_words new) block level size_now PastEnd (given_at from raw 0) (Has fills.taken) (from ≤ span level) =
+            subst (λ z. Children (current_words new) block level (min z (span (suc level))) PastEnd (given_at from raw 0) (Has fills.taken) (from ≤ span level))
             whole_to (fills.slots level refl) in
-            children_as (now links) block level size_now Behind Behind (bytes_now links) (Has fills.taken) (Has fills.taken) (from ≤ span level) _
+            children_as (now links) block level size_now PastEnd PastEnd (bytes_now links) (Has fills.taken) (Has fills.taken) (from ≤ span level) _
             (λ c in_size at. at) (λ c in_size at. at) (λ x m. m) (λ x m. m) (λ both. both.1)
             (children_kept (now links)
             (children_bytes (given_at from raw 0) (bytes_now links) (λ c i at in_size inside. high_byte (c * span level + i) (omega (arith, at))) slots)

@@ -2,7 +2,7 @@
 use Rattle.std.proofs.Common.{◌≡◌, ◌≢◌, ◌⊎◌, ℕ, ◌+◌, ◌*◌, ◌/◌, ◌%◌, ◌<◌, ◌≤◌, List, ◌++◌, length, Bool, false, sym, ◌∙◌, subst, arith, inl, inr, le_trans}
 use Rattle.bp_changes.proofs.Formatted.{version_stays}
 use Rattle.bp_layout.specs.Formatted.{version_of}
-use Rattle.bp_layout.proofs.MemberLaws.{each-has, each-of, has-behind}
+use Rattle.bp_layout.proofs.MemberLaws.{each-has, each-of, has-after}
 use Rattle.bp_layout.specs.Words.{Image, block_of}
 use Rattle.bp_layout.specs.Tree.{node, span, HasBlock}
 use Rattle.bp_layout.specs.Inode.{root_of, size_of, RootPlace}
@@ -13,8 +13,8 @@ use Rattle.bp_changes.specs.Harmless.{IsHarmless, Agrees}
 use Rattle.bp_layout.specs.Members.{Has, Each}
 use Rattle.bp_shapes.specs.Links.{IsChain}
 use Rattle.bp_changes.proofs.Frame.{root-kept, size-same}
-use Rattle.bp_shapes.proofs.Behind.{behind_harmless, no_root_behind}
-use Rattle.bp_shapes.specs.Behind.{IsBehind}
+use Rattle.bp_shapes.proofs.PastEnd.{past_end_harmless, no_root_past_end}
+use Rattle.bp_shapes.specs.PastEnd.{IsPastEnd}
 use Rattle.bp_commit.specs.Performs.{IsOpen}
 use Rattle.bp_commit.specs.Performs.IsOpen.{in_taken, in_live}
 use Rattle.pm_region.specs.Memory.{Memory, current_words}
@@ -27,7 +27,7 @@ use Rattle.bp_append.specs.Grown.{Grows}
 use Rattle.bp_append.specs.Prepared.{CanPrepare}
 use Rattle.bp_append.proofs.NeedLaws.{tall_most}
 use Rattle.bp_append.proofs.PrepLaws.{open_root, not_live, in_free_harmless, no_root_in_free, agrees_of, meaning_middle, wf_middle, reached_middle, place_middle, still_free}
-use Rattle.bp_append.proofs.EndWays.{behind_within}
+use Rattle.bp_append.proofs.EndWays.{past_end_within}
 
 -- a tree with blocks that can be prepared has grown as it is to
 pub record HasGrown (in_snapshot : ℕ → Bool) (first new : Memory) (free_old free_new : List ℕ) (t place from to : ℕ) (path raw : List ℕ) : Type 0 where
@@ -70,7 +70,7 @@ module _ {in_snapshot : ℕ → Bool} {first new : Memory} {free_old free_new : 
   open views use {old, middle, root, size, taken}
 
   pub order : size_of old t ≤ to
-  order = le_trans can.behind can.order
+  order = le_trans can.past_end can.order
 
   pub taken_are : Each (IsFreeBlock old in_snapshot) taken
   taken_are = each_left _ taken free_new (rw grows.takes at can.are_free)
@@ -86,41 +86,41 @@ module _ {in_snapshot : ℕ → Bool} {first new : Memory} {free_old free_new : 
 
   -- what may be stored before the links
   abbrev pub May : ℕ → ℕ → Type 0
-  May w v = InBlocks taken w ⊎ IsBehind old root size w v
+  May w v = InBlocks taken w ⊎ IsPastEnd old root size w v
 
   pub harmless : (w v : ℕ) → May w v → IsHarmless old w v
   harmless w v (inl own) = in_free_harmless old can.well taken usable.low taken_free w v own
-  harmless w v (inr behind) = behind_harmless old can.well t w v can.reached behind
+  harmless w v (inr past_end) = past_end_harmless old can.well t w v can.reached past_end
 
   pub agrees : Agrees old middle
   agrees =
       let part = may_weaker May (IsHarmless old) 0 _ first grows.between harmless grows.stores.part in
       agrees_of old middle (each_after (IsHarmless old) 0 _ first grows.between part)
 
-  -- a word behind the size is in a block of the tree
-  pub behind_block : (w v : ℕ) → IsBehind old root size w v → HasBlock old root size (w / 512)
-  behind_block w v behind = record {
-    depth = behind.depth;
-    index = behind.index / 512;
-    pointer = behind.parent;
-    named = row behind.depth behind.index behind.at;
-    not_null = λ e. behind.present (row behind.depth behind.index behind.at ∙ e);
+  -- a word after the size is in a block of the tree
+  pub past_end_block : (w v : ℕ) → IsPastEnd old root size w v → HasBlock old root size (w / 512)
+  past_end_block w v past_end = record {
+    depth = past_end.depth;
+    index = past_end.index / 512;
+    pointer = past_end.parent;
+    named = row past_end.depth past_end.index past_end.at;
+    not_null = λ e. past_end.present (row past_end.depth past_end.index past_end.at ∙ e);
   }
     where
       row : (d i : ℕ) → 512 * node old root d (i / 512) + i % 512 ≡ w → node old root d (i / 512) ≡ w / 512
       row d i e = omega (arith, e)
 
   -- and has the byte at the size, so it is not in the snapshot
-  behind_loose : (w v : ℕ) → IsBehind old root size w v → in_snapshot (w / 512) ≡ false
-  behind_loose w v behind =
-      let high : size_of old t < behind.index / 512 * span behind.parent.level + span behind.parent.level =
-      behind_within root size behind.depth behind.index behind.parent.level behind.parent.height behind.no_pointer behind.ends in
-      let row : node old root behind.depth (behind.index / 512) ≡ w / 512 = omega (arith, behind.at) in
-      subst (λ b. in_snapshot b ≡ false) row (can.loose.nodes behind.depth (behind.index / 512) behind.parent behind.present high)
+  past_end_loose : (w v : ℕ) → IsPastEnd old root size w v → in_snapshot (w / 512) ≡ false
+  past_end_loose w v past_end =
+      let high : size_of old t < past_end.index / 512 * span past_end.parent.level + span past_end.parent.level =
+      past_end_within root size past_end.depth past_end.index past_end.parent.level past_end.parent.height past_end.no_pointer past_end.ends in
+      let row : node old root past_end.depth (past_end.index / 512) ≡ w / 512 = omega (arith, past_end.at) in
+      subst (λ b. in_snapshot b ≡ false) row (can.loose.nodes past_end.depth (past_end.index / 512) past_end.parent past_end.present high)
 
   pub opens : (w v : ℕ) → May w v → IsOpen old in_snapshot taken w
   opens w v (inl own) = in_taken own
-  opens w v (inr behind) = in_live (record { tree = t; reached = can.reached; has = behind_block w v behind }) (behind_loose w v behind)
+  opens w v (inr past_end) = in_live (record { tree = t; reached = can.reached; has = past_end_block w v past_end }) (past_end_loose w v past_end)
 
   pub sizes : size_of middle t ≡ size_of old t
   sizes = size-same old middle can.well agrees t can.reached
@@ -129,7 +129,7 @@ module _ {in_snapshot : ℕ → Bool} {first new : Memory} {free_old free_new : 
   roots_stay u r =
       root-kept old middle can.well agrees u r (λ p there. may_frame _ 0 _ first grows.between grows.stores.part p (λ v m. elim m [
         | inl own ↦ no_root_in_free old can.well taken usable.low taken_free u p r there own
-        | inr behind ↦ no_root_behind old can.well t p v can.reached behind u r there
+        | inr past_end ↦ no_root_past_end old can.well t p v can.reached past_end u r there
       ]))
 
   pub roots : root_of middle t ≡ root_of old t
@@ -148,7 +148,7 @@ module _ {in_snapshot : ℕ → Bool} {first new : Memory} {free_old free_new : 
   place_there = place_middle old middle can.well agrees t place can.reached at
 
   pub in_taken_chain : (b : ℕ) → Has grows.chain b → Has taken b
-  in_taken_chain b m = has-behind grows.visited grows.raised b (grows.inside b m)
+  in_taken_chain b m = has-after grows.visited grows.raised b (grows.inside b m)
 
   pub free_there : (b : ℕ) → Has taken b → IsLiveBlock middle b → ⊥
   free_there b m = still_free old middle can.well agrees t place can.reached at b (each-has (λ c. IsLiveBlock old c → ⊥) taken b taken_free m)

@@ -1,6 +1,6 @@
 -- A tree with blocks that has grown: its root, with a pointer that waited and with none.
 use Rattle.std.proofs.Common.{◌≡◌, ◌≢◌, ℕ, suc, ◌+◌, ◌-◌, ◌*◌, ◌/◌, ◌<◌, ◌≤◌, List, [], ◌∷◌, Bool, false, min, set, sym, ◌∙◌, ap, subst, arith, lt_of_lt_of_le}
-use Rattle.bp_layout.proofs.MemberLaws.{each-of, has-front}
+use Rattle.bp_layout.proofs.MemberLaws.{each-of, has-prefix}
 use Rattle.bp_limits.specs.Limits.{max_height}
 use Rattle.bp_layout.specs.Words.{Image, block_of, height_of}
 use Rattle.bp_layout.specs.Tree.{node, span, IsLivePointer}
@@ -82,12 +82,12 @@ module _ {in_snapshot : ℕ → Bool} {first new : Memory} {free_old free_new : 
     hung_loose =
         let word = live_pointer_word _ _ (suc hangs.depth) hangs.index hangs.live in
         let parent : IsLivePointer root size hangs.depth (hangs.index / 512) = live_above _ _ hangs.depth hangs.index word in
-        let behind = can.behind in
+        let past_end = can.past_end in
         let wanted = hangs.wanted in
         let same : suc level ≡ parent.level = omega (arith, parent.height, hangs.live.height) in
         let high : size_of old t < hangs.index / 512 * span parent.level + span parent.level =
         subst (λ l. size_of old t < hangs.index / 512 * span l + span l) same
-        (lt_of_lt_of_le (omega (arith, behind, wanted)) (slot_within hangs.index level)) in
+        (lt_of_lt_of_le (omega (arith, past_end, wanted)) (slot_within hangs.index level)) in
         let row : node old root hangs.depth (hangs.index / 512) ≡ hung_place / 512 = omega (arith, hangs.at) in
         subst (λ b. in_snapshot b ≡ false) row (can.loose.nodes hangs.depth (hangs.index / 512) parent hangs.present high)
 
@@ -108,7 +108,7 @@ module _ {in_snapshot : ℕ → Bool} {first new : Memory} {free_old free_new : 
     built_there = subst (λ p. IsBuilt middle (p + level) part made (Has hangs.below) Late) (sym pointer_is) hangs.built
 
     below_free : Each (λ b. IsLiveBlock middle b → ⊥) hangs.below
-    below_free = each-of _ hangs.below (λ b m. (free_there ready) b (has-front grows.visited grows.raised b (hangs.inside b m)))
+    below_free = each-of _ hangs.below (λ b m. (free_there ready) b (has-prefix grows.visited grows.raised b (hangs.inside b m)))
 
     height_there : suc hangs.depth + level ≡ height_of root_now
     height_there = rw (roots ready) hangs.live.height
@@ -120,7 +120,7 @@ module _ {in_snapshot : ℕ → Bool} {first new : Memory} {free_old free_new : 
     wide_there x small inside = omega (arith, small, inside, sizes ready, order ready)
 
     zeros_there : (i : ℕ) → begins + i < size_of middle t → made i ≡ 0
-    zeros_there i inside = given-before from raw (begins + i) (omega (arith, inside, sizes ready, can.behind))
+    zeros_there i inside = given-before from raw (begins + i) (omega (arith, inside, sizes ready, can.past_end))
 
     stands_there : StandsAt middle t hangs.depth hangs.index hung_place
     stands_there =

@@ -35,7 +35,7 @@ use Rattle.bp_append.proofs.NeedLaws.{tall_low}
 use Rattle.bp_append.proofs.PrepLaws.{after_append, words_new, epochs_taking}
 use Rattle.bp_append.proofs.ReadyLaws.{HasRootReady, prepared}
 use Rattle.bp_append.proofs.NullPrepared.{full_by_words}
-use Rattle.bp_append.proofs.TreeGrown.{HasGrown, views, order, taken_are, taken_free, open_place, usable, May, harmless, agrees, behind_block, opens, roots, well, there, place_there, in_taken_chain}
+use Rattle.bp_append.proofs.TreeGrown.{HasGrown, views, order, taken_are, taken_free, open_place, usable, May, harmless, agrees, past_end_block, opens, roots, well, there, place_there, in_taken_chain}
 use Rattle.bp_append.proofs.TreeHung.{reads_alone, ready_alone, hung_loose, pointer_is, any_both, ready_hung}
 
 module _ {in_snapshot : ℕ → Bool} {first new : Memory} {free_old free_new : List ℕ} {t place from to : ℕ} {path raw : List ℕ}
@@ -118,7 +118,7 @@ module _ {in_snapshot : ℕ → Bool} {first new : Memory} {free_old free_new : 
         | inl mine ↦
             let its_own = subst (Has taken) (block_row b k few) mine in
             each-has (λ c. IsLiveBlock old c → ⊥) taken b (taken_free ready) its_own (record { tree = u; reached = r; has = has })
-        | inr behind ↦ own (subst (HasBlock old root size) (block_row b k few) (behind_block ready (512 * b + k) v behind))
+        | inr past_end ↦ own (subst (HasBlock old root size) (block_row b k few) (past_end_block ready (512 * b + k) v past_end))
       ])
     where
       own : HasBlock old root size b → ⊥
@@ -224,8 +224,8 @@ module _ {in_snapshot : ℕ → Bool} {first new : Memory} {free_old free_new : 
       zero_plus : (o : ℕ) → 0 + o ≡ o
       zero_plus o = omega arith
 
-      few : (taken needed behind links : ℕ) → taken ≡ needed → links ≤ 2 → 512 * taken + behind + links ≤ 512 * needed + behind + 2
-      few taken needed behind links e low = omega (arith, e, low)
+      few : (taken needed past_end links : ℕ) → taken ≡ needed → links ≤ 2 → 512 * taken + past_end + links ≤ 512 * needed + past_end + 2
+      few taken needed past_end links e low = omega (arith, e, low)
 
       words_last : current_words new ≡ set linked place top
       words_last = words_new grows.between new all_links grows.ends

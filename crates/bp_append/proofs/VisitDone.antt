@@ -1,7 +1,7 @@
 -- Going down a tree to its last byte: what is had at each node.
 use Rattle.std.proofs.Common.{◌≡◌, ◌≢◌, ◌⊎◌, ℕ, suc, ◌+◌, ◌-◌, ◌*◌, ◌/◌, ◌%◌, ◌<◌, ◌≤◌, min, max, List, [], ◌∷◌, length, get_or, refl, sym, ◌∙◌, ap, subst, arith, inl, inr, get_or-set_same, get_or-set_other, lt-ltb, le-ltb}
 use Rattle.std.proofs.lemmas.Bool.{cases_lt}
-use Rattle.bp_layout.proofs.MemberLaws.{has-front}
+use Rattle.bp_layout.proofs.MemberLaws.{has-prefix}
 use Rattle.bp_layout.specs.Words.{Image, block_of, height_of, slot_word, byte_of}
 use Rattle.bp_layout.specs.Tree.{byte, span, HasBlock, IsFull}
 use Rattle.bp_layout.specs.Members.{Has}
@@ -64,7 +64,7 @@ module _ {old : Memory} {free_old : List ℕ} {root size below start block slot 
     taken = visits.taken;
     takes = visits.takes;
     counted = visits.counted;
-    stores = into_more visits.taken visits.taken _ _ _ _ old new (λ b m. m) (λ w v m. elim m [ inl e ↦ inl e | inr part ↦ inr (record { behind = part.behind; has = in_kid (w / 512) part.has }) ]) (omega arith) visits.stores;
+    stores = into_more visits.taken visits.taken _ _ _ _ old new (λ b m. m) (λ w v m. elim m [ inl e ↦ inl e | inr part ↦ inr (record { past_end = part.past_end; has = in_kid (w / 512) part.has }) ]) (omega arith) visits.stores;
     hung = hung_kept (current_words new) (current_words new) visits.taken visits.taken _ _ refl (λ b s m few. refl) (λ b m. m) (λ place has. inl (in_kid (place / 512) has)) visits.hung;
     word = rw same_word (word_bits can last);
     tree = subst (λ r. IsBuilt (after_stores (current_words new) links) r (min (to - begin) (span below)) (extended was kid size from raw begin)
@@ -90,7 +90,7 @@ module _ {old : Memory} {free_old : List ℕ} {root size below start block slot 
       same_word = slot_framed was (after_stores (current_words new) links) block slot
           (beside visits.hung (current_words new) (512 * block + slot) not_part
           ∙ may_frame _ 0 _ old new visits.stores.part (512 * block + slot)
-          (λ v m. elim m [ inl t ↦ block_free (subst (λ f. Has f block) (sym visits.takes) (has-front visits.taken free_new block (subst (Has visits.taken) place_block t))) | inr part ↦ not_part part.has ]))
+          (λ v m. elim m [ inl t ↦ block_free (subst (λ f. Has f block) (sym visits.takes) (has-prefix visits.taken free_new block (subst (Has visits.taken) place_block t))) | inr part ↦ not_part part.has ]))
 
   -- ---- at a null
 
@@ -125,7 +125,7 @@ module _ {old : Memory} {free_old : List ℕ} {root size below start block slot 
       more a b own e = omega (arith, e)
 
       not_block : (b : ℕ) → Has built.taken b → b ≢ block
-      not_block b m e = block_taken can last (subst (λ f. Has f block) (sym built.takes) (has-front built.taken free_new block (subst (Has built.taken) e m)))
+      not_block b m e = block_taken can last (subst (λ f. Has f block) (sym built.takes) (has-prefix built.taken free_new block (subst (Has built.taken) e m)))
 
       word_null : slot_word was block slot ≡ 0
       word_null = let bits = word_bits can last in omega (arith, bits, null)
@@ -155,7 +155,7 @@ module _ {old : Memory} {free_old : List ℕ} {root size below start block slot 
       same_byte : (i : ℕ) → (begin + i < size) ⊎ (size ≤ begin + i) → extended was kid size from raw begin i ≡ given_at from raw begin i
       same_byte i (inl low) = extended_old was kid size from raw begin i low
           ∙ ap (λ w. byte_of w (i % 8)) (null_words was kid kid_null (height_of kid) (i / 8)) ∙ zero_byte (i % 8)
-          ∙ sym (given-before from raw (begin + i) (omega (arith, low, can.behind)))
+          ∙ sym (given-before from raw (begin + i) (omega (arith, low, can.past_end)))
         where
           zero_byte : (c : ℕ) → byte_of 0 c ≡ 0
           zero_byte c = omega arith

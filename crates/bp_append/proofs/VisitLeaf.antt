@@ -12,10 +12,10 @@ use Rattle.pm_region.proofs.MayLaws.{each_after}
 use Rattle.bp_append.specs.Given.{given_at}
 use Rattle.bp_append.specs.Built.{InBlocks}
 use Rattle.bp_append.specs.Filled.{FillsIn, CanFill, FillsFrom}
-use Rattle.bp_append.specs.Visited.{extended, IsBehindPart, CanVisit, Visits}
+use Rattle.bp_append.specs.Visited.{extended, IsPastEndOfPart, CanVisit, Visits}
 use Rattle.bp_append.specs.Visited.AreHung.{no_link}
 use Rattle.bp_append.proofs.IntoLaws.{into_more}
-use Rattle.bp_append.proofs.StoresLaws.{behind_leaf, room_behind_leaf}
+use Rattle.bp_append.proofs.StoresLaws.{past_end_leaf, room_past_end_leaf}
 use Rattle.bp_append.proofs.ChildrenLaws.{built_as, built_leaf}
 use Rattle.bp_append.proofs.FillLaws.{may_length}
 use Rattle.bp_append.proofs.VisitLaws.{met_here}
@@ -46,7 +46,7 @@ leaf_can {memory} {free} {root} {size} {start} {block} {from} {to} can = record 
   });
   usable = can.usable;
   enough = omega arith;
-  room = room_of _ _ _ _ (met_here can) (room_behind_leaf size from to) can.room;
+  room = room_of _ _ _ _ (met_here can) (room_past_end_leaf size from to) can.room;
 }
   where
     room_of : (counted here asked room : ℕ) → counted ≡ here → asked ≡ 512 → 512 * (0 + counted) + asked ≤ room + 512 * (0 + here) → 512 * 0 + 512 ≤ room
@@ -134,13 +134,13 @@ module _ {old new : Memory} {free free_new : List ℕ} {root size start block fr
           ∙ sym (extended_old was leaf size from raw start i low)
       go (inr over) = fills.leaf refl i over small ∙ sym (extended_new was leaf size from raw start i over)
 
-  behind : (place value : ℕ) → FillsIn was block 0 start size place value → IsBehindPart was root size leaf (size - start) place value
-  behind place value filled =
+  past_end : (place value : ℕ) → FillsIn was block 0 start size place value → IsPastEndOfPart was root size leaf (size - start) place value
+  past_end place value filled =
       let row : (512 * can.index + filled.slot) / 512 ≡ can.index = omega (arith, filled.few) in
       let column : (512 * can.index + filled.slot) % 512 ≡ filled.slot = omega (arith, filled.few) in
       let inside : place / 512 ≡ block = omega (arith, filled.at, filled.few) in
       record {
-        behind = record {
+        past_end = record {
           depth = can.depth;
           index = 512 * can.index + filled.slot;
           parent = record { level = 0; height = can.height; live = rw row (omega (arith, can.aligned, can.begun)) };
@@ -158,7 +158,7 @@ module _ {old new : Memory} {free free_new : List ℕ} {root size start block fr
     taken = fills.taken;
     takes = fills.takes;
     counted = sums _ _ _ fills.counted (met_here can);
-    stores = into_more fills.taken fills.taken _ _ _ _ old new (λ b m. m) may (most _ _ (behind_leaf size from to) fills.few) fills.stores;
+    stores = into_more fills.taken fills.taken _ _ _ _ old new (λ b m. m) may (most _ _ (past_end_leaf size from to) fills.few) fills.stores;
     hung = no_link refl;
     tree = built_as later leaf (min (to - start) (span 0)) now_bytes now_bytes (λ x. x ≡ block)
         (λ b. HasBlock was leaf (size - start) b ⊎ Has fills.taken b) Full Full
@@ -168,12 +168,12 @@ module _ {old new : Memory} {free free_new : List ℕ} {root size start block fr
   }
     where
       may : (place value : ℕ) → InBlocks fills.taken place ⊎ FillsIn was block 0 start size place value →
-          InBlocks fills.taken place ⊎ IsBehindPart was root size leaf (size - start) place value
+          InBlocks fills.taken place ⊎ IsPastEndOfPart was root size leaf (size - start) place value
       may place value (inl t) = inl t
-      may place value (inr filled) = inr (behind place value filled)
+      may place value (inr filled) = inr (past_end place value filled)
 
       sums : (taken here counted : ℕ) → taken ≡ 0 → counted ≡ here → taken + (0 + here) ≡ 0 + counted
       sums taken here counted p q = omega (arith, p, q)
 
-      most : (own behind : ℕ) → behind ≡ 512 → own ≤ 512 → 512 * 0 + own ≤ 512 * length fills.taken + behind
-      most own behind e few = omega (arith, e, few)
+      most : (own past_end : ℕ) → past_end ≡ 512 → own ≤ 512 → 512 * 0 + own ≤ 512 * length fills.taken + past_end
+      most own past_end e few = omega (arith, e, few)

@@ -1,4 +1,4 @@
--- The slots of a node whose last slot was gone through and that is filled behind it.
+-- The slots of a node whose last slot was gone through and that is filled after it.
 use Rattle.std.proofs.Common.{◌≡◌, ◌≢◌, ◌⊎◌, ℕ, ◌+◌, ◌-◌, ◌*◌, ◌<◌, ◌≤◌, min, List, refl, sym, ◌∙◌, ap, subst, subst₂, arith, inl, inr, mul-le-mul_right, lt_of_mul-lt-mul_right}
 use Rattle.std.proofs.lemmas.Bool.{cases_lt}
 use Rattle.bp_layout.specs.Words.{Image, slot_word}
@@ -16,14 +16,14 @@ use Rattle.bp_append.proofs.ChildrenLaws.{built_kept, built_as, children_one, ch
 use Rattle.bp_append.proofs.FillLaws.{slot_framed}
 use Rattle.bp_append.proofs.VisitLaws.{slot_views, top_number, shape, ends, whole_links, alike, inside_slot, piece_is, kid_full, top_block}
 use Rattle.bp_append.proofs.VisitDone.{extended_old, extended_new}
-use Rattle.bp_append.proofs.GoesOn.{GoesOn, views, Has_kid, early, length_to, now, sound_before, not_free, in_first, in_second, apart_taken, block_free, kid_in, own, behind_slot, same_second, same_links, whole_second, now_length, from_old}
+use Rattle.bp_append.proofs.GoesOn.{GoesOn, views, Has_kid, early, length_to, now, sound_before, not_free, in_first, in_second, apart_taken, block_free, kid_in, own, past_end_slot, same_second, same_links, whole_second, now_length, from_old}
 
 module _ {old middle new : Memory} {free_old free_middle free_new : List ℕ} {root size below start block slot from to : ℕ} {raw : List ℕ}
     {links : List (ℕ × ℕ)}
     (goes : GoesOn old middle new free_old free_middle free_new root size below start block slot from to raw links) where
   open goes use {can, last, visits, fills}
   open (slot_views can last) use {was, top, begin, low, kid}
-  open (views goes) use {halfway, later, down, behind}
+  open (views goes) use {halfway, later, down, past_end}
 
   abbrev linked : Image
   linked = after_stores halfway links
@@ -31,7 +31,7 @@ module _ {old middle new : Memory} {free_old free_middle free_new : List ℕ} {r
   abbrev new_kid : ℕ
   new_kid = child linked block below slot
 
-  -- the slots that begin before this one, this one, and those that begin behind it
+  -- the slots that begin before this one, this one, and those that begin after it
   abbrev pub Early_slots : ℕ → Type 0
   Early_slots c = c < slot
 
@@ -86,7 +86,7 @@ module _ {old middle new : Memory} {free_old free_middle free_new : List ℕ} {r
   Members x = Has_kid goes x ⊎ Has down x
 
   -- nothing that is filled is in the slot
-  pub slot_apart : (x : ℕ) → Members x → Has behind x → ⊥
+  pub slot_apart : (x : ℕ) → Members x → Has past_end x → ⊥
   slot_apart x m t = elim m [ inl has ↦ not_free goes x (kid_in goes x has) (in_second goes x t) | inr one ↦ apart_taken goes x one t ]
 
   pub slot_below : (x : ℕ) → Members x → x ≢ block
@@ -95,7 +95,7 @@ module _ {old middle new : Memory} {free_old free_middle free_new : List ℕ} {r
     | inr one ↦ block_free goes (subst (Has free_old) e (in_first goes x one))
   ]
 
-  alike_later : (x k : ℕ) → k < 512 → (Has behind x → ⊥) → (x ≡ block → k ≤ slot) → slot_word (now goes) x k ≡ slot_word linked x k
+  alike_later : (x k : ℕ) → k < 512 → (Has past_end x → ⊥) → (x ≡ block → k ≤ slot) → slot_word (now goes) x k ≡ slot_word linked x k
   alike_later x k few out before =
       slot_framed linked (now goes) x k (alike links later halfway (512 * x + k) (whole_second goes) (same_second goes x k few out before))
 
@@ -140,11 +140,11 @@ module _ {old middle new : Memory} {free_old free_middle free_new : List ℕ} {r
           Members (IsFull was kid (size - begin) × (from ≡ size)) Full (λ i low. same_byte i (cases_lt (begin + i) size)) (λ x m. m) (λ x m. m)
           (λ full. (kid_full can last full.0, full.1)) kept
 
-  -- ---- the slots behind it
+  -- ---- the slots after it
 
-  pub children_late : Children (now goes) block below (length_to goes) Late_slots now_bytes (Has behind) Full
+  pub children_late : Children (now goes) block below (length_to goes) Late_slots now_bytes (Has past_end) Full
   children_late =
-      children_as (now goes) block below (length_to goes) Late_slots Late_slots now_bytes (Has behind) (Has behind) (from ≤ low) Full (λ c in_size at. at)
+      children_as (now goes) block below (length_to goes) Late_slots Late_slots now_bytes (Has past_end) (Has past_end) (from ≤ low) Full (λ c in_size at. at)
       (λ c in_size at. at) (λ x m. m) (λ x m. m) (λ full. omega (arith, full.1, last.ends)) kept
     where
       slot_few : (c : ℕ) → c * span below < length_to goes → c < 512
@@ -153,7 +153,7 @@ module _ {old middle new : Memory} {free_old free_middle free_new : List ℕ} {r
       no_link : (x k : ℕ) → k < 512 → (Has_kid goes x → ⊥) → (x ≡ block → k ≢ slot) → slot_word (now goes) x k ≡ slot_word later x k
       no_link x k few beyond other = slot_framed later (now goes) x k (same_links goes later x k few beyond other)
 
-      kept : Children (now goes) block below (length_to goes) Late_slots now_bytes (Has behind) (from ≤ low)
+      kept : Children (now goes) block below (length_to goes) Late_slots now_bytes (Has past_end) (from ≤ low)
       kept =
           children_kept (now goes)
           (children_bytes (given_at from raw start) now_bytes (λ c i over in_size inside. given_bytes (c * span below + i) (omega (arith, over, last.ends)))
@@ -161,4 +161,4 @@ module _ {old middle new : Memory} {free_old free_middle free_new : List ℕ} {r
           (λ x k m few.
           no_link x k few (λ has. not_free goes x (kid_in goes x has) (in_second goes x m))
           (λ e. absurd (block_free goes (subst (Has free_old) e (in_second goes x m)))))
-          (λ c over in_size. no_link block c (slot_few c in_size) (own goes) (λ e same. let less = behind_slot goes c over in omega (arith, less, same)))
+          (λ c over in_size. no_link block c (slot_few c in_size) (own goes) (λ e same. let less = past_end_slot goes c over in omega (arith, less, same)))

@@ -1,13 +1,13 @@
--- What is stored at a node whose last slot was gone through and that is filled behind it.
+-- What is stored at a node whose last slot was gone through and that is filled after it.
 use Rattle.std.proofs.Common.{◌≡◌, ◌⊎◌, ℕ, suc, ◌+◌, ◌-◌, ◌*◌, ◌/◌, ◌%◌, ◌<◌, List, ◌++◌, refl, sym, ◌∙◌, ap, subst, arith, inl, inr}
-use Rattle.bp_layout.proofs.MemberLaws.{has-behind, has-front}
+use Rattle.bp_layout.proofs.MemberLaws.{has-after, has-prefix}
 use Rattle.bp_layout.specs.Words.{slot_word}
 use Rattle.bp_layout.specs.Tree.{span}
 use Rattle.bp_layout.specs.Members.{Has}
 use Rattle.pm_region.specs.Memory.{Memory}
 use Rattle.bp_append.specs.Built.{InBlocks}
 use Rattle.bp_append.specs.Filled.{FillsIn}
-use Rattle.bp_append.specs.Visited.{IsBehindPart}
+use Rattle.bp_append.specs.Visited.{IsPastEndOfPart}
 use Rattle.bp_append.proofs.TallyLaws.{span-suc}
 use Rattle.bp_append.proofs.FillLaws.{slot_framed, block_row}
 use Rattle.bp_append.proofs.VisitLaws.{slot_views, top_block}
@@ -18,10 +18,10 @@ module _ {old middle new : Memory} {free_old free_middle free_new : List ℕ} {r
     (goes : GoesOn old middle new free_old free_middle free_new root size below start block slot from to raw links) where
   open goes use {can, last}
   open (slot_views can last) use {was, top, begin, low, kid}
-  open (views goes) use {halfway, later, down, behind}
+  open (views goes) use {halfway, later, down, past_end}
 
-  node_behind : (place value : ℕ) → FillsIn halfway block (suc below) start low place value → IsBehindPart was root size top (size - start) place value
-  node_behind place value filled =
+  node_past_end : (place value : ℕ) → FillsIn halfway block (suc below) start low place value → IsPastEndOfPart was root size top (size - start) place value
+  node_past_end place value filled =
       let slot_number = 512 * can.index + filled.slot in
       let row : slot_number / 512 ≡ can.index = omega (arith, filled.few) in
       let column : slot_number % 512 ≡ filled.slot = omega (arith, filled.few) in
@@ -30,7 +30,7 @@ module _ {old middle new : Memory} {free_old free_middle free_new : List ℕ} {r
       let aligned : start ≡ can.index * (512 * span below) = can.aligned ∙ ap (λ n. can.index * n) (span-suc below) in
       let number : slot_number * span below ≡ start + filled.slot * span below = numbers can.index filled.slot (span below) aligned in
       record {
-        behind = record {
+        past_end = record {
           depth = can.depth;
           index = slot_number;
           parent = record { level = suc below; height = can.height; live = rw row (omega (arith, can.aligned, can.begun)) };
@@ -51,15 +51,15 @@ module _ {old middle new : Memory} {free_old free_middle free_new : List ℕ} {r
 
   -- what may be stored at the node and below it
   abbrev pub May : ℕ → ℕ → Type 0
-  May place value = InBlocks (down ++ behind) place ⊎ IsBehindPart was root size top (size - start) place value
+  May place value = InBlocks (down ++ past_end) place ⊎ IsPastEndOfPart was root size top (size - start) place value
 
-  pub may_down : (place value : ℕ) → InBlocks down place ⊎ IsBehindPart was root size kid (size - begin) place value → May place value
-  may_down place value (inl t) = inl (has-front down behind (place / 512) t)
-  may_down place value (inr part) = inr (record { behind = part.behind; has = kid_in goes (place / 512) part.has })
+  pub may_down : (place value : ℕ) → InBlocks down place ⊎ IsPastEndOfPart was root size kid (size - begin) place value → May place value
+  may_down place value (inl t) = inl (has-prefix down past_end (place / 512) t)
+  may_down place value (inr part) = inr (record { past_end = part.past_end; has = kid_in goes (place / 512) part.has })
 
-  pub may_behind : (place value : ℕ) → InBlocks behind place ⊎ FillsIn halfway block (suc below) start low place value → May place value
-  may_behind place value (inl t) = inl (has-behind down behind (place / 512) t)
-  may_behind place value (inr filled) = inr (node_behind place value filled)
+  pub may_past_end : (place value : ℕ) → InBlocks past_end place ⊎ FillsIn halfway block (suc below) start low place value → May place value
+  may_past_end place value (inl t) = inl (has-after down past_end (place / 512) t)
+  may_past_end place value (inr filled) = inr (node_past_end place value filled)
 
   pub hung_in : (place : ℕ) → Has_kid goes (place / 512) ⊎ (place ≡ 512 * block + slot) → Has_old goes (place / 512)
   hung_in place (inl has) = kid_in goes (place / 512) has

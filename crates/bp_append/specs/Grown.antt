@@ -11,11 +11,11 @@ use Rattle.bp_limits.specs.CallLimits.{max_size}
 use Rattle.bp_layout.specs.Nodes.{nodes_for, height_with}
 use Rattle.bp_layout.specs.Members.{Has, AreApart}
 use Rattle.bp_shapes.specs.Links.{raised_by, LeadDown}
-use Rattle.bp_shapes.specs.Behind.{IsBehind}
+use Rattle.bp_shapes.specs.PastEnd.{IsPastEnd}
 use Rattle.bp_layout.specs.Stores.{after_stores}
 use Rattle.pm_region.specs.Memory.{Memory, current_words, room_in, Adds}
 use Rattle.bp_append.specs.Into.{AddsInto}
-use Rattle.bp_append.specs.Stores.{room_behind, stores_behind}
+use Rattle.bp_append.specs.Stores.{room_past_end, stores_past_end}
 use Rattle.bp_append.specs.Given.{given_at}
 use Rattle.bp_append.specs.Built.{InBlocks, IsBuilt}
 use Rattle.bp_append.specs.Filled.{IsUsable}
@@ -23,7 +23,7 @@ use Rattle.bp_append.specs.Visited.{extended, AreHung}
 
 -- The condition to prepare a sound tree for the bytes from an offset on: enough blocks are free, and the log has room.
 pub record CanGrow (memory : Memory) (free : List ℕ) (root size from to : ℕ) : Type 0 where
-  pub behind : size ≤ from
+  pub past_end : size ≤ from
   pub order : size ≤ to
   pub fits : to ≤ max_size
   pub sound : IsSound (current_words memory) root size
@@ -32,7 +32,7 @@ pub record CanGrow (memory : Memory) (free : List ℕ) (root size from to : ℕ)
   pub outside : (b : ℕ) → Has free b → HasBlock (current_words memory) root size b → ⊥
   pub enough : length (nodes_for (current_words memory) root size from to) ≤ length free
   pub room : block_words * length (nodes_for (current_words memory) root size from to)
-      + room_behind size from to max_height + 4 ≤ room_in memory
+      + room_past_end size from to max_height + 4 ≤ room_in memory
 
 -- the links that change a word, if they are stored one after the other
 abbrev pub changed : Image → List (ℕ × ℕ) → List (ℕ × ℕ)
@@ -59,8 +59,8 @@ pub record Grows (old new : Memory) (free_old free_new : List ℕ) (place root s
   pub counted : length (visited ++ raised) ≡ length (nodes_for (current_words old) root size from to)
   pub between : Memory
   pub stores : AddsInto (visited ++ raised) (λ p value. InBlocks (visited ++ raised) p
-      ⊎ IsBehind (current_words old) root size p value)
-      (block_words * length (visited ++ raised) + stores_behind size from to max_height) old between
+      ⊎ IsPastEnd (current_words old) root size p value)
+      (block_words * length (visited ++ raised) + stores_past_end size from to max_height) old between
   pub links : List (ℕ × ℕ)
   pub hung : AreHung (current_words old) (current_words between) root size from to bytes visited
       (λ p. HasBlock (current_words old) root size (p / block_words)) links

@@ -7,7 +7,7 @@ use Rattle.bp_layout.specs.Words.{height_of}
 use Rattle.bp_layout.specs.Tree.{span}
 use Rattle.bp_tree.specs.declared.tree.Tree.{Tree}
 use Rattle.pm_region.specs.Memory.{Memory}
-use Rattle.bp_append.specs.declared.visiting.Link.{Link}
+use Rattle.bp_append.specs.declared.visit.Link.{Link}
 use Rattle.bp_append.specs.declared.wanted.TreeBlock.{TreeBlock}
 use Rattle.bp_append.specs.declared.wanted.Wanted.{Wanted}
 use Rattle.bp_append.specs.Given.{given_at}

@@ -18,7 +18,7 @@ use Rattle.bp_free.specs.Set.{members}
 use Rattle.bp_free.specs.declared.parts.Parts.{Parts}
 use Rattle.bp_shapes.specs.Sets.{in_snapshot_of}
 use Rattle.bp_commit.specs.Performs.{AddsTaking}
-use Rattle.bp_append.specs.Stores.{prep_stores, room_behind}
+use Rattle.bp_append.specs.Stores.{prep_stores, room_past_end}
 use Rattle.bp_append.specs.Given.{given}
 use Rattle.bp_append.specs.Filled.{IsUsable}
 
@@ -42,7 +42,7 @@ pub record CanPrepare (in_snapshot : ℕ → Bool) (memory : Memory) (free : Lis
   pub well : IsWellFormed (current_words memory)
   pub reached : IsReached (current_words memory) t
   pub leads : path ≡ tree_path (height_of (word (current_words memory) super_root)) t 0 0
-  pub behind : size_of (current_words memory) t ≤ from
+  pub past_end : size_of (current_words memory) t ≤ from
   pub order : from ≤ to
   pub fits : to ≤ greatest_size (version_of (current_words memory))
   pub by_words : IsReadByWords (current_words memory) t → from ≡ size_of (current_words memory) t
@@ -51,7 +51,7 @@ pub record CanPrepare (in_snapshot : ℕ → Bool) (memory : Memory) (free : Lis
   pub loose : HasLooseEnd (current_words memory) in_snapshot t
   pub enough : need_for (current_words memory) t from to ≤ length free
   pub room : block_words * need_for (current_words memory) t from to
-      + room_behind (size_of (current_words memory) t) from to max_height + 4 ≤ room_in memory
+      + room_past_end (size_of (current_words memory) t) from to max_height + 4 ≤ room_in memory
 
 -- Tree t is prepared for the bytes up to `to`: these are the given ones, in its old blocks and the taken ones. The
 -- meaning of the image is unchanged, and so is every live word of another tree except the root word of t.

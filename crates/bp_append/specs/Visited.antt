@@ -6,12 +6,12 @@ use Rattle.bp_layout.specs.Words.{Image, height_of, slot_word}
 use Rattle.bp_layout.specs.Tree.{node, byte, span, IsLivePointer, HasBlock, IsSound, IsFull}
 use Rattle.bp_layout.specs.Pieces.{child}
 use Rattle.bp_layout.specs.Members.{Has}
-use Rattle.bp_shapes.specs.Behind.{IsBehind}
+use Rattle.bp_shapes.specs.PastEnd.{IsPastEnd}
 use Rattle.bp_layout.specs.Stores.{after_stores}
 use Rattle.pm_region.specs.Memory.{Memory, current_words, room_in}
-use Rattle.bp_append.specs.declared.visiting.Link.{Link}
+use Rattle.bp_append.specs.declared.visit.Link.{Link}
 use Rattle.bp_append.specs.Into.{AddsInto}
-use Rattle.bp_append.specs.Stores.{stores_behind, room_behind}
+use Rattle.bp_append.specs.Stores.{stores_past_end, room_past_end}
 use Rattle.bp_append.specs.Given.{given, given_at}
 use Rattle.bp_append.specs.Tally.{tally}
 use Rattle.bp_append.specs.Spine.{spine}
@@ -29,8 +29,8 @@ extended image root size from bytes start i =
     if nat_lt (start + i) size then byte image root i else given from bytes (start + i)
 
 -- a store past the size of a tree, to a block of one part of it
-pub record IsBehindPart (image : Image) (root size part part_size place value : ℕ) : Type 0 where
-  pub behind : IsBehind image root size place value
+pub record IsPastEndOfPart (image : Image) (root size part part_size place value : ℕ) : Type 0 where
+  pub past_end : IsPastEnd image root size place value
   pub has : HasBlock image part part_size (place / block_words)
 
 -- A live pointer of the tree is null, and a tree of the given bytes was built for it, since some of its bytes are
@@ -67,7 +67,7 @@ pub record CanVisit (memory : Memory) (free : List ℕ) (root size level start b
   pub aligned : start ≡ index * span level
   pub begun : start < size
   pub inside : size ≤ start + span level
-  pub behind : size ≤ from
+  pub past_end : size ≤ from
   pub order : size ≤ to
   pub few : start + span level ≤ 2 * max_size
   pub few_to : to ≤ 2 * max_size
@@ -79,7 +79,7 @@ pub record CanVisit (memory : Memory) (free : List ℕ) (root size level start b
   pub usable : IsUsable (length memory.base / block_words) free
   pub enough : tally (suc level) (max from start) (min to (start + span level))
       ≤ length free + spine (current_words memory) root size from to (suc level)
-  pub room : block_words * tally (suc level) (max from start) (min to (start + span level)) + room_behind size from to level
+  pub room : block_words * tally (suc level) (max from start) (min to (start + span level)) + room_past_end size from to level
       ≤ room_in memory + block_words * spine (current_words memory) root size from to (suc level)
 
 -- With the pending links, the part of the tree under the block has its old bytes and the given ones, in its old blocks
@@ -91,8 +91,8 @@ pub record Visits (old new : Memory) (free_old free_new : List ℕ) (root size l
   pub counted : length taken + spine (current_words old) root size from to (suc level)
       ≡ tally (suc level) (max from start) (min to (start + span level))
   pub stores : AddsInto taken (λ place value. InBlocks taken place
-      ⊎ IsBehindPart (current_words old) root size (block_size * block + level) (size - start) place value)
-      (block_words * length taken + stores_behind size from to level) old new
+      ⊎ IsPastEndOfPart (current_words old) root size (block_size * block + level) (size - start) place value)
+      (block_words * length taken + stores_past_end size from to level) old new
   pub hung : AreHung (current_words old) (current_words new) root size from to bytes taken
       (λ place. HasBlock (current_words old) (block_size * block + level) (size - start) (place / block_words)) links
   pub tree : IsBuilt (after_stores (current_words new) links) (block_size * block + level)
@@ -116,9 +116,9 @@ pub record VisitsSlot (old new : Memory) (free_old free_new : List ℕ) (root si
   pub counted : length taken + spine (current_words old) root size from to (suc below)
       ≡ tally (suc below) (max from (start + slot * span below)) (min to (start + slot * span below + span below))
   pub stores : AddsInto taken (λ place value. InBlocks taken place
-      ⊎ IsBehindPart (current_words old) root size (child (current_words old) block below slot)
+      ⊎ IsPastEndOfPart (current_words old) root size (child (current_words old) block below slot)
       (size - (start + slot * span below)) place value)
-      (block_words * length taken + stores_behind size from to below) old new
+      (block_words * length taken + stores_past_end size from to below) old new
   pub hung : AreHung (current_words old) (current_words new) root size from to bytes taken
       (λ place. HasBlock (current_words old) (child (current_words old) block below slot)
       (size - (start + slot * span below)) (place / block_words) ⊎ (place ≡ block_words * block + slot)) links

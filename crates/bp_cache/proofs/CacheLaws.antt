@@ -24,7 +24,7 @@ nothing_right image cache room most names directories = record {
   directories = λ i held has. absurd (Contains-nil (i, held) (rw directories at has));
 }
 
--- ---- what is held of a directory, told of its tree
+-- ---- what is held of a directory, stated of its tree
 
 module _ (image : Image) (i : ℕ) (tree : Tree) (has : HasTree image i tree) where
   pub of_tree : (held : Held) → IsHeldOf image i held → IndexIs (IsIndexOf image tree.root tree.size) held

@@ -60,7 +60,7 @@ module _ (image : Image) (i s : ℕ) (at : NameAt) (is : IsNameAt image i s at) 
   empty_at : (new : Image) → inumber_at new i s ≡ 0 → inumber_at new at.dir at.slot ≡ 0
   empty_at new none = ap₂ (λ d r. inumber_at new d r) is.dir is.slot ∙ none
 
-  -- what a change keeps but for slot s of directory i and its name, it keeps but for these
+  -- what a change keeps except for slot s of directory i and its name, it keeps except for these
   named_at : (old new : Image) → KeepsNamed old new (OneSlot i s) → KeepsNamed old new (OneSlot at.dir at.slot)
   named_at old new keeps = subst₂ (λ d r. KeepsNamed old new (OneSlot d r)) (sym is.dir) (sym is.slot) keeps
 

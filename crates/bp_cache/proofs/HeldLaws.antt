@@ -1,4 +1,4 @@
--- What is held of directories is right after a change of names that was told to it.
+-- What is held of directories is right after a change of names that was reported to it.
 use Rattle.std.proofs.Common.{◌≡◌, ◌≢◌, ◌⊎◌, ℕ, ◌<◌, inl, inr, sym, ◌∙◌, subst}
 use Rattle.std.proofs.lemmas.Bool.{cases_eq}
 use Rattle.bp_layout.specs.Words.{Image}
@@ -34,7 +34,7 @@ module _ (old new : Image) (i : ℕ) where
   held_becomes Step steps (Indexed before) (Indexed after) becomes is = steps before after becomes is
   held_becomes Step steps Unindexed (Indexed after) becomes is = absurd becomes
 
--- one step behind another
+-- one step after another
 becomes_twice : (Step Next : Index → Index → Type 0) (first second third : Held) → Becomes Step first second → Becomes Next second third →
     Becomes (λ before after. (between : Index) × Step before between × Next between after) first third
 becomes_twice Step Next Lost Lost third one two = two
@@ -52,7 +52,7 @@ becomes_twice Step Next (Indexed before) (Indexed between) (Indexed after) one t
 -- ---- what is held of directories
 
 module _ (old new : Image) (before after : Directories) (right : AreHeldOf old before) where
-  -- entries outside one slot, told of each directory
+  -- entries outside one slot, stated of each directory
   outside : (dir slot : ℕ) → KeepsNamed old new (OneSlot dir slot) → KeepsBut old new dir slot
   outside dir slot keeps other reached directory live apart = keeps dir other reached directory live (λ touched. apart touched.1)
 
@@ -70,7 +70,7 @@ module _ (old new : Image) (before after : Directories) (right : AreHeldOf old b
           let is : IsHeldOf old at.dir was = subst (λ d. IsHeldOf old d was) here (right i was there) in
           subst (λ d. IsHeldOf new d held) (sym here)
           (held_becomes old new at.dir (λ x y. EntersSlot x y at.name.now at.slot)
-          (λ x y told index. index_entered old new at x y (outside at.dir at.slot enters.entries) enters.stands told index) was held (step here) is)
+          (λ x y reported index. index_entered old new at x y (outside at.dir at.slot enters.entries) enters.stands reported index) was held (step here) is)
 
   left : (at : NameAt) → ChangesOne at.dir (Leaves at) before after → KeepsNamed old new (OneSlot at.dir at.slot) → NameStands old at →
       inumber_at new at.dir at.slot ≡ 0 → AreHeldOf new after
@@ -83,7 +83,7 @@ module _ (old new : Image) (before after : Directories) (right : AreHeldOf old b
           let is : IsHeldOf old at.dir was = subst (λ d. IsHeldOf old d was) here (right i was there) in
           subst (λ d. IsHeldOf new d held) (sym here)
           (held_becomes old new at.dir (λ x y. LeavesSlot x y at.name.now at.slot)
-          (λ x y told index. index_left old new at x y stood told index (outside at.dir at.slot keeps) none) was held (step here) is)
+          (λ x y reported index. index_left old new at x y stood reported index (outside at.dir at.slot keeps) none) was held (step here) is)
 
   pub held_leaves : (at : NameAt) → ChangesOne at.dir (Leaves at) before after → NameLeaves old new at → AreHeldOf new after
   held_leaves at changes leaves = left at changes leaves.entries leaves.stood leaves.empty
@@ -138,22 +138,22 @@ module _ (old new : Image) (before after : Directories) (right : AreHeldOf old b
               let apart : from.dir ≢ to.dir = λ e. two (here ∙ e) in
               subst (λ d. IsHeldOf new d held) (sym here)
               (held_becomes old new from.dir (λ x y. LeavesSlot x y from.name.now from.slot)
-              (λ x y told index. index_left old new from x y moves.stood told index (source apart) (moves.empty apart)) was held
+              (λ x y reported index. index_left old new from x y moves.stood reported index (source apart) (moves.empty apart)) was held
               (subst (Leaves from was) (sym (same two)) (left_it here)) is)
           on (was, first, kept, left_it) (inr one) (inl there_too) =
               let is : IsHeldOf old to.dir was = subst (λ d. IsHeldOf old d was) there_too (right i was first) in
               let apart : from.dir ≢ to.dir = λ e. one (there_too ∙ sym e) in
               subst (λ d. IsHeldOf new d held) (sym there_too)
               (held_becomes old new to.dir (λ x y. EntersSlot x y to.name.now to.slot)
-              (λ x y told index. index_entered old new to x y (target apart) moves.stands told index) was held
+              (λ x y reported index. index_entered old new to x y (target apart) moves.stands reported index) was held
               (subst (λ h. Enters to h held) (kept one) (step there_too)) is)
           on (was, first, kept, left_it) (inl here) (inl there_too) =
               let is : IsHeldOf old to.dir was = subst (λ d. IsHeldOf old d was) there_too (right i was first) in
               let one_dir : from.dir ≡ to.dir = sym here ∙ there_too in
               subst (λ d. IsHeldOf new d held) (sym there_too)
               (held_becomes old new to.dir (λ x z. (y : Index) × LeavesSlot x y from.name.now from.slot × EntersSlot y z to.name.now to.slot)
-              (λ x z told index.
-              index_respelled old new from x told.0 moves.stood told.1 (subst (λ d. IsIndexIn old d x) (sym one_dir) index) to z one_dir (moves.here one_dir)
-              (both one_dir) moves.stands told.2) was held
+              (λ x z reported index.
+              index_respelled old new from x reported.0 moves.stood reported.1 (subst (λ d. IsIndexIn old d x) (sym one_dir) index) to z one_dir (moves.here one_dir)
+              (both one_dir) moves.stands reported.2) was held
               (becomes_twice (λ x y. LeavesSlot x y from.name.now from.slot) (λ x y. EntersSlot x y to.name.now to.slot) was mid held (left_it here)
               (step there_too)) is)

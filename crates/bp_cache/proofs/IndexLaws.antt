@@ -19,7 +19,7 @@ abbrev pub KeepsBut : Image → Image → ℕ → ℕ → Type 0
 KeepsBut old new i slot = (other : ℕ) → IsReached new i → IsDirectory new i → other < entry_count new i → other ≢ slot → WasNamed old new i other
 
 module _ (old new : Image) where
-  -- what an index told of an entry that keeps its name it tells still
+  -- what an index stated of an entry that keeps its name it reports still
   indexed_still : (i slot : ℕ) (index : Index) → IsIndexIn old i index → WasNamed old new i slot → IsIndexed new (root_of new i) slot index
   indexed_still i slot index right was =
       indexed_kept old (root_of old i) new (root_of new i) slot index was.keeps ((right was.reached was.directory).each slot was.in_size)
@@ -44,17 +44,17 @@ module _ (old new : Image) where
             (indexed_still at.dir slot before right (keeps slot reached directory live apart))
 
     module _ (stood : NameStands old at) (leaves : LeavesSlot before after at.name.now at.slot) (right : IsIndexIn old at.dir before) where
-      -- what the index told of the entry
-      entry_told : IsIndexed old (root_of old at.dir) at.slot before
-      entry_told = (right stood.reached stood.directory).each at.slot stood.in_size
+      -- what the index stated of the entry
+      entry_reported : IsIndexed old (root_of old at.dir) at.slot before
+      entry_reported = (right stood.reached stood.directory).each at.slot stood.in_size
 
-      -- the other entries are told still
-      others_told : KeepsBut old new at.dir at.slot → (slot : ℕ) → IsReached new at.dir → IsDirectory new at.dir → slot < entry_count new at.dir →
+      -- the other entries are reported still
+      others_reported : KeepsBut old new at.dir at.slot → (slot : ℕ) → IsReached new at.dir → IsDirectory new at.dir → slot < entry_count new at.dir →
           slot ≢ at.slot → IsIndexed new (root_of new at.dir) slot after
-      others_told keeps slot reached directory live apart =
-          let told : get nat_eq before.slots (hash_of at.name.now) ≡ Some at.slot =
-          ap (λ name. get nat_eq before.slots (hash_of name)) (sym stood.named.spelled) ∙ entry_told.named stood.named.live in
-          others_left new (root_of new at.dir) before after at.name.now at.slot leaves told entry_told.room slot apart
+      others_reported keeps slot reached directory live apart =
+          let reported : get nat_eq before.slots (hash_of at.name.now) ≡ Some at.slot =
+          ap (λ name. get nat_eq before.slots (hash_of name)) (sym stood.named.spelled) ∙ entry_reported.named stood.named.live in
+          others_left new (root_of new at.dir) before after at.name.now at.slot leaves reported entry_reported.room slot apart
           (indexed_still at.dir slot before right (keeps slot reached directory live apart))
 
       -- the name leaves its slot, which is empty then
@@ -64,8 +64,8 @@ module _ (old new : Image) where
           go : (slot : ℕ) → slot < entry_count new at.dir → (slot ≡ at.slot) ⊎ (slot ≢ at.slot) → IsIndexed new (root_of new at.dir) slot after
           go slot live (inl here) =
               subst (λ s. IsIndexed new (root_of new at.dir) s after) (sym here)
-              (indexed_left new (root_of new at.dir) before after at.name.now at.slot leaves entry_told.room none)
-          go slot live (inr apart) = others_told keeps slot reached directory live apart
+              (indexed_left new (root_of new at.dir) before after at.name.now at.slot leaves entry_reported.room none)
+          go slot live (inr apart) = others_reported keeps slot reached directory live apart
 
       -- another name comes to the slot that a name leaves
       pub index_respelled : (to : NameAt) (last : Index) → at.dir ≡ to.dir → at.slot ≡ to.slot → KeepsBut old new at.dir at.slot → NameStands new to →
@@ -79,5 +79,5 @@ module _ (old new : Image) where
           go slot live (inr apart) =
               others_entered new (root_of new to.dir) after last to.name.now to.slot enters slot apart
               (subst (λ d. IsIndexed new (root_of new d) slot after) same_dir
-              (others_told keeps slot (subst (IsReached new) (sym same_dir) reached) (subst (IsDirectory new) (sym same_dir) directory)
+              (others_reported keeps slot (subst (IsReached new) (sym same_dir) reached) (subst (IsDirectory new) (sym same_dir) directory)
               (subst (λ d. slot < entry_count new d) (sym same_dir) live) (λ here. apart (here ∙ same_slot))))

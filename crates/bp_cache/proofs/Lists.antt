@@ -47,14 +47,14 @@ module _ (image : Image) where
     where
       go : (Contains es (i, held) → IsHeldOf image i held) → (Contains (set_value (nat_eq dir) es value) (i, held) → IsHeldOf image i held) →
           (b : Bool) → nat_eq dir e.0 ≡ b → Contains (set_value (nat_eq dir) (e ∷ es) value) (i, held) → IsHeldOf image i held
-      go behind on true at has = elim (Contains-cons (e.0, value) es (i, held) (rw at at has)) [
+      go following on true at has = elim (Contains-cons (e.0, value) es (i, held) (rw at at has)) [
         | inl same ↦
             let key : dir ≡ i = eqb-true dir e.0 at ∙ ap (λ p. p.0) same in
             let here : value ≡ held = ap (λ p. p.1) same in
             subst (λ h. IsHeldOf image i h) here (subst (λ j. IsHeldOf image j value) key is)
-        | inr later ↦ behind later
+        | inr later ↦ following later
       ]
-      go behind on false at has = elim (Contains-cons e (set_value (nat_eq dir) es value) (i, held) (rw at at has)) [
+      go following on false at has = elim (Contains-cons e (set_value (nat_eq dir) es value) (i, held) (rw at at has)) [
         | inl same ↦ right i held (subst (Contains (e ∷ es)) same (Contains-head e es))
         | inr later ↦ on later
       ]

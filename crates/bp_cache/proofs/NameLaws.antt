@@ -1,4 +1,4 @@
--- The names that are known are right after a change of names that was told to them.
+-- The names that are known are right after a change of names that was reported to them.
 use Rattle.std.proofs.Common.{◌≡◌, ◌≢◌, ℕ, Option, Some, None, sym, ◌∙◌, ap}
 use Rattle.std.specs.FinMap.{get}
 use Rattle.bp_layout.specs.Words.{Image}

@@ -1,7 +1,7 @@
 -- What the cache remembers of a name.
 use Rattle.std.specs.Prelude.{◌≡◌, ⊤, Option, IfSome}
 use Rattle.bp_cache.specs.declared.recalled.Recalled.{Recalled}
-use Rattle.bp_cache.specs.declared.recalled.Recalled.TheVariants.{Told, Unknown}
+use Rattle.bp_cache.specs.declared.recalled.Recalled.TheVariants.{Known, Unknown}
 use Rattle.bp_dirs.specs.Spots.{found_slot}
 use Rattle.bp_dirs.specs.declared.spot.Found.{Found}
 use Rattle.bp_layout.specs.Directory.{inumber_in, slot_named_in}
@@ -16,5 +16,5 @@ pub record IsSearch (image : Image) (tree : Tree) (name : Name) (found : Option 
 
 -- If anything is remembered of the name, it is the result of a search for it.
 abbrev pub IsRecalled : Image → Tree → Name → Recalled → Type 0
-IsRecalled image tree name (Told found) = IsSearch image tree name found
+IsRecalled image tree name (Known found) = IsSearch image tree name found
 IsRecalled image tree name Unknown = ⊤

@@ -87,11 +87,11 @@ impl DirectoryCache {
         requires tree { HasTree (words_in R.memory region.now) dir tree }
         requires short { length name.now ≤ max_name }
         requires right { IsCacheOf (words_in R.memory region.now) self.old }
-        ensures told { IsRecalled (words_in R.memory region.now) tree name.now result }
+        ensures reported { IsRecalled (words_in R.memory region.now) tree name.now result }
         ensures right { IsCacheOf (words_in R.memory region.now) self.new }
     {
         match self.names.hint(dir, name) {
-            Some(slot) => Recalled::Told(Some(Found {
+            Some(slot) => Recalled::Known(Some(Found {
                 slot,
                 inumber: inumber(region, tree, slot),
             })),
@@ -105,7 +105,7 @@ impl DirectoryCache {
         requires tree { HasTree (words_in R.memory region.now) dir tree }
         requires short { length name.now ≤ max_name }
         requires right { IsCacheOf (words_in R.memory region.now) self.old }
-        ensures told { IsRecalled (words_in R.memory region.now) tree name.now result }
+        ensures reported { IsRecalled (words_in R.memory region.now) tree name.now result }
         ensures right { IsCacheOf (words_in R.memory region.now) self.new }
     {
         match self.directories.get(&dir) {
@@ -133,7 +133,7 @@ impl DirectoryCache {
         requires tree { HasTree (words_in R.memory region.now) dir tree }
         requires short { length name.now ≤ max_name }
         requires right { IsCacheOf (words_in R.memory region.now) self.old }
-        ensures told { IsRecalled (words_in R.memory region.now) tree name.now result }
+        ensures reported { IsRecalled (words_in R.memory region.now) tree name.now result }
         ensures right { IsCacheOf (words_in R.memory region.now) self.new }
     {
         if tree.size <= SMALL_SIZE {
@@ -147,7 +147,7 @@ impl DirectoryCache {
         requires tree { HasTree (words_in R.memory region.now) dir tree }
         requires short { length name.now ≤ max_name }
         requires right { IsCacheOf (words_in R.memory region.now) self.old }
-        ensures told { IsRecalled (words_in R.memory region.now) tree name.now result }
+        ensures reported { IsRecalled (words_in R.memory region.now) tree name.now result }
         ensures right { IsCacheOf (words_in R.memory region.now) self.new }
     {
         if tree.size <= FEW_SIZE {
@@ -256,7 +256,7 @@ impl DirectoryCache {
         ensures right { IsCacheOf (words_in R.memory region.now) self.new }
     {
         match self.recall(region, dir, tree, one) {
-            Recalled::Told(found) => {
+            Recalled::Known(found) => {
                 let spot = self.find_or_free(region, dir, tree, other);
                 Both { found, spot }
             }
@@ -354,8 +354,8 @@ impl Finder for DirectoryCache {
 
     /// Finds a name in a directory: by the names that are known, by the directory's index, or by a scan.
     fn find<R: Region>(&mut self, region: &R, dir: u32, tree: Tree, name: &[u8]) -> Option<Found> {
-        if let Recalled::Told(told) = self.recall(region, dir, tree, name) {
-            return told;
+        if let Recalled::Known(reported) = self.recall(region, dir, tree, name) {
+            return reported;
         }
         let found = find_entry(region, tree, name)?;
         if tree.size > FEW_SIZE && tree.size <= SMALL_SIZE {

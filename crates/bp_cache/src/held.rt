@@ -48,7 +48,7 @@ impl Held {
         ensures { IsRecalled (words_in R.memory region.now) tree name.now result }
     {
         match self {
-            Held::Indexed(index) => Recalled::Told(index.find_entry(region, tree, name)),
+            Held::Indexed(index) => Recalled::Known(index.find_entry(region, tree, name)),
             _ => Recalled::Unknown,
         }
     }

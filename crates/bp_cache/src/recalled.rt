@@ -6,7 +6,7 @@ use bp_dirs::Found;
 #[derive(Clone, Copy)]
 pub(crate) enum Recalled {
     /// The result of a search for it.
-    Told(Option<Found>),
+    Known(Option<Found>),
     /// Nothing.
     Unknown,
 }

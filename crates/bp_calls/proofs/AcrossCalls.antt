@@ -11,7 +11,7 @@ use Rattle.bp_layout.specs.WordPaths.{WordPath, inode_path}
 use Rattle.bp_layout.specs.Words.{Image, height_of}
 use Rattle.bp_limits.specs.Limits.{block_words, max_height}
 use Rattle.bp_append.specs.Prepared.{CanPrepare, HasLooseEnd, PreparesWith, need_for}
-use Rattle.bp_append.proofs.StoresLaws.{behind_whole, room_behind_whole}
+use Rattle.bp_append.proofs.StoresLaws.{past_end_whole, room_past_end_whole}
 use Rattle.bp_shapes.specs.Sets.{AreExact}
 use Rattle.bp_commit.specs.Performs.{PerformsThawed, room_for}
 use Rattle.bp_cow.specs.Commit.{CanCommitIn, CommitsTouched}
@@ -19,14 +19,14 @@ use Rattle.bp_cow.specs.Cover.{LeadsInside, copied_count}
 use Rattle.bp_cow.specs.Found.{AreWaysIn}
 use Rattle.bp_cow.specs.Job.{copies_at}
 use Rattle.bp_cow.specs.Touched.{IsTouched, NoneBegins, all_paths, job_of}
-use Rattle.bp_cow.specs.declared.covering.FoundWays.{FoundWays}
+use Rattle.bp_cow.specs.declared.covers.FoundWays.{FoundWays}
 use Rattle.bp_cow.specs.declared.touched.Touched.{Touched}
 use Rattle.pm_region.specs.Memory.{Memory, current_words, room_in}
 use Rattle.pm_region.proofs.MemoryLaws.{length-current_words, room_in-piece}
 use Rattle.bp_calls.specs.CanWrite.{CanWriteInto}
 use Rattle.bp_calls.specs.Space.{HasRoomThawed}
 use Rattle.bp_calls.specs.TouchedAcross.{IsPlanFor, IsSizeWord, WritesAcross}
-use Rattle.bp_calls.specs.declared.writing.across.Plan.{Plan}
+use Rattle.bp_calls.specs.declared.writes.across.Plan.{Plan}
 use Rattle.bp_cow.proofs.CoverOf.{count_is}
 use Rattle.bp_calls.specs.WritesFile.{WritesFile}
 use Rattle.bp_calls.proofs.AcrossDone.{across_exact, across_performs}
@@ -45,9 +45,9 @@ parted : (taken rest : List ℕ) {all : List ℕ} → all ≡ taken ++ rest → 
 parted taken rest e = ap (λ (xs : List ℕ). length xs) e ∙ length-append taken rest
 
 -- the log has room for both parts
-roomy : (made behind copied needed words room left : ℕ) → room ≤ left + (2 + (block_words * made + behind + 2)) → behind ≤ block_words * suc max_height → needed ≡ made + copied → words ≡ 1 → room_for needed ≤ room + 2 →
+roomy : (made past_end copied needed words room left : ℕ) → room ≤ left + (2 + (block_words * made + past_end + 2)) → past_end ≤ block_words * suc max_height → needed ≡ made + copied → words ≡ 1 → room_for needed ≤ room + 2 →
     (block_words + 1) * copied + words + 1 + 2 ≤ left
-roomy made behind copied needed words room left a b c d e = omega (arith, a, b, c, d, e)
+roomy made past_end copied needed words room left a b c d e = omega (arith, a, b, c, d, e)
 
 -- the word of the size, with the path that was read
 pub sized_word : (image : Image) (i end : ℕ) (path : ArrayVec ℕ) → path.items ≡ inode_path (height_of (root_of image 0)) i 2 → IsSizeWord image i end ((path, end) ∷ [])
@@ -83,7 +83,7 @@ made_for image end root size = length (nodes_for image root size size end)
 made_is : (image : Image) (end i root size : ℕ) → root ≡ root_of image i → size ≡ size_of image i → made_for image end root size ≡ need_for image i (size_of image i) end
 made_is image end i root size one two = ap (λ r. made_for image end r size) one ∙ ap (made_for image end (root_of image i)) two
 
--- the preparation, told at the size of the file
+-- the preparation, stated at the size of the file
 pub at_prepared : {in_snapshot : ℕ → Bool} {old middle : Memory} (blocks after : Set) {i size : ℕ} (offset : ℕ) (bytes : List ℕ) {beyond : List ℕ}
     → PreparesWith in_snapshot old middle (members blocks) (members after) i size (offset + length bytes) beyond
     → size ≡ size_of (current_words old) i → beyond ≡ drop (size - offset) bytes
@@ -127,12 +127,12 @@ module _ {in_snapshot : ℕ → Bool} {old : Memory} {blocks inodes : Set} {offs
   at_few (suc n) root size across = λ one two.
       omega (arith, made_is (current_words old) (offset + length bytes) (suc n) root size one two, across_few old blocks inodes n offset bytes touched across (current_words old))
 
-  -- so many are copied, by what was found of the ways
+  -- as many are copied, by what was found of the ways
   pub at_copied : (i copied : ℕ) (found : FoundWays) → WritesAcross in_snapshot old blocks inodes i offset bytes touched → AreWaysIn (current_words old) touched found → copied ≡ copies_at (job_of touched) found.cover.len →
       copied ≡ copied_count (current_words old) touched
   at_copied i copied found across ways counted = counted ∙ count_is touched (at_shape i across) (current_words old) (at_apart i across) found.cover.len ways.cover.has
 
-  -- so many blocks it takes
+  -- as many blocks it takes
   pub at_needs : (i root size made copied : ℕ) → WritesAcross in_snapshot old blocks inodes i offset bytes touched → root ≡ root_of (current_words old) i → size ≡ size_of (current_words old) i →
       made ≡ length (nodes_for (current_words old) root size size (offset + length bytes)) → copied ≡ copied_count (current_words old) touched → made + copied ≡ need (current_words old) (writes i offset (length bytes))
   at_needs zero root size made copied across = not_inodes _ across
@@ -158,7 +158,7 @@ module _ {in_snapshot : ℕ → Bool} {old : Memory} {blocks inodes : Set} {offs
         well = across.into.well_formed;
         reached = across.into.can.reached;
         leads = is ∙ sym (append-nil (inode_path (height_of (root_of (current_words old) 0)) (suc n) 1));
-        behind = omega arith;
+        past_end = omega arith;
         order = omega (arith, across.past);
         fits = across.into.can.fits;
         by_words = λ by. elim by [ inl e ↦ omega (arith, e) | inr kind ↦ omega (arith, kind, across.into.can.file) ];
@@ -166,7 +166,7 @@ module _ {in_snapshot : ℕ → Bool} {old : Memory} {blocks inodes : Set} {offs
         are_free = members_free (current_words old) blocks inodes across.into.exact;
         loose = end_loose n across clear;
         enough = omega (arith, enough, needs);
-        room = across_room _ _ _ _ _ needs (room_behind_whole (size_of (current_words old) (suc n)) (size_of (current_words old) (suc n)) (offset + length bytes) max_height) has;
+        room = across_room _ _ _ _ _ needs (room_past_end_whole (size_of (current_words old) (suc n)) (size_of (current_words old) (suc n)) (offset + length bytes) max_height) has;
       } in
       subst (λ s. CanPrepare in_snapshot old (members blocks) (suc n) path s (offset + length bytes)) (sym two) can
 
@@ -188,11 +188,11 @@ module _ {in_snapshot : ℕ → Bool} {old : Memory} {blocks inodes : Set} {offs
           fits = let whole = ap (λ words. words / 512) prepared.ready.meaning.trees.whole in omega (arith, whole, room, across.into.exact.block_room);
           some = omega (arith, parts, prepared.counted, count, needs, enough);
           room = let left = room_in-piece _ _ old middle prepared.adds.part.added prepared.adds.part.adds prepared.adds.part.piece in
-              roomy _ _ _ _ _ _ _ left (behind_whole (size_of (current_words old) (suc n)) (size_of (current_words old) (suc n)) (offset + length bytes) max_height) (omega (arith, needs, count))
+              roomy _ _ _ _ _ _ _ left (past_end_whole (size_of (current_words old) (suc n)) (size_of (current_words old) (suc n)) (offset + length bytes) max_height) (omega (arith, needs, count))
               (across_words old blocks inodes n offset bytes touched across) has;
         }
 
-    -- what was found of the ways holds behind it
+    -- what was found of the ways holds after it
     pub at_ways : (i : ℕ) → WritesAcross in_snapshot old blocks inodes i offset bytes touched →
         PreparesWith in_snapshot old middle (members blocks) (members after) i (size_of (current_words old) i) (offset + length bytes) (drop (size_of (current_words old) i - offset) bytes) →
         (found : FoundWays) → AreWaysIn (current_words old) touched found → AreWaysIn (current_words middle) touched found

@@ -16,7 +16,7 @@ use Rattle.bp_changes.proofs.ChangesFile as changed
 use Rattle.bp_changes.proofs.ChangesOver.{changes_over}
 use Rattle.bp_append.specs.Prepared.{PreparesWith, need_for}
 use Rattle.bp_append.specs.Stores.{prep_stores}
-use Rattle.bp_append.proofs.StoresLaws.{behind_near}
+use Rattle.bp_append.proofs.StoresLaws.{past_end_near}
 use Rattle.bp_shapes.specs.Sets.{AreExact}
 use Rattle.bp_shapes.proofs.FreeSets.{wf_forest}
 use Rattle.bp_commit.specs.Performs.{IsOpen, PerformsThawed, most_stores_thawed}
@@ -33,7 +33,7 @@ use Rattle.bp_limits.specs.Limits.{block_words, max_height}
 use Rattle.pm_region.specs.Memory.{Memory, current_words}
 use Rattle.bp_calls.specs.TouchedAcross.{WritesAcross}
 use Rattle.bp_calls.specs.WritesFile.{WritesFile}
-use Rattle.bp_calls.proofs.AcrossMiddle.{across_can, across_file, bound_here, bound_other, left_free, middle_count, middle_cover, middle_formed, middle_live, middle_sets, run_there, size_fronts}
+use Rattle.bp_calls.proofs.AcrossMiddle.{across_can, across_file, bound_here, bound_other, left_free, middle_count, middle_cover, middle_formed, middle_live, middle_sets, run_there, size_prefixes}
 use Rattle.bp_calls.proofs.SizesWith.{sizes_with}
 use Rattle.bp_calls.proofs.AcrossTouched.{across_copies, across_cover, across_end, across_needs, across_shape, across_words}
 use Rattle.bp_calls.proofs.RunCommits.{commit_exact, commit_writes_file, laid_past}
@@ -79,7 +79,7 @@ module _ {in_snapshot : ℕ → Bool} (old middle new : Memory) (blocks inodes a
   file : IsFileRun mid bound touched across.touches.run n
   file =
       across_file old middle blocks inodes after n offset bytes touched across prepared
-      (λ k. let small_front = small_take (size_of (current_words old) (suc n) - offset) bytes small k in rw across.touches.is.bytes_are small_front)
+      (λ k. let small_prefix = small_take (size_of (current_words old) (suc n) - offset) bytes small k in rw across.touches.is.bytes_are small_prefix)
 
   bound_is : bound (suc n) ≡ offset + length bytes
   bound_is = bound_here old middle blocks inodes after n offset bytes touched across prepared
@@ -107,8 +107,8 @@ module _ {in_snapshot : ℕ → Bool} (old middle new : Memory) (blocks inodes a
   byte_is o low =
       sized_bytes mid (current_words new) bound wf_mid touched (has after) can across.touches.run n file (IsTurned (job_of touched) (length (commit_cover mid touched))) done.words grown o (omega (arith, low, size_is))
 
-  behind : (o : ℕ) → size_of image (suc n) ≤ o → o < offset + length bytes → byte (current_words new) (root_of (current_words new) (suc n)) o ≡ slice_index bytes (o - across.touches.run.offset)
-  behind o past low =
+  past_end : (o : ℕ) → size_of image (suc n) ≤ o → o < offset + length bytes → byte (current_words new) (root_of (current_words new) (suc n)) o ≡ slice_index bytes (o - across.touches.run.offset)
+  past_end o past low =
       let at : size_of image (suc n) - offset + (o - size_of image (suc n)) ≡ o - across.touches.run.offset = omega (arith, past, across.below, across.touches.is.from) in
       byte_is o low
       ∙ laid_past across.touches.run o (byte mid (root_of mid (suc n)) o) (omega (arith, past, across_end old blocks inodes n offset bytes touched across))
@@ -122,7 +122,7 @@ module _ {in_snapshot : ℕ → Bool} (old middle new : Memory) (blocks inodes a
       (across.touches.is.bytes_are ∙ ap (λ f. take (size_of image (suc n) - f) bytes) (sym across.touches.is.from)) (omega (arith, across.below, across.touches.is.from))
       (omega (arith, size_is, across.past, across.touches.is.from))
       (λ o low. byte_is o (omega (arith, low, across.past)) ∙ ap (run_byte across.touches.run o) (prepared.ready.kept o low))
-      (λ o past low. behind o past (omega (arith, low, size_is))))
+      (λ o past low. past_end o past (omega (arith, low, size_is))))
 
   -- ---- the stores
 
@@ -130,7 +130,7 @@ module _ {in_snapshot : ℕ → Bool} (old middle new : Memory) (blocks inodes a
   open_cover =
       cover_open in_snapshot mid wf_mid touched (across_shape old blocks inodes n offset bytes touched across) (inode_path (height_of (root_of mid 0)) (suc n) 2)
       (has_size (height_of (root_of mid 0)) (suc n) touched across.touches.run (run_there old middle blocks inodes after n offset bytes touched across prepared) (across_shape old blocks inodes n offset bytes touched across))
-      (size_fronts old middle blocks inodes after n offset bytes touched across prepared (size_of mid) (wf_forest mid wf_mid) (omega arith)) done.loose done.taken
+      (size_prefixes old middle blocks inodes after n offset bytes touched across prepared (size_of mid) (wf_forest mid wf_mid) (omega arith)) done.loose done.taken
 
   count_is : copied_count mid touched ≡ copied_count image touched
   count_is = middle_count old middle blocks inodes after n offset bytes touched across prepared
@@ -140,12 +140,12 @@ module _ {in_snapshot : ℕ → Bool} (old middle new : Memory) (blocks inodes a
 
   few : prep_stores (size_of image (suc n)) (size_of image (suc n)) (offset + length bytes) (need_for image (suc n) (size_of image (suc n)) (offset + length bytes)) + commit_stores mid touched ≤ most_stores_thawed (need image write)
   few =
-      go _ _ _ _ _ _ needs count_is (behind_near (size_of image (suc n)) (offset + length bytes) max_height (omega (arith, across.below, across.into.can.short))) (across_words old blocks inodes n offset bytes touched across)
+      go _ _ _ _ _ _ needs count_is (past_end_near (size_of image (suc n)) (offset + length bytes) max_height (omega (arith, across.below, across.into.can.short))) (across_words old blocks inodes n offset bytes touched across)
       (across_copies old blocks inodes n offset bytes touched across image)
     where
-      go : (made copied copied_mid words needed behind : ℕ) → needed ≡ made + copied → copied_mid ≡ copied → behind ≤ 1024 + max_height → words ≡ 1 → copied ≤ 290 →
-          block_words * made + behind + 2 + ((block_words + 1) * copied_mid + words + 1) ≤ most_stores_thawed needed
-      go made copied copied_mid words needed behind a b c d e = omega (arith, a, b, c, d, e)
+      go : (made copied copied_mid words needed past_end : ℕ) → needed ≡ made + copied → copied_mid ≡ copied → past_end ≤ 1024 + max_height → words ≡ 1 → copied ≤ 290 →
+          block_words * made + past_end + 2 + ((block_words + 1) * copied_mid + words + 1) ≤ most_stores_thawed needed
+      go made copied copied_mid words needed past_end a b c d e = omega (arith, a, b, c, d, e)
 
   pub across_performs : PerformsThawed in_snapshot old new (writes (suc n) offset (length bytes)) (WritesFile (suc n) offset bytes)
   across_performs =

@@ -27,13 +27,13 @@ use Rattle.bp_shapes.specs.Forest.{along, tree_trail, IsForest, IsTreePointer}
 use Rattle.bp_shapes.specs.Sets.{AreExactFor}
 use Rattle.bp_shapes.specs.Trail.{Trail, block_on, trail_of}
 use Rattle.bp_shapes.proofs.ForestLaws.{word-tree}
-use Rattle.bp_shapes.proofs.FreeSets.{content_fronts, content_no_pointer}
+use Rattle.bp_shapes.proofs.FreeSets.{content_prefixes, content_no_pointer}
 use Rattle.bp_shapes.proofs.PathTrails.{length-trail_of}
 use Rattle.bp_cow.specs.CanCommit.{CanCommit, IsRunIn, IsTreeIn}
 use Rattle.bp_cow.specs.Cover.{commit_cover, copied_count}
 use Rattle.bp_cow.specs.Found.{AreWaysIn}
 use Rattle.bp_cow.specs.Touched.{path_of, run_path, word_paths}
-use Rattle.bp_cow.specs.declared.covering.FoundWays.{FoundWays}
+use Rattle.bp_cow.specs.declared.covers.FoundWays.{FoundWays}
 use Rattle.bp_cow.specs.declared.touched.Run.{Run}
 use Rattle.bp_cow.specs.declared.touched.Touched.{Touched}
 use Rattle.bp_cow.proofs.CopiesNeed.{has-word}
@@ -157,11 +157,11 @@ module _ {in_snapshot : ℕ → Bool} (old middle : Memory) (blocks inodes after
       let first : j ≡ 0 = omega (arith, low, across_words old blocks inodes n offset bytes touched across) in
       subst (λ k. P (path_of (word_paths touched) k)) (sym first) (subst P (sym path_is) has)
 
-  -- its fronts are pointers, under the sizes of the image too
-  pub size_fronts : (sizes : ℕ → ℕ) → IsForest (current_words middle) sizes → size_of (current_words middle) 0 ≤ sizes 0 → (d : ℕ) → d < length (inode_path (height_of (root_of (current_words middle) 0)) (suc n) 2) →
+  -- its prefixes are pointers, under the sizes of the image too
+  pub size_prefixes : (sizes : ℕ → ℕ) → IsForest (current_words middle) sizes → size_of (current_words middle) 0 ≤ sizes 0 → (d : ℕ) → d < length (inode_path (height_of (root_of (current_words middle) 0)) (suc n) 2) →
       IsTreePointer (current_words middle) sizes (trail_of (inode_path (height_of (root_of (current_words middle) 0)) (suc n) 2) d)
-  size_fronts sizes forest high d low =
-      content_fronts mid sizes forest (inode_path (height_of (root_of mid 0)) (suc n) 2) (height_of (root_of mid 0)) 0 (8 * suc n + 2) inode_file (omega (arith, size_low, high)) size_trail d (omega (arith, low, size_long))
+  size_prefixes sizes forest high d low =
+      content_prefixes mid sizes forest (inode_path (height_of (root_of mid 0)) (suc n) 2) (height_of (root_of mid 0)) 0 (8 * suc n + 2) inode_file (omega (arith, size_low, high)) size_trail d (omega (arith, low, size_long))
 
   pub across_file : (small : (i : ℕ) → slice_index across.touches.run.bytes.now i < 256) → IsFileRun (current_words middle) (sizes_with (current_words middle) touched) touched across.touches.run n
   across_file small = record {
@@ -185,7 +185,7 @@ module _ {in_snapshot : ℕ → Bool} (old middle : Memory) (blocks inodes after
     sizes = λ t reached. bound_low t;
     exact = middle_exact;
     pointers = λ j d low few.
-        only_word (λ p. d < length p → IsTreePointer mid bound (trail_of p d)) (size_fronts bound middle_forest (bound_low 0) d) j low few;
+        only_word (λ p. d < length p → IsTreePointer mid bound (trail_of p d)) (size_prefixes bound middle_forest (bound_low 0) d) j low few;
     contents = only_word (λ p. IsTreePointer mid bound (trail_of p (length p)) → ⊥)
         (λ pointer.
         content_no_pointer mid bound middle_forest (inode_path (height_of (root_of mid 0)) (suc n) 2) (height_of (root_of mid 0)) 0 (8 * suc n + 2) inode_file (omega (arith, size_low, bound_low 0)) size_trail (λ _ e. omega (arith, e))
@@ -291,7 +291,7 @@ module _ {in_snapshot : ℕ → Bool} (old middle : Memory) (blocks inodes after
 
   -- ---- the store in place
 
-  -- No pointer on the way to the leaf of the inode is in the snapshot, and these are the same behind the preparation.
+  -- No pointer on the way to the leaf of the inode is in the snapshot, and these are the same after the preparation.
   module _ (clear : thawed (current_words old) in_snapshot (writes (suc n) offset (length bytes)) ≡ []) where
     abbrev leaf_number : ℕ
     leaf_number = (8 * suc n + 1) / 512

@@ -1,4 +1,4 @@
--- What a call comes to, by what its parts do: a change is committed behind a thaw, or at once where nothing is thawed; or there are too few blocks, and nothing has changed.
+-- What a call comes to, by what its parts do: a change is committed after a thaw, or at once where nothing is thawed; or there are too few blocks, and nothing has changed.
 use Rattle.std.specs.Prelude.{◌≡◌, ◌≤◌, [], Err, Ok, Result, length, refl}
 use Rattle.std.proofs.Common.{sym, ◌∙◌, ap, subst}
 use Rattle.bp_calls.specs.Commits.{CommitsChange, CommitsOrLacksBlocks, CommitsOrLacksSpace}
@@ -58,7 +58,7 @@ module _ {R T : Type 0} (memory : R → Memory) (change : Change) (Effect : Imag
     same = done.same;
   }
 
--- ---- behind a thaw
+-- ---- after a thaw
 
 module _ {R T : Type 0} (memory : R → Memory) (change : Change) (Effect : Image → Image → Type 0) (old middle new : Parts R) (mounted : IsMounted (current_words (memory old.region)) old)
     (of : IsOfReached (current_words (memory old.region)) change) (done : ThawsFor memory (targets (current_words (memory old.region)) change) old middle) where
@@ -71,7 +71,7 @@ module _ {R T : Type 0} (memory : R → Memory) (change : Change) (Effect : Imag
     same = tt;
   }
 
-  -- behind it as many are free as the change needs
+  -- after it as many are free as the change needs
   pub commits_thawed : need (current_words (memory middle.region)) change ≤ length (members middle.free_blocks) → (result : Result T NoSpace) →
       CommitsOrLacksBlocks memory middle new result change Effect → CommitsOrLacksSpace memory old new result change Effect
   commits_thawed enough (Ok x) rest = committed_thawed x (record { performs = rest.performs; snapshot_blocks = rest.snapshot_blocks; exact = rest.exact })

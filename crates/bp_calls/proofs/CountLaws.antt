@@ -1,4 +1,4 @@
--- The parts stay exact over a call, where their sets do: how many names inodes have, and what the number of an inode's names tells of one of them.
+-- The parts stay exact over a call, where their sets do: how many names inodes have, and what the number of an inode's names describes one of them.
 use Rattle.std.proofs.Common.{◌≡◌, ◌≢◌, ◌⊎◌, ℕ, ◌*◌, ◌/◌, ◌<◌, ◌≤◌, List, [], ◌∷◌, length, sym, ◌∙◌, ap, subst, arith, inl, inr}
 use Rattle.std.proofs.lemmas.Bool.{cases_eq}
 use Rattle.bp_changes.specs.Effects.{ChangesFile, HasOtherName, IsLastName}

@@ -16,10 +16,10 @@ use Rattle.bp_layout.specs.Tree.{node}
 use Rattle.bp_layout.specs.WellFormed.{IsWellFormed}
 use Rattle.bp_layout.specs.WordPaths.{WordPath, digits, inode_path, tree_path}
 use Rattle.bp_layout.specs.Words.{Image, height_of}
-use Rattle.bp_layout.proofs.MemberLaws.{has-behind, has-front}
+use Rattle.bp_layout.proofs.MemberLaws.{has-after, has-prefix}
 use Rattle.bp_layout.proofs.ThawLaws.{loose-on}
 use Rattle.bp_layout.proofs.TreeLaws.{live_above, live_content}
-use Rattle.bp_thaw.specs.Fronts.{IsWayIn}
+use Rattle.bp_thaw.specs.Prefixes.{IsWayIn}
 use Rattle.bp_tree.proofs.ExistingPaths.{AllThere, content_path-there, cover_of-one}
 use Rattle.bp_tree.proofs.LooseWays.{loose_inode_word, loose_word}
 use Rattle.bp_calls.specs.Steps.{HasLooseEntry, HasLooseWord}
@@ -78,7 +78,7 @@ module _ (image : Image) (wf : IsWellFormed image) (i : ℕ) (reached : IsReache
       ∙ ways_with (empty_slot image i) (record { tree = 0; from = size_of image 0; to = size_of image 0 + 4096 } ∷ []) []
   enter_targets linked = ap (λ (p : WordPath). p ∷ flat_map (end_targets image) (new_entry image i (empty_slot image i) ++ []) ++ []) (entered_cover linked) ∙ ways_with (empty_slot image i) [] []
 
-  -- those of the entry are told by a name more of a file
+  -- those of the entry are stated by a name more of a file
   pub more_targets : (e : Entrant) → targets image (enters i linked) ++ entrant_ways image e ≡ targets image (enters i e)
   more_targets e = ap (λ (ps : List WordPath). ps ++ entrant_ways image e) (enter_targets linked ∙ append-nil (entry_ways image i (empty_slot image i))) ∙ sym (enter_targets e)
 
@@ -102,10 +102,10 @@ module _ (image : Image) (wf : IsWellFormed image) (i : ℕ) (reached : IsReache
   entrant_are grown inside path (inr (inr never)) = absurd never
   entrant_are linked inside path never = absurd never
 
-  either_are : (front rest : List WordPath) → ((path : WordPath) → Has front path → IsWayIn image path) → ((path : WordPath) → Has rest path → IsWayIn image path) → (path : WordPath) → Has (front ++ rest) path → IsWayIn image path
+  either_are : (prefix rest : List WordPath) → ((path : WordPath) → Has prefix path → IsWayIn image path) → ((path : WordPath) → Has rest path → IsWayIn image path) → (path : WordPath) → Has (prefix ++ rest) path → IsWayIn image path
   either_are [] rest one two path has = two path has
-  either_are (p ∷ front) rest one two path (inl e) = one path (inl e)
-  either_are (p ∷ front) rest one two path (inr later) = either_are front rest (λ q has. one q (inr has)) two path later
+  either_are (p ∷ prefix) rest one two path (inl e) = one path (inl e)
+  either_are (p ∷ prefix) rest one two path (inr later) = either_are prefix rest (λ q has. one q (inr has)) two path later
 
   pub enter_ways : (e : Entrant) → IsEntrant image e → (path : WordPath) → Has (targets image (enters i e)) path → IsWayIn image path
   enter_ways e inside path has =
@@ -119,10 +119,10 @@ module _ (image : Image) (wf : IsWellFormed image) (i : ℕ) (reached : IsReache
 
     in_entry : (found : Option ℕ) → empty_slot image i ≡ found → (path : WordPath) → Has (entry_ways image i found) path → Has (targets image (enters i e)) path
     in_entry found is path has =
-        among path (has-front (entry_ways image i (empty_slot image i)) (entrant_ways image e) path (subst (λ (o : Option ℕ). Has (entry_ways image i o) path) (sym is) has))
+        among path (has-prefix (entry_ways image i (empty_slot image i)) (entrant_ways image e) path (subst (λ (o : Option ℕ). Has (entry_ways image i o) path) (sym is) has))
 
     in_entrant : (path : WordPath) → Has (entrant_ways image e) path → Has (targets image (enters i e)) path
-    in_entrant path has = among path (has-behind (entry_ways image i (empty_slot image i)) (entrant_ways image e) path has)
+    in_entrant path has = among path (has-after (entry_ways image i (empty_slot image i)) (entrant_ways image e) path has)
 
     slot_loose : (s : ℕ) → empty_slot image i ≡ Some s → HasLooseWord image in_snapshot i (32 * s + 0)
     slot_loose s found place stands =
@@ -135,13 +135,13 @@ module _ (image : Image) (wf : IsWellFormed image) (i : ℕ) (reached : IsReache
         (live_above _ _ (height_of (root_of image i)) (32 * s + 0) (live_content (root_of image i) (size_of image i) (32 * s + 0) (omega (arith, low)))) stands.present
         (loose-on image in_snapshot (targets image (enters i e)) clear way has (length way - 1)))
 
-    behind_loose : empty_slot image i ≡ None → HasLooseEnd image in_snapshot i
-    behind_loose none =
+    past_end_loose : empty_slot image i ≡ None → HasLooseEnd image in_snapshot i
+    past_end_loose none =
         loose_end image wf in_snapshot i reached
         (loose-on image in_snapshot (targets image (enters i e)) clear (end_path_now image i) (in_entry None none (end_path_now image i) (inr (inr (inl refl)))) (length (root_path_now image i) - 1))
 
     pub entry_loose : HasLooseEntry image in_snapshot i
-    entry_loose = record { slot = slot_loose; behind = behind_loose }
+    entry_loose = record { slot = slot_loose; past_end = past_end_loose }
 
     pub inode_loose : (j : ℕ) → e ≡ taken j → j < inode_count image → HasLooseWord image in_snapshot 0 (8 * j + 0)
     inode_loose j is inside place stands =

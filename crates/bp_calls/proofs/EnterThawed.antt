@@ -1,4 +1,4 @@
--- A name that comes in behind a thaw takes the inode that it took before.
+-- A name that comes in after a thaw takes the inode that it took before.
 use Rattle.std.proofs.Common.{ℕ, ◌/◌, ◌<◌, Option, None, Some, sym, subst}
 use Rattle.bp_changes.specs.Thawed.{SameShape}
 use Rattle.bp_changes.proofs.ReachedOn.{reached_on}
@@ -9,7 +9,7 @@ use Rattle.bp_layout.specs.Reached.IsReached.{inode_file}
 use Rattle.bp_layout.specs.WellFormed.{IsWellFormed}
 use Rattle.bp_layout.specs.Words.{Image}
 
--- an inode that is free before is free behind it
+-- an inode that is free before is free after it
 free_on : (old new : Image) → IsWellFormed old → SameShape old new → (j : ℕ) → IsFreeInode old j → IsFreeInode new j
 free_on old new wf shape j free = record {
   low = free.low;

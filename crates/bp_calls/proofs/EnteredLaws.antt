@@ -38,7 +38,7 @@ not_named image wf i name reached none r k n same =
     let clash : ◌≡◌ {A = Option ℕ} None (Some k) = sym nothing ∙ found in
     absurd (cc)
 
--- a name is the same where the words behind the inumber are
+-- a name is the same where the words after the inumber are
 pub name_same : (old new : Image) (r q s : ℕ) → length (name_in old r s) ≤ 240 → ((f : ℕ) → 1 ≤ f → f < 32 → word_in new q s f ≡ word_in old r s f) →
     name_in new q s ≡ name_in old r s
 name_same old new r q s few same =

@@ -130,6 +130,6 @@ module _ (old mid new : Image) (wf : IsWellFormed old) (same : SameMeaning old m
       here = reached-back old mid wf same i enters.adds.reached
 
       was : IsFreeInode mid enters.inode ⊎ (inode_count mid ≤ enters.inode) → (enters.inode < inode_count old) ⊎ (inode_count old ≤ enters.inode) → IsFreeInode old enters.inode ⊎ (inode_count old ≤ enters.inode)
-      was before (inr behind) = inr behind
+      was before (inr past_end) = inr past_end
       was (inl free) (inl low) = inl (record { low = free.low; high = low; free = λ reached. free.free (on enters.inode reached) })
       was (inr far) (inl low) = absurd (let more : size_of old 0 ≤ size_of mid 0 = same.inodes in omega (arith, low, far, more))

@@ -1,4 +1,4 @@
--- The bytes of an entry that stand behind a size read back as its inumber and its name.
+-- The bytes of an entry that stand after a size read back as its inumber and its name.
 use Rattle.std.proofs.Common.{◌≡◌, ℕ, ◌+◌, ◌-◌, ◌*◌, ◌/◌, ◌%◌, ◌^◌, ◌<◌, ◌≤◌, List, length, get_or, slice_index, refl, sym, ◌∙◌, ap, arith, le-ltb, lt-ltb}
 use Rattle.bp_append.specs.Given.{given}
 use Rattle.bp_append.proofs.LaidLaws.{given-there}
@@ -6,7 +6,7 @@ use Rattle.bp_layout.specs.Directory.{inumber_in, name_in, word_in}
 use Rattle.bp_layout.specs.Paths.{Name}
 use Rattle.bp_layout.specs.Tree.{byte, content_word}
 use Rattle.bp_layout.specs.Words.{Image, byte_of}
-use Rattle.bp_layout.proofs.NameBytes.{map-tells}
+use Rattle.bp_layout.proofs.NameBytes.{map-equal}
 use Rattle.pm_words.specs.Bytes.{word_bytes, word_of}
 use Rattle.pm_words.proofs.Bytes.{word_of_bytes}
 use Rattle.bp_calls.specs.Entries.{AreEntryBytes, entry_byte}
@@ -60,7 +60,7 @@ module _ (image : Image) (root size j : ℕ) (name : Name) (bytes : List ℕ) (e
   name_read_back short is =
       let at : 32 * (size / 256) + 1 ≡ size / 8 + 1 = omega (arith, entries) in
       let count : word_in image root (size / 256) 1 ≡ length name = rw at is in
-      rw count (map-tells (λ o. byte image root (256 * (size / 256) + 16 + o)) name one)
+      rw count (map-equal (λ o. byte image root (256 * (size / 256) + 16 + o)) name one)
     where
       one : (o : ℕ) → o < length name → byte image root (256 * (size / 256) + 16 + o) ≡ get_or name o 0
       one o low =

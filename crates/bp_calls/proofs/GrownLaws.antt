@@ -1,4 +1,4 @@
--- The size of a directory grows over an entry that stands ready behind it: the directory gains the name.
+-- The size of a directory grows over an entry that stands ready after it: the directory gains the name.
 use Rattle.std.proofs.Common.{◌≡◌, ◌≢◌, ◌⊎◌, ℕ, zero, suc, ◌+◌, ◌*◌, ◌/◌, ◌%◌, ◌<◌, ◌≤◌, length, set, None, refl, sym, ◌∙◌, ap, subst, subst₂, suc-ne-zero, arith, inl, inr, get_or-set_other}
 use Rattle.bp_changes.proofs.Formatted.{low_stays}
 use Rattle.bp_layout.specs.Formatted.{version_of}
@@ -19,12 +19,12 @@ use Rattle.bp_changes.proofs.Separation.{stands_in_block}
 use Rattle.bp_changes.proofs.ContentStore.{word-stored, word-elsewhere}
 use Rattle.bp_changes.specs.Effects.{IsNewEntry}
 use Rattle.bp_changes.proofs.GainsEntry.{GainsEntry, gains_adds, gains_links, takes_inode}
-use Rattle.bp_calls.specs.Entered.{IsNewInode, IsReadyBehind}
+use Rattle.bp_calls.specs.Entered.{IsNewInode, IsReadyPastEnd}
 use Rattle.bp_calls.proofs.EnteredLaws.{Enters, EntersLink, not_named, name_same, directory_inode, file_inode}
 
 -- ---- a store of the greater size
 
-module _ (old : Image) (wf : IsWellFormed old) (n j place : ℕ) (name : Name) (ready : IsReadyBehind old (suc n) j name) (stands : ContentStandsAt old 0 (8 * suc n + 2) place) where
+module _ (old : Image) (wf : IsWellFormed old) (n j place : ℕ) (name : Name) (ready : IsReadyPastEnd old (suc n) j name) (stands : ContentStandsAt old 0 (8 * suc n + 2) place) where
   abbrev new : Image
   new = set old place (size_of old (suc n) + 256)
 
@@ -334,17 +334,17 @@ module _ (old : Image) (wf : IsWellFormed old) (n j place : ℕ) (name : Name) (
 
 -- ---- the same of any directory
 
-pub grown : (old : Image) → IsWellFormed old → (i j kind place : ℕ) (name : Name) → IsNewInode old j kind → IsReadyBehind old i j name → IsName name → slot_named old i name ≡ None →
+pub grown : (old : Image) → IsWellFormed old → (i j kind place : ℕ) (name : Name) → IsNewInode old j kind → IsReadyPastEnd old i j name → IsName name → slot_named old i name ≡ None →
     ContentStandsAt old 0 (8 * i + 2) place → Enters old (set old place (size_of old i + 256)) i (size_of old i / 256) j name kind
 grown old wf zero j kind place name fresh ready form missing stands = absurd (directory_inode old 0 ready.directory refl)
 grown old wf (suc n) j kind place name fresh ready form missing stands = grown_suc old wf n j place name ready stands form missing kind fresh
 
-pub grown_links : (old : Image) → IsWellFormed old → (i j place : ℕ) (name : Name) → IsReached old j → kind_of old j ≡ 1 → IsReadyBehind old i j name → IsName name → slot_named old i name ≡ None →
+pub grown_links : (old : Image) → IsWellFormed old → (i j place : ℕ) (name : Name) → IsReached old j → kind_of old j ≡ 1 → IsReadyPastEnd old i j name → IsName name → slot_named old i name ≡ None →
     ContentStandsAt old 0 (8 * i + 2) place → EntersLink old (set old place (size_of old i + 256)) i (size_of old i / 256) j name
 grown_links old wf zero j place name there file ready form missing stands = absurd (directory_inode old 0 ready.directory refl)
 grown_links old wf (suc n) j place name there file ready form missing stands = grown_links_suc old wf n j place name ready stands form missing there file
 
-pub grown_file : (old : Image) → IsWellFormed old → (i j place : ℕ) (name : Name) → IsReadyBehind old i j name → ContentStandsAt old 0 (8 * i + 2) place →
+pub grown_file : (old : Image) → IsWellFormed old → (i j place : ℕ) (name : Name) → IsReadyPastEnd old i j name → ContentStandsAt old 0 (8 * i + 2) place →
     size_of (set old place (size_of old i + 256)) 0 ≡ size_of old 0
 grown_file old wf zero j place name ready stands = absurd (directory_inode old 0 ready.directory refl)
 grown_file old wf (suc n) j place name ready stands = superblock old wf n j place name ready stands 3 (omega arith)
@@ -356,7 +356,7 @@ pub record GrowsBlocks (old new : Image) (i : ℕ) : Type 0 where
   pub stay : (t b : ℕ) → IsReached old t → t ≢ i → HasBlock old (root_of old t) (size_of old t) b → HasBlock new (root_of new t) (size_of new t) b
   pub here : (b : ℕ) → HasBlock old (root_of old i) (size_of old i + 256) b → HasBlock new (root_of new i) (size_of new i) b
 
-pub grown_blocks : (old : Image) → IsWellFormed old → (i j place : ℕ) (name : Name) → IsReadyBehind old i j name → ContentStandsAt old 0 (8 * i + 2) place →
+pub grown_blocks : (old : Image) → IsWellFormed old → (i j place : ℕ) (name : Name) → IsReadyPastEnd old i j name → ContentStandsAt old 0 (8 * i + 2) place →
     GrowsBlocks old (set old place (size_of old i + 256)) i
 grown_blocks old wf zero j place name ready stands = absurd (directory_inode old 0 ready.directory refl)
 grown_blocks old wf (suc n) j place name ready stands = record {

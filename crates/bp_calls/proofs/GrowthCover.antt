@@ -17,7 +17,7 @@ use Rattle.bp_calls.specs.Growth.{AddsInodes, growth_need}
 use Rattle.bp_calls.proofs.GrowthLaws.{longer_empty_slot, longer_kind, longer_node, longer_reached, longer_size, longer_well_formed}
 use Rattle.bp_calls.proofs.GrowthNodes.{nodes_same}
 use Rattle.bp_calls.proofs.GrowthNeed.{growing_copies, growing_size, growing_slot}
-use Rattle.bp_calls.proofs.NeedLaws.{cover_behind, cover_in_slot, none_copied}
+use Rattle.bp_calls.proofs.NeedLaws.{cover_past_end, cover_in_slot, none_copied}
 
 module _ (old new : Image) (taken : List ℕ) (wf : IsWellFormed old) (adds : AddsInodes old new taken) (n : ℕ) (reached : IsReached old (suc n)) (kind : kind_of old (suc n) ≡ 2) where
   abbrev i : ℕ
@@ -53,7 +53,7 @@ module _ (old new : Image) (taken : List ℕ) (wf : IsWellFormed old) (adds : Ad
       ∙ sym (cover_in_slot new i wf_new reached_new kind_new s (slot_same ∙ found))
 
   size_cover : empty_slot old i ≡ None → cover old (enters i grown) ≡ cover new (enters i linked)
-  size_cover none = growing_size old wf n reached kind none ∙ ap (λ h. inode_path h i 2) (sym high) ∙ sym (cover_behind new i wf_new reached_new kind_new (slot_same ∙ none))
+  size_cover none = growing_size old wf n reached kind none ∙ ap (λ h. inode_path h i 2) (sym high) ∙ sym (cover_past_end new i wf_new reached_new kind_new (slot_same ∙ none))
 
   pub longer_cover : cover old (enters i grown) ≡ cover new (enters i linked)
   longer_cover = go (empty_slot old i) refl

@@ -1,4 +1,4 @@
--- The size of the inode file is stored behind the preparation of one more leaf: what that makes of the image.
+-- The size of the inode file is stored after the preparation of one more leaf: what that makes of the image.
 use Rattle.std.proofs.Common.{◌≡◌, ◌≢◌, ℕ, zero, suc, ◌+◌, ◌-◌, ◌*◌, ◌/◌, ◌%◌, ◌<◌, List, [], refl, sym, ◌∙◌, ap, subst, set, get_or-set_same, get_or-set_other, inl, arith, suc-ne-zero, ◌≤◌}
 use Rattle.bp_changes.proofs.Formatted.{low_stays}
 use Rattle.bp_layout.specs.Formatted.{version_of}
@@ -59,7 +59,7 @@ module _ (image : Image) (value : ℕ) where
   size_stays : (i : ℕ) → size_of longer (suc i) ≡ size_of image (suc i)
   size_stays i = inode_stays (suc i) 2
 
--- ---- behind the preparation
+-- ---- after the preparation
 
 module _ (old mid : Image) (taken : List ℕ) (wf : IsWellFormed old) (ready : Prepares old mid 0 (size_of old 0) (size_of old 0 + block_size) [] taken) where
   abbrev end : ℕ

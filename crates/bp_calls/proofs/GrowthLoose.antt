@@ -40,7 +40,7 @@ module _ (old new : Image) (taken : List ℕ) (wf : IsWellFormed old) (adds : Ad
 
   -- ---- the new leaf
 
-  module _ (leaf : ℕ) (behind : size_of old 0 ≤ 4096 * leaf) (below : 4096 * leaf < size_of new 0) where
+  module _ (leaf : ℕ) (past_end : size_of old 0 ≤ 4096 * leaf) (below : 4096 * leaf < size_of new 0) where
     abbrev here : ℕ
     here = node new (root_of new 0) high leaf
 
@@ -63,7 +63,7 @@ module _ (old new : Image) (taken : List ℕ) (wf : IsWellFormed old) (adds : Ad
         let same = (wf_new.sound 0 inode_file).once depth was.index high leaf also live (λ none. present (sym stays ∙ none)) stays in
         let level : was.pointer.level ≡ 0 = omega (arith, same.0, was.pointer.height, rises) in
         let less : was.index * span 0 < size_of old 0 = subst (λ l. was.index * span l < size_of old 0) level was.pointer.live in
-        omega (arith, less, same.1, behind)
+        omega (arith, less, same.1, past_end)
 
     pub new_leaf_loose : in_snapshot here ≡ false
     new_leaf_loose = elim (adds.blocks here (record { depth = high; index = leaf; pointer = live; named = refl; not_null = present })) [
@@ -73,10 +73,10 @@ module _ (old new : Image) (taken : List ℕ) (wf : IsWellFormed old) (adds : Ad
 
   -- so an inode that the file got is in a block that is not in the snapshot
   pub new_inode_loose : (j : ℕ) → inode_count old ≤ j → j < inode_count new → HasLooseWord new in_snapshot 0 (8 * j + 0)
-  new_inode_loose j behind below place stands =
+  new_inode_loose j past_end below place stands =
       let whole : size_of old 0 % 4096 ≡ 0 = wf.inode_blocks in
       let leaf : node new (root_of new 0) high ((8 * j + 0) / 512) ≡ place / 512 = omega (arith, stands.at) in
-      subst (λ b. in_snapshot b ≡ false) leaf (new_leaf_loose ((8 * j + 0) / 512) (omega (arith, behind, whole)) (omega (arith, below)))
+      subst (λ b. in_snapshot b ≡ false) leaf (new_leaf_loose ((8 * j + 0) / 512) (omega (arith, past_end, whole)) (omega (arith, below)))
 
   -- ---- a directory
 
@@ -113,4 +113,4 @@ module _ (old new : Image) (taken : List ℕ) (wf : IsWellFormed old) (adds : Ad
       end_on = record { nodes = nodes_on; root = root_on }
 
     pub loose_entry_on : HasLooseEntry new in_snapshot i
-    loose_entry_on = record { slot = slot_on; behind = λ none. end_on (loose.behind (sym same_slot ∙ none)) }
+    loose_entry_on = record { slot = slot_on; past_end = λ none. end_on (loose.past_end (sym same_slot ∙ none)) }

@@ -49,7 +49,7 @@ growth_need_is image =
     ap length (append-nil (prepared_for image (record { tree = 0; from = size_of image 0; to = size_of image 0 + block_size })))
     ∙ length-map (nodes_for image (root_of image 0) (size_of image 0) (size_of image 0) (size_of image 0 + block_size)) _
 
--- the new leaf is one leaf behind the size
+-- the new leaf is one leaf after the size
 one_leaf : (size : ℕ) → size % 4096 ≡ 0 → is_one_leaf size size (size + block_size) ≡ true
 one_leaf size whole = rw (eq-eqb size size refl, le-leb (size + 4096) (size / 4096 * 4096 + 4096) (omega (arith, whole))) refl
 
@@ -93,7 +93,7 @@ module _ {in_snapshot : ℕ → Bool} (old middle new : Memory) (free_old free_n
     takes = record { once = tt; free = tt; stored = tt; only = (at_size refl, tt) };
   }
 
-  -- ---- behind the preparation
+  -- ---- after the preparation
 
   live_cases : (t b : ℕ) → IsReached image t → HasBlock mid (root_of mid t) (size_of mid t) b → (t ≡ 0) ⊎ (t ≡ 0 → ⊥) → IsLiveBlock image b ⊎ Has prepared.taken b
   live_cases t b reached has (inl e) =
@@ -123,5 +123,5 @@ module _ {in_snapshot : ℕ → Bool} (old middle new : Memory) (free_old free_n
   }
 
 -- the room that a growth leaves
-pub room_behind_growth : {in_snapshot : ℕ → Bool} (old new : Memory) (done : GrowsInodes in_snapshot old new) → room_in old ≤ room_in new + (3 + growth_stores (length done.taken))
-room_behind_growth old new done = room_in-piece 3 (growth_stores (length done.taken)) old new done.adds.part.added done.adds.part.adds done.adds.part.piece
+pub room_after_growth : {in_snapshot : ℕ → Bool} (old new : Memory) (done : GrowsInodes in_snapshot old new) → room_in old ≤ room_in new + (3 + growth_stores (length done.taken))
+room_after_growth old new done = room_in-piece 3 (growth_stores (length done.taken)) old new done.adds.part.added done.adds.part.adds done.adds.part.piece

@@ -1,10 +1,10 @@
--- The nodes that are there once the inode file has one more leaf: those of its tree, and those that are made over and behind it.
+-- The nodes that are there once the inode file has one more leaf: those of its tree, and those that are made over and after it.
 use Rattle.std.proofs.Common.{◌≡◌, ◌≢◌, ◌⊎◌, ℕ, suc, ◌+◌, ◌-◌, ◌*◌, ◌/◌, ◌<◌, ◌≤◌, List, [], ◌∷◌, ◌++◌, map, filter, flat_map, Bool, true, not, ◌||◌, nat_le, nat_lt, if◌then◌else◌, refl, sym, ◌∙◌, ap, subst, inl, inr, arith}
 use Rattle.std.specs.List.{range_with_len, list_any}
 use Rattle.std.proofs.Math.Nat.{div-eq_of_lt}
 use Rattle.std.proofs.lemmas.Bool.{cases_lt, eq-eqb, le-leb, le-ltb, lt-leb, lt-ltb, ne_eqb, or_left, or_right}
 use Rattle.std.proofs.lemmas.List.Elements.{filter_agree}
-use Rattle.bp_layout.proofs.MemberLaws.{has-behind, has-filter, has-flat_map, has-front, has-map, has-range}
+use Rattle.bp_layout.proofs.MemberLaws.{has-after, has-filter, has-flat_map, has-prefix, has-map, has-range}
 use Rattle.bp_layout.specs.Words.{Image, block_of, height_of}
 use Rattle.bp_layout.specs.Tree.{node, span, IsLivePointer}
 use Rattle.bp_layout.specs.Inode.{root_of, size_of}
@@ -43,9 +43,9 @@ module _ (image : Image) (root size to : ℕ) (some : 0 < size) (more : size < t
   raised = rw (lt-ltb 0 size some, ne_eqb (block_of root) 0 top) refl
 
   module _ (level : ℕ) (over : height_of root < level) (within : level ≤ heights) where
-    -- it covers the first byte behind the size
-    behind : size < span level → Has (flat_map (nodes_over size to) (range_with_len 0 (suc heights))) (Node level 0)
-    behind low =
+    -- it covers the first byte after the size
+    past_end : size < span level → Has (flat_map (nodes_over size to) (range_with_len 0 (suc heights))) (Node level 0)
+    past_end low =
         let first : size / span level ≡ 0 = div-eq_of_lt low in
         has-flat_map (nodes_over size to) (range_with_len 0 (suc heights)) level (Node level 0) (has-range 0 (suc heights) level (omega arith) (omega (arith, within)))
         (inl (ap (Node level) first))
@@ -59,10 +59,10 @@ module _ (image : Image) (root size to : ℕ) (some : 0 < size) (more : size < t
         go : (size < span level) ⊎ (span level ≤ size) →
             Has (filter absent (flat_map (nodes_over size to) (range_with_len 0 (suc heights))) ++ filter (λ n. nat_le (span n.level) size) (raised_nodes root size to)) (Node level 0)
         go (inl low) =
-            has-front (filter absent (flat_map (nodes_over size to) (range_with_len 0 (suc heights)))) (filter (λ n. nat_le (span n.level) size) (raised_nodes root size to)) (Node level 0)
-            (has-filter absent (flat_map (nodes_over size to) (range_with_len 0 (suc heights))) (Node level 0) (behind low) passes)
+            has-prefix (filter absent (flat_map (nodes_over size to) (range_with_len 0 (suc heights)))) (filter (λ n. nat_le (span n.level) size) (raised_nodes root size to)) (Node level 0)
+            (has-filter absent (flat_map (nodes_over size to) (range_with_len 0 (suc heights))) (Node level 0) (past_end low) passes)
         go (inr past) =
-            has-behind (filter absent (flat_map (nodes_over size to) (range_with_len 0 (suc heights)))) (filter (λ n. nat_le (span n.level) size) (raised_nodes root size to)) (Node level 0)
+            has-after (filter absent (flat_map (nodes_over size to) (range_with_len 0 (suc heights)))) (filter (λ n. nat_le (span n.level) size) (raised_nodes root size to)) (Node level 0)
             (has-filter (λ n. nat_le (span n.level) size) (raised_nodes root size to) (Node level 0)
             (subst (λ xs. Has xs (Node level 0)) (sym raised)
             (has-map (λ level. Node level 0) (range_with_len (suc (height_of root)) (heights - height_of root)) level (has-range (suc (height_of root)) (heights - height_of root) level over (omega (arith, within, over)))))
@@ -75,7 +75,7 @@ grown_there image i level wf top over within =
     or_right (is_present image (root_of image 0) (size_of image 0) (record { level = level; index = 0 }) || list_any (same_node (0, record { level = level; index = 0 })) (preparation image (enters i grown)))
     (list_any (same_node (0, record { level = level; index = 0 })) (growth image (enters i grown)))
     (any_has (0, record { level = level; index = 0 }) (growth image (enters i grown))
-    (has-front (prepared_for image (record { tree = 0; from = size_of image 0; to = size_of image 0 + block_size })) [] (0, record { level = level; index = 0 })
+    (has-prefix (prepared_for image (record { tree = 0; from = size_of image 0; to = size_of image 0 + block_size })) [] (0, record { level = level; index = 0 })
     (has-map (λ n. (0, n)) (nodes_for image (root_of image 0) (size_of image 0) (size_of image 0) (size_of image 0 + block_size)) (record { level = level; index = 0 })
     (made_over image (root_of image 0) (size_of image 0) (size_of image 0 + block_size) (omega (arith, wf.some_inodes)) (omega arith) top level over within))))
 

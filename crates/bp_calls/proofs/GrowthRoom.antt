@@ -5,7 +5,7 @@ use Rattle.bp_limits.proofs.Versions.{size_least}
 use Rattle.bp_layout.specs.Formatted.{version_of}
 use Rattle.std.proofs.lemmas.List.{length-append}
 use Rattle.bp_append.specs.Prepared.{CanPrepare, PreparesWith}
-use Rattle.bp_append.proofs.StoresLaws.{behind_whole, room_behind_whole}
+use Rattle.bp_append.proofs.StoresLaws.{past_end_whole, room_past_end_whole}
 use Rattle.bp_layout.proofs.FewLeaves.{few_leaves}
 use Rattle.bp_free.specs.Set.{Set, Fills, members}
 use Rattle.bp_layout.specs.Inode.{root_of, size_of}
@@ -44,7 +44,7 @@ can_prepare old blocks inodes can = record {
   well = can.well_formed;
   reached = inode_file;
   leads = refl;
-  behind = omega arith;
+  past_end = omega arith;
   order = omega arith;
   fits = le_trans (inodes_end_fits (current_words old) can.well_formed) (size_least (version_of (current_words old)));
   by_words = λ by. refl;
@@ -53,7 +53,7 @@ can_prepare old blocks inodes can = record {
   loose = can.loose;
   enough = omega (arith, can.enough, growth_need_is (current_words old));
   room = preparation_room _ _ _ _ (growth_need_is (current_words old))
-      (room_behind_whole (size_of (current_words old) 0) (size_of (current_words old) 0) (size_of (current_words old) 0 + block_size) max_height) can.room;
+      (room_past_end_whole (size_of (current_words old) 0) (size_of (current_words old) 0) (size_of (current_words old) 0 + block_size) max_height) can.room;
 }
 
 -- ---- the parts of the growth, by the path and the size that are read
@@ -79,25 +79,25 @@ module _ {in_snapshot : ℕ → Bool} (old : Memory) (blocks inodes : Set) (path
     -- for the store of the size and its barrier
     pub room_prepared : 2 ≤ room_in middle
     room_prepared =
-        let stores = behind_whole (size_of (current_words old) 0) (size_of (current_words old) 0) (size_of (current_words old) 0 + block_size) max_height in
+        let stores = past_end_whole (size_of (current_words old) 0) (size_of (current_words old) 0) (size_of (current_words old) 0 + block_size) max_height in
         let left = room_in-piece _ _ old middle prepared.adds.part.added prepared.adds.part.adds prepared.adds.part.piece in
         enough _ _ _ _ left stores (rw (growth_need_is (current_words old)) at can.room)
       where
-        enough : (needed behind room left : ℕ) → room ≤ left + (2 + (512 * needed + behind + 2)) → behind ≤ 512 * suc max_height → room_for needed ≤ room + 2 → 2 ≤ left
-        enough needed behind room left a b c = omega (arith, a, b, c)
+        enough : (needed past_end room left : ℕ) → room ≤ left + (2 + (512 * needed + past_end + 2)) → past_end ≤ 512 * suc max_height → room_for needed ≤ room + 2 → 2 ≤ left
+        enough needed past_end room left a b c = omega (arith, a, b, c)
 
     module _ (new : Memory) (stored : Adds middle new (Store super_size (size + block_size) ∷ Barrier ∷ [])) where
       pub grew : GrowsInodes in_snapshot old new
       grew = grows old middle new (members blocks) (members after) can.well_formed prepared (subst (λ s. Adds middle new (Store super_size (s + block_size) ∷ Barrier ∷ [])) is stored)
 
       module _ (filled : Set) (room : length after ≡ length blocks) (fills : Fills (size / inode_size) ((size + block_size) / inode_size) inodes filled) where
-        pub exact_behind : AreExact (current_words new) in_snapshot after filled
-        exact_behind =
+        pub exact_after : AreExact (current_words new) in_snapshot after filled
+        exact_after =
             exact_grown (current_words old) (current_words new) prepared.taken can.well_formed grown_here blocks after inodes filled can.exact prepared.takes room
             (subst (λ s. Fills (s / inode_size) ((s + block_size) / inode_size) inodes filled) is fills)
           where
             grown_here : AddsInodes (current_words old) (current_words new) prepared.taken
             grown_here = grown old middle new (members blocks) (members after) can.well_formed prepared (subst (λ s. Adds middle new (Store super_size (s + block_size) ∷ Barrier ∷ [])) is stored)
 
-    pub left_behind : length (members blocks) ≡ growth_need (current_words old) + length (members after)
-    left_behind = omega (arith, ap length prepared.takes ∙ length-append prepared.taken (members after), prepared.counted, growth_need_is (current_words old))
+    pub left_after : length (members blocks) ≡ growth_need (current_words old) + length (members after)
+    left_after = omega (arith, ap length prepared.takes ∙ length-append prepared.taken (members after), prepared.counted, growth_need_is (current_words old))

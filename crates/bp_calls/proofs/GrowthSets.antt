@@ -1,7 +1,7 @@
 -- The sets of free numbers stay exact where the inode file gets one more leaf: its blocks are taken, and its inodes are free.
 use Rattle.std.proofs.Common.{◌≡◌, ◌⊎◌, ℕ, Bool, ◌+◌, ◌/◌, ◌<◌, ◌≤◌, List, ◌∷◌, ◌++◌, length, true, sym, ◌∙◌, inl, inr, subst, arith}
 use Rattle.std.proofs.lemmas.Bool.{cases_lt}
-use Rattle.bp_layout.proofs.MemberLaws.{has-behind}
+use Rattle.bp_layout.proofs.MemberLaws.{has-after}
 use Rattle.bp_append.proofs.FillLaws.{apart_parts}
 use Rattle.bp_free.specs.Set.{Set, Fills, has, members}
 use Rattle.bp_layout.specs.Words.{Image}
@@ -26,7 +26,7 @@ module _ {in_snapshot : ℕ → Bool} (old new : Image) (taken : List ℕ) (wf :
 
   free_now : (b : ℕ) → has after b ≡ true → IsFreeBlock new in_snapshot b
   free_now b is =
-      let there : Has (members blocks) b = subst (λ bs. Has bs b) (sym takes) (has-behind taken (members after) b (in_members after b is)) in
+      let there : Has (members blocks) b = subst (λ bs. Has bs b) (sym takes) (has-after taken (members after) b (in_members after b is)) in
       let free : IsFreeBlock old in_snapshot b = exact.free_blocks.free b (of_members blocks b there) in
       record {
         low = free.low;

@@ -6,7 +6,7 @@ use Rattle.bp_layout.specs.Need.Change.{enters as gains}
 use Rattle.bp_layout.specs.Need.Entrant.{taken}
 use Rattle.bp_changes.proofs.AddsNames.{reached_stays}
 use Rattle.bp_commit.specs.Performs.{IsOpen, PerformsWithin}
-use Rattle.bp_calls.specs.Growth.{stores_behind_growth}
+use Rattle.bp_calls.specs.Growth.{stores_after_growth}
 use Rattle.bp_layout.specs.Free.{IsFreeInode}
 use Rattle.bp_calls.proofs.OpenPlaces.{content_open}
 use Rattle.bp_calls.proofs.EnteredOver.{adds_over, enters_well_formed, enters_over}
@@ -149,7 +149,7 @@ module _ (in_snapshot : ℕ → Bool) (first second third last : Memory) (i s j 
       subst (λ w. EntersName i name kind image w) (sym committed)
       (enters_over image mid (set mid entry j) wf trees.prepared.meaning i s j name kind can.free (slot_is first third last i s j entry 34 name can.lacks found entry_at loose all_hidden named commits) enters)
 
-  pub slot_performs : PerformsWithin in_snapshot (name_need image i) 5 (stores_behind_growth (name_need image i)) first last (gains i (taken j)) (EntersName i name kind)
+  pub slot_performs : PerformsWithin in_snapshot (name_need image i) 5 (stores_after_growth (name_need image i)) first last (gains i (taken j)) (EntersName i name kind)
   slot_performs =
       slot_within first third last i s j entry 34 name can.lacks found entry_at loose all_hidden named commits (gains i (taken j)) (EntersName i name kind) (omega arith) refl refl
       (enters_well_formed mid (set mid entry j) mid_well_formed i s j (kind_word kind) name enters) (reached_stays mid (set mid entry j) mid_well_formed i s j enters.adds i ready.reached) effect

@@ -40,7 +40,7 @@ module _ (image : Image) (wf : IsWellFormed image) (n offset len : ℕ) (lies : 
       let copies : length (copied image change) ≡ 0 = ap length (copied-one image change (content_path image change (suc n) (offset / 8)) one whole) in
       omega (arith, made, copies)
 
--- told of any number
+-- stated of any number
 pub none_writing : (image : Image) → IsWellFormed image → (i offset len : ℕ) → LiesInWord image i offset len → need image (writes i offset len) ≡ 0
 none_writing image wf zero offset len lies = absurd (omega (arith, lies.file))
 none_writing image wf (suc n) offset len lies = none_written image wf n offset len lies

@@ -6,7 +6,7 @@ use Rattle.bp_limits.specs.Limits.{block_inodes, max_blocks}
 use Rattle.bp_calls.specs.Commits.{CommitsChange}
 use Rattle.bp_calls.specs.GivenBack.{GivesBack}
 use Rattle.bp_calls.proofs.CountLaws.{exact_with}
-use Rattle.bp_calls.proofs.GivenUpLaws.{gives_as}
+use Rattle.bp_calls.proofs.TruncatedLaws.{gives_as}
 use Rattle.bp_calls.proofs.OpenPlaces.{content_address, content_live, root_word_stays, stands_stored}
 use Rattle.bp_calls.proofs.ReadingLaws.{few_inode}
 use Rattle.bp_calls.proofs.Shorter.{CanGiveBack}
@@ -34,7 +34,7 @@ use Rattle.bp_layout.specs.Words.{Image, block_count, height_of}
 use Rattle.bp_layout.proofs.Reached.{reached-in_file}
 use Rattle.bp_layout.proofs.SameLaws.{same_self}
 use Rattle.bp_layout.proofs.TreeLaws.{KeepsPointers, has_block-kept, has_block-stays, sound-kept}
-use Rattle.bp_shapes.specs.Freed.{IsGivenUp}
+use Rattle.bp_shapes.specs.Freed.{IsTruncated}
 use Rattle.bp_shapes.specs.Sets.{AreExact, IsExact, in_snapshot_of}
 use Rattle.bp_shapes.proofs.Freed.{freed_blocks, remove_frees, removed_inode}
 use Rattle.bp_commit.specs.Performs.{PerformsThawed}
@@ -146,10 +146,10 @@ module _ {image : Image} {i s j place : ℕ} (can : CanLeave image i s j place) 
   keeps : KeepsPointers image last root size
   keeps = pointers_stay image wf i (32 * s + 0) place 0 reached not_file below can.stands j named_reached
 
-  gone_back : (b : ℕ) → IsGivenUp last root size 0 b → HasBlock image root size b
+  gone_back : (b : ℕ) → IsTruncated last root size 0 b → HasBlock image root size b
   gone_back b gone = has_block-kept image last root size keeps b gone.has
 
-  gone_on : (b : ℕ) → HasBlock image root size b → IsGivenUp last root size 0 b
+  gone_on : (b : ℕ) → HasBlock image root size b → IsTruncated last root size 0 b
   gone_on b has = record { has = has_block-stays image last root size keeps b has; past = omega arith }
 
   -- where it is the last name of its inode, the blocks and the number come back
@@ -178,17 +178,17 @@ module _ {image : Image} {i s j place : ℕ} (can : CanLeave image i s j place) 
         go (inl is) = absurd ((exact.free_inodes.free j is).free named_reached)
         go (inr not) = not
 
-    exact_last : IsLastName image i s j → (after : Set) → GivesBack in_snapshot (IsGivenUp last root size 0) blocks after → AreExact last in_snapshot after (with inodes j)
+    exact_last : IsLastName image i s j → (after : Set) → GivesBack in_snapshot (IsTruncated last root size 0) blocks after → AreExact last in_snapshot after (with inodes j)
     exact_last last_name after gives = record {
       block_room = rw (length-set image place 0) (gives.room ∙ exact.block_room);
       inode_room = rw (length-set image place 0) (length-set inodes j true ∙ exact.inode_room);
       free_blocks = freed_blocks image last wf (length-set image place 0) (HasBlock image root size) (remove_frees image wf i s j place can.unlink last_name can.stands) in_snapshot (has blocks) (has after) exact.free_blocks
-          told.only told.still told.given;
+          reported.only reported.still reported.given;
       free_inodes = removed_inode image last wf i s j can.unlink removes last_name (has inodes) (has (with inodes j)) exact.free_inodes (has_with_same inodes j inode_in_room) (has_with_other inodes j);
     }
       where
-        told : GivesBack in_snapshot (HasBlock image root size) blocks after
-        told = gives_as (IsGivenUp last root size 0) (HasBlock image root size) blocks after gone_back gone_on gives
+        reported : GivesBack in_snapshot (HasBlock image root size) blocks after
+        reported = gives_as (IsTruncated last root size 0) (HasBlock image root size) blocks after gone_back gone_on gives
 
   -- ---- where it has another name all stays
 
@@ -268,7 +268,7 @@ module _ (old new : Memory) {i s j place : ℕ} (can : CanLeave (current_words o
     can_give = rw stored (can_give_blocks can exact)
 
     pub leaving_exact : IsLastName (current_words old) i s j → (after : Set)
-        → GivesBack in_snapshot (IsGivenUp (current_words new) (root_of (current_words old) j) (size_of (current_words old) j) 0) blocks after
+        → GivesBack in_snapshot (IsTruncated (current_words new) (root_of (current_words old) j) (size_of (current_words old) j) 0) blocks after
         → AreExact (current_words new) in_snapshot after (with inodes j)
     leaving_exact last_name after gives = rw stored (exact_last can exact last_name after (rw stored at gives))
 

@@ -1,4 +1,4 @@
--- What may leave before a thaw may leave behind it.
+-- What may leave before a thaw may leave after it.
 use Rattle.std.proofs.Common.{ℕ, sym, subst}
 use Rattle.bp_changes.specs.Effects.{CanUnlink}
 use Rattle.bp_changes.specs.SameMeaning.{SameMeaning}

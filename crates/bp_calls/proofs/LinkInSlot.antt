@@ -4,7 +4,7 @@ use Rattle.bp_calls.specs.Entered.{IsReadyEntry}
 use Rattle.bp_layout.specs.Need.Change.{enters as gains}
 use Rattle.bp_layout.specs.Need.Entrant.{linked}
 use Rattle.bp_commit.specs.Performs.{PerformsWithin}
-use Rattle.bp_calls.specs.Growth.{stores_behind_growth}
+use Rattle.bp_calls.specs.Growth.{stores_after_growth}
 use Rattle.bp_layout.specs.Directory.{empty_slot, slot_named}
 use Rattle.bp_layout.specs.Paths.{Name}
 use Rattle.bp_layout.specs.Inode.{kind_of, ContentStandsAt}
@@ -85,7 +85,7 @@ module _ (in_snapshot : ℕ → Bool) (first third last : Memory) (i s j entry :
       subst (λ w. LinksEntry i name j image w) (sym committed)
       (links_entry_over image mid after wf trees.prepared.meaning i s j name (slot_is first third last i s j entry 31 name can.lacks found entry_at loose hidden named commits) trees.prepared.inode_bytes links)
 
-  pub link_performs : PerformsWithin in_snapshot (name_need image i) 5 (stores_behind_growth (name_need image i)) first last (gains i linked) (LinksEntry i name j)
+  pub link_performs : PerformsWithin in_snapshot (name_need image i) 5 (stores_after_growth (name_need image i)) first last (gains i linked) (LinksEntry i name j)
   link_performs =
       slot_within first third last i s j entry 31 name can.lacks found entry_at loose hidden named commits (gains i linked) (LinksEntry i name j) (omega arith) refl refl
       (linking.linked_well_formed mid after mid_well_formed i s j links.adds) (linking.reached_stays mid after mid_well_formed i s j links.adds i ready.reached) effect

@@ -1,4 +1,4 @@
--- A file gets longer, with zeros behind its bytes: what its preparation asks, and what it leaves with the store of the size.
+-- A file gets longer, with zeros after its bytes: what its preparation asks, and what it leaves with the store of the size.
 use Rattle.std.proofs.Common.{◌≡◌, ℕ, zero, suc, ◌+◌, ◌-◌, ◌*◌, ◌/◌, ◌<◌, ◌≤◌, List, [], ◌∷◌, length, Bool, refl, sym, ◌∙◌, ap, ap₂, subst, arith, inl, inr}
 use Rattle.std.proofs.lemmas.Bool.{lt-ltb}
 use Rattle.std.proofs.lemmas.List.{append-nil, length-append}
@@ -6,7 +6,7 @@ use Rattle.bp_append.proofs.LaidLaws.{given_none}
 use Rattle.bp_append.specs.Prepared.{CanPrepare, HasLooseEnd, PreparesWith, need_for}
 use Rattle.bp_append.proofs.GrownEffect.{grown_changes, grown_bytes, grown_live, grown_stays, grown_taken}
 use Rattle.bp_append.proofs.GrowsTree.{OnlyGrows, GrowsTree, only_need, grown_performs, grown_size}
-use Rattle.bp_append.proofs.StoresLaws.{behind_whole, room_behind_whole}
+use Rattle.bp_append.proofs.StoresLaws.{past_end_whole, room_past_end_whole}
 use Rattle.bp_calls.specs.CanGrow.{CanGrowFile}
 use Rattle.bp_calls.specs.Resized.{ResizesFile}
 use Rattle.bp_layout.specs.Members.{Has}
@@ -36,7 +36,7 @@ use Rattle.bp_calls.proofs.PreparedRoom.{preparation_room}
 only_grows : (image : Image) (i size : ℕ) → size_of image i < size → OnlyGrows image (resizes i size) i size size
 only_grows image i size longer = record { prepares = rw (lt-ltb (size_of image i) size longer) refl; no_inodes = refl; touches = refl }
 
--- so many blocks it takes, told by the root word and the size of its tree
+-- as many blocks it takes, stated by the root word and the size of its tree
 pub growing_needs : (image : Image) → IsWellFormed image → (i size root long : ℕ) → IsReached image i → kind_of image i ≡ 1 → size_of image i < size → root ≡ root_of image i → long ≡ size_of image i →
     need image (resizes i size) ≡ length (nodes_for image root long size size)
 growing_needs image wf zero size root long reached file longer one two = absurd (omega (arith, file))
@@ -65,7 +65,7 @@ module _ {in_snapshot : ℕ → Bool} (old : Memory) (blocks inodes : Set) (n si
     well = can.well_formed;
     reached = can.reached;
     leads = leads ∙ sym (append-nil (inode_path (height_of (root_of image 0)) (suc n) 1));
-    behind = omega (arith, can.longer);
+    past_end = omega (arith, can.longer);
     order = omega arith;
     fits = can.fits;
     by_words = λ by. elim by [ inl e ↦ omega (arith, e) | inr two ↦ omega (arith, two, can.file) ];
@@ -74,13 +74,13 @@ module _ {in_snapshot : ℕ → Bool} (old : Memory) (blocks inodes : Set) (n si
     loose = end_loose;
     enough = omega (arith, enough, needs);
     room = let room = can.room enough in
-        preparation_room _ _ _ _ needs (room_behind_whole (size_of image (suc n)) size size max_height) room;
+        preparation_room _ _ _ _ needs (room_past_end_whole (size_of image (suc n)) size size max_height) room;
   }
 
-  -- behind the preparation there is room for the store
+  -- after the preparation there is room for the store
   room_left : (middle : Memory) (free_new bytes : List ℕ) → PreparesWith in_snapshot old middle (members blocks) free_new (suc n) size size bytes → (3 ≤ room_in middle) × (length middle.base ≡ length old.base)
   room_left middle free_new bytes prepared =
-      let stores = behind_whole (size_of image (suc n)) size size max_height in
+      let stores = past_end_whole (size_of image (suc n)) size size max_height in
       let left = room_in-piece _ _ old middle prepared.adds.part.added prepared.adds.part.adds prepared.adds.part.piece in
       let all : length (members blocks) ≡ length prepared.taken + length free_new = ap (λ (xs : List ℕ). length xs) prepared.takes ∙ length-append prepared.taken free_new in
       let has = can.room (omega (arith, needs, prepared.counted, all)) in
@@ -129,9 +129,9 @@ module _ {in_snapshot : ℕ → Bool} (old : Memory) (blocks inodes : Set) where
   prepares zero size can = absurd (no_file (current_words old) can.file)
   prepares (suc n) size can = can_prepare old blocks inodes n size can
 
-  pub room_behind : (middle : Memory) (free_new bytes : List ℕ) (i size : ℕ) → CanGrowFile in_snapshot old blocks inodes i size → PreparesWith in_snapshot old middle (members blocks) free_new i size size bytes → (3 ≤ room_in middle) × (length middle.base ≡ length old.base)
-  room_behind middle free_new bytes zero size can = absurd (no_file (current_words old) can.file)
-  room_behind middle free_new bytes (suc n) size can = room_left old blocks inodes n size can middle free_new bytes
+  pub room_past_end : (middle : Memory) (free_new bytes : List ℕ) (i size : ℕ) → CanGrowFile in_snapshot old blocks inodes i size → PreparesWith in_snapshot old middle (members blocks) free_new i size size bytes → (3 ≤ room_in middle) × (length middle.base ≡ length old.base)
+  room_past_end middle free_new bytes zero size can = absurd (no_file (current_words old) can.file)
+  room_past_end middle free_new bytes (suc n) size can = room_left old blocks inodes n size can middle free_new bytes
 
   pub grew : (middle new : Memory) (rest : Set) (path : WordPath) (i size place : ℕ) → CanGrowFile in_snapshot old blocks inodes i size → Grew in_snapshot old middle new blocks rest path i size place →
       PerformsThawed in_snapshot old new (resizes i size) (ResizesFile i size) × AreExact (current_words new) in_snapshot rest inodes

@@ -69,8 +69,8 @@ module _ (image : Image) (i : ℕ) (wf : IsWellFormed image) (reached : IsReache
     all_size : AllThere (is_there_after image (enters i linked)) [] (inode_word_path image (enters i linked) i 2)
     all_size = inode_path-there image (enters i linked) wf low_tree i 2 reached (omega arith)
 
-    pub cover_behind : cover image (enters i linked) ≡ inode_path (height_of (root_of image 0)) i 2
-    cover_behind = cover-one image (enters i linked) (inode_word_path image (enters i linked) i 2) one_size all_size ∙ ap (λ h. inode_path h i 2) low_tree
+    pub cover_past_end : cover image (enters i linked) ≡ inode_path (height_of (root_of image 0)) i 2
+    cover_past_end = cover-one image (enters i linked) (inode_word_path image (enters i linked) i 2) one_size all_size ∙ ap (λ h. inode_path h i 2) low_tree
 
     nothing_copied : length (copied image (enters i linked)) ≡ 0
     nothing_copied = ap length (copied-one image (enters i linked) (inode_word_path image (enters i linked) i 2) one_size all_size)
@@ -82,8 +82,8 @@ module _ (image : Image) (i : ℕ) (wf : IsWellFormed image) (reached : IsReache
         ap (λ f. length (flat_map (prepared_for image) (new_entry image i f))) none
         ∙ ap length (append-nil (prepared_for image next)) ∙ length-map (nodes_for image (root_of image i) (size_of image i) (size_of image i) (size_of image i + 256)) _
 
-    pub need_behind : need image (enters i linked) ≡ need_for image i (size_of image i) (size_of image i + 256)
-    need_behind = omega (arith, nothing_copied, made)
+    pub need_past_end : need image (enters i linked) ≡ need_for image i (size_of image i) (size_of image i + 256)
+    need_past_end = omega (arith, nothing_copied, made)
 
   -- so no block is copied
   pub none_copied : length (copied image (enters i linked)) ≡ 0

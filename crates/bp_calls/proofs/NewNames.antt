@@ -20,17 +20,17 @@ use Rattle.bp_commit.specs.Performs.{PerformsThawed, PerformsWithin, most_stores
 use Rattle.pm_region.specs.Memory.{Memory, current_words, room_in}
 use Rattle.bp_calls.specs.Created.{EntersName}
 use Rattle.bp_calls.specs.Entrant.{entrant_of}
-use Rattle.bp_calls.specs.Growth.{CanGrowInodes, GrowsInodes, growth_need, growth_stores, stores_behind_growth}
+use Rattle.bp_calls.specs.Growth.{CanGrowInodes, GrowsInodes, growth_need, growth_stores, stores_after_growth}
 use Rattle.bp_calls.specs.ThawedFor.{IsThawedFor}
-use Rattle.bp_calls.specs.Steps.{CanEnter, CanEnterBehind, CanName, LacksName, entering_room, name_need}
+use Rattle.bp_calls.specs.Steps.{CanEnter, CanEnterPastEnd, CanName, LacksName, entering_room, name_need}
 use Rattle.bp_calls.proofs.AfterLaws.{empty_slot_over, slot_named_over}
 use Rattle.bp_calls.proofs.GrowthLaws.{longer_reached, longer_well_formed, shorter_reached}
-use Rattle.bp_calls.proofs.GrowthMemory.{room_behind_growth}
+use Rattle.bp_calls.proofs.GrowthMemory.{room_after_growth}
 use Rattle.bp_calls.proofs.GrowthNeed.{need_growing}
 use Rattle.bp_calls.proofs.GrowthPerforms.{grown_need, performs_grown}
 use Rattle.bp_commit.proofs.PerformsLaws.{within_more}
-use Rattle.bp_calls.proofs.NeedLaws.{need_behind}
-use Rattle.bp_calls.proofs.Refusals.{has_members, is_least, not_none, not_some, tells}
+use Rattle.bp_calls.proofs.NeedLaws.{need_past_end}
+use Rattle.bp_calls.proofs.Refusals.{has_members, is_least, not_none, not_some, reports}
 use Rattle.bp_calls.proofs.EnteredOver.{entered_over}
 use Rattle.bp_calls.proofs.EnteredLaws.{directory_inode}
 use Rattle.bp_calls.proofs.EnterTargets.{IsEntrant, entry_loose, file_loose, inode_loose}
@@ -52,7 +52,7 @@ entry_need_is image i root size one two =
 
 pub entry_needs : (image : Image) → IsWellFormed image → (i root size : ℕ) → IsReached image i → kind_of image i ≡ 2 → root ≡ root_of image i → size ≡ size_of image i → empty_slot image i ≡ None →
     length (nodes_for image root size size (size + 256)) ≡ name_need image i
-entry_needs image wf i root size reached kind one two none = entry_need_is image i root size one two ∙ sym (need_behind image i wf reached kind none)
+entry_needs image wf i root size reached kind one two none = entry_need_is image i root size one two ∙ sym (need_past_end image i wf reached kind none)
 
 -- ---- an inode is free
 
@@ -60,16 +60,16 @@ module _ {in_snapshot : ℕ → Bool} (memory : Memory) (blocks inodes : Set) (i
   pub can_name : CanName (current_words memory) i j name
   can_name = record { lacks = can.lacks; free = can.exact.free_inodes.free j least.is_in }
 
-  pub can_enter_behind : empty_slot (current_words memory) i ≡ None → CanEnterBehind in_snapshot memory blocks i j name
-  can_enter_behind none = record {
+  pub can_enter_past_end : empty_slot (current_words memory) i ≡ None → CanEnterPastEnd in_snapshot memory blocks i j name
+  can_enter_past_end none = record {
     can = record {
       lacks = can.lacks;
       none = none;
       inodes = inodes;
       exact = can.exact;
-      enough = rw (need_behind (current_words memory) i can.lacks.well_formed can.lacks.reached can.lacks.directory none) at can.enough;
-      loose = can.loose.behind none;
-      room = rw (need_behind (current_words memory) i can.lacks.well_formed can.lacks.reached can.lacks.directory none) at can.room;
+      enough = rw (need_past_end (current_words memory) i can.lacks.well_formed can.lacks.reached can.lacks.directory none) at can.enough;
+      loose = can.loose.past_end none;
+      room = rw (need_past_end (current_words memory) i can.lacks.well_formed can.lacks.reached can.lacks.directory none) at can.room;
     };
     free = can_name.free;
     loose = can.loose_inode j least;
@@ -97,8 +97,8 @@ module _ {in_snapshot : ℕ → Bool} (old mid : Memory) (blocks inodes after fi
   }
 
   -- and none before it is
-  behind_old : (j : ℕ) → IsFreeInode longer j → inode_count image ≤ j
-  behind_old j free = go (cases_lt j (inode_count image))
+  after_old : (j : ℕ) → IsFreeInode longer j → inode_count image ≤ j
+  after_old j free = go (cases_lt j (inode_count image))
     where
       go : (j < inode_count image) ⊎ (inode_count image ≤ j) → inode_count image ≤ j
       go (inl low) =
@@ -131,22 +131,22 @@ module _ {in_snapshot : ℕ → Bool} (old mid : Memory) (blocks inodes after fi
         (entry_loose image lacks.well_formed i lacks.reached lacks.directory in_snapshot grown ready.clear);
     loose_inode = λ j least.
         let free : IsFreeInode longer j = exact.free_inodes.free j least.is_in in
-        new_inode_loose image longer grows.taken lacks.well_formed grows.grown in_snapshot taken_loose j (behind_old j free) free.high;
+        new_inode_loose image longer grows.taken lacks.well_formed grows.grown in_snapshot taken_loose j (after_old j free) free.high;
     room = enough_room (length grows.taken) (growth_need image) (name_need longer i) (need image (enters i grown)) (room_in old) (room_in mid) grows.number
-        (grown_need old mid grows lacks.well_formed i lacks.reached lacks.directory) (room_behind_growth old mid grows) ready.room;
+        (grown_need old mid grows lacks.well_formed i lacks.reached lacks.directory) (room_after_growth old mid grows) ready.room;
   }
     where
-      enough_room : (took wanted more all before behind : ℕ) → took ≡ wanted → all ≡ wanted + more → before ≤ behind + (3 + growth_stores took) → room_for all ≤ before + 2 → entering_room more ≤ behind
-      enough_room took wanted more all before behind a b c d = omega (arith, a, b, c, d)
+      enough_room : (took wanted more all before past_end : ℕ) → took ≡ wanted → all ≡ wanted + more → before ≤ past_end + (3 + growth_stores took) → room_for all ≤ before + 2 → entering_room more ≤ past_end
+      enough_room took wanted more all before past_end a b c d = omega (arith, a, b, c, d)
 
   -- whichever inode is the least that is free then
   pub grown_performs : (new : Memory) (kind : Kind) →
-      ((free : Option ℕ) → IsLeastFree longer free → PerformsWithin in_snapshot (name_need longer i) 5 (stores_behind_growth (name_need longer i)) mid new (enters i (entrant_of free)) (EntersName i name kind)) →
+      ((free : Option ℕ) → IsLeastFree longer free → PerformsWithin in_snapshot (name_need longer i) 5 (stores_after_growth (name_need longer i)) mid new (enters i (entrant_of free)) (EntersName i name kind)) →
       PerformsThawed in_snapshot old new (enters i grown) (EntersName i name kind)
-  grown_performs new kind done = go told.0 told.1
+  grown_performs new kind done = go reported.0 reported.1
     where
-      told : (free : Option ℕ) × IsLeastFree longer free
-      told = tells longer after filled exact
+      reported : (free : Option ℕ) × IsLeastFree longer free
+      reported = reports longer after filled exact
 
       go : (free : Option ℕ) → IsLeastFree longer free → PerformsThawed in_snapshot old new (enters i grown) (EntersName i name kind)
       go None least = absurd (not_none longer after filled exact (has_members filled (inode_count image) (exact.free_inodes.all (inode_count image) first_free)) least)
@@ -167,18 +167,18 @@ can_grow {in_snapshot = in_snapshot} old blocks inodes i name lacks exact ready 
       room = omega (arith, needs, ready.room);
     }
 
--- ---- behind a thaw
+-- ---- after a thaw
 
 -- whichever inode is there
 pub within_call : {in_snapshot : ℕ → Bool} (old new : Memory) (change : Change) (i : ℕ) (Effect : Image → Image → Type 0) → need (current_words old) change ≡ name_need (current_words old) i →
-    PerformsWithin in_snapshot (name_need (current_words old) i) 5 (stores_behind_growth (name_need (current_words old) i)) old new change Effect → PerformsThawed in_snapshot old new change Effect
+    PerformsWithin in_snapshot (name_need (current_words old) i) 5 (stores_after_growth (name_need (current_words old) i)) old new change Effect → PerformsThawed in_snapshot old new change Effect
 within_call {in_snapshot = in_snapshot} old new change i Effect same done =
-    within_more in_snapshot needed 5 (stores_behind_growth needed) old new change Effect (subst (λ n. PerformsWithin in_snapshot n 5 (stores_behind_growth n) old new change Effect) (sym same) done) 8 (most_stores_thawed needed) (omega arith) few
+    within_more in_snapshot needed 5 (stores_after_growth needed) old new change Effect (subst (λ n. PerformsWithin in_snapshot n 5 (stores_after_growth n) old new change Effect) (sym same) done) 8 (most_stores_thawed needed) (omega arith) few
   where
     needed : ℕ
     needed = need (current_words old) change
 
-    few : stores_behind_growth needed ≤ most_stores_thawed needed
+    few : stores_after_growth needed ≤ most_stores_thawed needed
     few = omega arith
 
 -- the room that it has then
@@ -200,18 +200,18 @@ module _ {in_snapshot : ℕ → Bool} (old : Memory) (blocks inodes : Set) (i : 
   none_free none P at None least = at
   none_free none P at (Some j) least = absurd (not_some words blocks inodes exact none j least)
 
-  told : (free : Option ℕ) × IsLeastFree words free
-  told = tells words blocks inodes exact
+  reported : (free : Option ℕ) × IsLeastFree words free
+  reported = reports words blocks inodes exact
 
   pub none_ready : members inodes ≡ [] → IsThawedFor in_snapshot old blocks (enters i grown)
-  none_ready none = go told.0 told.1
+  none_ready none = go reported.0 reported.1
     where
       go : (free : Option ℕ) → IsLeastFree words free → IsThawedFor in_snapshot old blocks (enters i grown)
       go None least = ready None least
       go (Some j) least = absurd (not_some words blocks inodes exact none j least)
 
   pub some_enters : members inodes ≢ [] → CanEnter in_snapshot old blocks inodes i name
-  some_enters some = go told.0 told.1
+  some_enters some = go reported.0 reported.1
     where
       go : (free : Option ℕ) → IsLeastFree words free → CanEnter in_snapshot old blocks inodes i name
       go None least = absurd (not_none words blocks inodes exact some least)
@@ -228,9 +228,9 @@ module _ {in_snapshot : ℕ → Bool} (old : Memory) (blocks inodes : Set) (i : 
             room = room_entering (name_need words i) (room_in old) here.room;
           }
 
-  -- whatever is told of free inodes
+  -- whatever is stated of free inodes
   pub some_performs : (new : Memory) (Effect : Image → Image → Type 0) → members inodes ≢ [] →
-      ((free : Option ℕ) → IsLeastFree words free → PerformsWithin in_snapshot (name_need words i) 5 (stores_behind_growth (name_need words i)) old new (enters i (entrant_of free)) Effect) →
+      ((free : Option ℕ) → IsLeastFree words free → PerformsWithin in_snapshot (name_need words i) 5 (stores_after_growth (name_need words i)) old new (enters i (entrant_of free)) Effect) →
       (free : Option ℕ) → IsLeastFree words free → PerformsThawed in_snapshot old new (enters i (entrant_of free)) Effect
   some_performs new Effect some done = some_free some (λ free. PerformsThawed in_snapshot old new (enters i (entrant_of free)) Effect) (λ j least. within_call old new (enters i (taken j)) i Effect refl (done (Some j) least))
 
@@ -255,10 +255,10 @@ module _ {in_snapshot : ℕ → Bool} (image : Image) (wf : IsWellFormed image) 
   entrant_inside None least = tt
   entrant_inside (Some j) (a_least free first) = free.high
 
-  pub is_told : (free : Option ℕ) × IsLeastFree image free
-  is_told = tells image blocks inodes exact
+  pub is_reported : (free : Option ℕ) × IsLeastFree image free
+  is_reported = reports image blocks inodes exact
 
--- a name that is lacking is lacking behind a thaw
+-- a name that is lacking is lacking after a thaw
 pub lacks_on : (old new : Image) → SameShape old new → (i : ℕ) (name : Name) → LacksName old i name → LacksName new i name
 lacks_on old new shape i name lacks =
     let wf : IsWellFormed new = well_formed-same old new lacks.well_formed shape.meaning in

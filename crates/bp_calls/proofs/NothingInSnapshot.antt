@@ -1,4 +1,4 @@
--- Where nothing has to be thawed a call needs what its change needs, and what it does at once is what it does behind a
+-- Where nothing has to be thawed a call needs what its change needs, and what it does at once is what it does after a
 -- thaw. So it is where no block is in the snapshot.
 use Rattle.std.proofs.Common.{◌≡◌, ◌≤◌, [], length, refl, sym, ◌∙◌, ap, subst, arith}
 use Rattle.bp_calls.specs.Mounted.{IsMounted}

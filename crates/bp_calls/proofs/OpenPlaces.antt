@@ -18,7 +18,7 @@ use Rattle.bp_layout.specs.Directory.{empty_slot}
 use Rattle.bp_layout.specs.Need.{cover}
 use Rattle.bp_layout.specs.Need.Change.{enters}
 use Rattle.bp_layout.specs.Need.Entrant.{linked}
-use Rattle.bp_calls.proofs.NeedLaws.{cover_behind}
+use Rattle.bp_calls.proofs.NeedLaws.{cover_past_end}
 use Rattle.bp_calls.proofs.Trees.{live_leaf}
 
 -- a content word of a live leaf stands in a live block
@@ -85,5 +85,5 @@ size_covered image mid i place value wf also same_root reached there kind none s
     let below : 8 * (8 * i + 2) < size_of mid 0 = omega (arith, in_file) in
     let stays : root_of (set mid place value) 0 ≡ root_of mid 0 = root_word_stays mid also 0 (8 * i + 2) place value inode_file below stands in
     let top : root_of (set mid place value) 0 ≡ root_of image 0 = stays ∙ same_root in
-    ap (address (set mid place value)) (cover_behind image i wf reached kind none ∙ ap (λ r. inode_path (height_of r) i 2) (sym top))
+    ap (address (set mid place value)) (cover_past_end image i wf reached kind none ∙ ap (λ r. inode_path (height_of r) i 2) (sym top))
     ∙ inode_address (set mid place value) i 2 place (stands_stored mid also 0 (8 * i + 2) place value inode_file below stands stays)

@@ -32,7 +32,7 @@ use Rattle.bp_cow.specs.Touched.{IsTouched, NoneBegins, all_paths, job_of, leave
 use Rattle.bp_cow.proofs.CopiesNeed.{none-begins}
 use Rattle.bp_cow.proofs.FewCopies.{runs_copies}
 use Rattle.bp_cow.proofs.WaysAlike.{first-range}
-use Rattle.bp_thaw.specs.Fronts.{IsWayIn}
+use Rattle.bp_thaw.specs.Prefixes.{IsWayIn}
 use Rattle.bp_cow.proofs.CommitTaking.{commit_performs, stores_few}
 use Rattle.bp_calls.specs.Overwritten.{AreRuns, CanOverwrite, CanOverwriteThawed, IsPatchIn, stretches_of}
 use Rattle.bp_calls.specs.Mounted.{IsMounted}
@@ -117,7 +117,7 @@ pub overwrites_reached : (image : Image) (patches : List Patch) → Each (IsPatc
 overwrites_reached image [] each = tt
 overwrites_reached image (patch ∷ patches) each = (each.0.reached, overwrites_reached image patches each.1)
 
--- and they lie in files behind a thaw too
+-- and they lie in files after a thaw too
 pub patches_on : (image after : Image) → SameShape image after → (patches : List Patch) → Each (IsPatchIn image) patches → Each (IsPatchIn after) patches
 patches_on image after shape [] each = tt
 patches_on image after shape (patch ∷ patches) each = (one, patches_on image after shape patches each.1)
@@ -191,7 +191,7 @@ module _ {in_snapshot : ℕ → Bool} {old : Memory} {blocks inodes : Set} {patc
         patches_overwrite image (current_words new) wf touched (has blocks) overwrite_can no_word at
         (IsTurned (job_of touched) (length (commit_cover image touched))) done.words patches touches.runs asked.each
 
-    -- the leaves of so many bytes in so few runs are few
+    -- the leaves of as many bytes in so few runs are few
     leaves : leaves_of touched.runs.now ≤ 47
     leaves = omega (arith, leaves_few image patches touched.runs.now touches.runs, asked.short, asked.few)
 
@@ -210,7 +210,7 @@ module _ {in_snapshot : ℕ → Bool} {old : Memory} {blocks inodes : Set} {patc
         (sizes_stay image (current_words new) wf touched (has blocks) overwrite_can no_word at (IsTurned (job_of touched) (length (commit_cover image touched))) done.words)
         blocks after inodes asks.exact room done.exact
 
--- ---- at once, and behind a thaw
+-- ---- at once, and after a thaw
 
 module _ {R : Type 0} (memory : R → Memory) (patches : List Patch) (old : Parts R) (mounted : IsMounted (current_words (memory old.region)) old) (can : CanOverwrite (current_words (memory old.region)) patches) where
   pub overwrites_at_once : length (members old.snapshot_blocks) ≡ 0 → HasRoomWhereFree (memory old.region) (in_snapshot_of old) old.free_blocks (overwrites (stretches_of patches)) →

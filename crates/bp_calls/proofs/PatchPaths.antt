@@ -27,7 +27,7 @@ use Rattle.bp_calls.specs.Overwritten.AreRuns.{none, empty, more}
 use Rattle.bp_calls.specs.TouchedBelow.{IsRunFor}
 use Rattle.bp_calls.proofs.PatchRuns.{IsInFile}
 use Rattle.bp_calls.proofs.TargetPaths.{content_way, cover_way}
-use Rattle.bp_thaw.specs.Fronts.{IsWayIn}
+use Rattle.bp_thaw.specs.Prefixes.{IsWayIn}
 
 module _ (image : Image) where
   -- the heights that the trees have
@@ -92,16 +92,16 @@ module _ (image : Image) (wf : IsWellFormed image) (patches : List Patch) (commi
       ap (λ (p : WordPath). p ++ digits (suc run.height) (run.offset / 8)) at.of.root
       ∙ ap (λ h. inode_path (height_of (root_of image 0)) (suc at.inode) 1 ++ digits (suc h) (run.offset / 8)) at.of.height
 
-  front : (d : ℕ) → d ≤ length (common_all (all_paths commits)) → take d (common_all (all_paths commits)) ≡ take d word_path
-  front d low = ap (take d) (sym begins.same) ∙ take-take d (length shared) (run_path run (run.offset / 8)) low ∙ ap (take d) path_is
+  prefix : (d : ℕ) → d ≤ length (common_all (all_paths commits)) → take d (common_all (all_paths commits)) ≡ take d word_path
+  prefix d low = ap (take d) (sym begins.same) ∙ take-take d (length shared) (run_path run (run.offset / 8)) low ∙ ap (take d) path_is
 
   agree : (d : ℕ) → d < length (common_all (all_paths commits)) → ((e : ℕ) → e < d → is_pointed image (take e (common_all (all_paths commits))) ≡ true) →
       is_there_after image change (take d (common_all (all_paths commits))) ≡ is_pointed image (take d (common_all (all_paths commits)))
   agree d low exists =
       let long : length shared ≤ length word_path = subst (λ (p : WordPath). length shared ≤ length p) path_is begins.long in
-      rw (front d (omega (arith, low)))
+      rw (prefix d (omega (arith, low)))
       (word_agrees image wf at.inode at.reached change refl refl (λ t. refl) (run.offset / 8) (omega (arith, at.of.below, at.of.some)) d (omega (arith, low, long))
-      (λ e less. ap (is_pointed image) (sym (front e (omega (arith, less, low)))) ∙ exists e less))
+      (λ e less. ap (is_pointed image) (sym (prefix e (omega (arith, less, low)))) ∙ exists e less))
 
   same_paths : all_paths commits ≡ touched image change
   same_paths = patches_touched image patches commits are no_word each

@@ -19,7 +19,7 @@ use Rattle.bp_cow.proofs.CallerLaws.{runs_can}
 use Rattle.bp_calls.specs.Overwritten.{AreRuns, IsPatchIn, byte_count, patch_seen, patches_seen}
 use Rattle.bp_calls.specs.Overwritten.AreRuns.{none, empty, more}
 use Rattle.bp_calls.specs.TouchedBelow.{IsRunFor}
-use Rattle.bp_calls.specs.declared.batching.Patch.{Patch as GivenPatch}
+use Rattle.bp_calls.specs.declared.batches.Patch.{Patch as GivenPatch}
 use Rattle.bp_calls.proofs.RunCommits.{IsRunOf, run_in, run_is}
 use Rattle.bp_cow.proofs.CallerLaws.{no_trees}
 
@@ -131,7 +131,7 @@ patch_at image [] each i other low = absurd (omega (arith, low))
 patch_at image (patch ∷ patches) each zero other low = each.0
 patch_at image (patch ∷ patches) each (suc i) other low = patch_at image patches each.1 i other (omega (arith, low))
 
--- the next one comes behind those before it, and so does its run where it has a byte
+-- the next one comes after those before it, and so does its run where it has a byte
 module _ (image : Image) (patches : List GivenPatch) (i : ℕ) where
   next : (other : GivenPatch) → i < length patches → patches_seen (take (i + 1) patches) ≡ patches_seen (take i patches) ++ patch_seen (get_or patches i other) ∷ []
   next other low = ap patches_seen (take_more patches i other low) ∙ map-append patch_seen (take i patches) (get_or patches i other ∷ [])

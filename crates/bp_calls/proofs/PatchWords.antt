@@ -71,7 +71,7 @@ module _ (root : WordPath) (k : ℕ) where
           differ : bytes_eq run.root.items root ≡ true → bytes_eq run.root.items root ≡ false → ⊥
           differ one two = absurd (cc)
       go true e (inl before) last = inr (λ is. omega (arith, before, is.low))
-      go true e (inr low) (inl behind) = inr (λ is. omega (arith, behind, is.high))
+      go true e (inr low) (inl past_end) = inr (λ is. omega (arith, past_end, is.high))
 
   -- some run does, or none
   pub some_covers : (runs : List Run) → ((run : Run) × Has runs run × Covers root k run) ⊎ ((run : Run) → Has runs run → Covers root k run → ⊥)
@@ -84,7 +84,7 @@ module _ (root : WordPath) (k : ℕ) where
       go (inr other) (inl found) = inl (found.0, inr found.1, found.2)
       go (inr other) (inr nowhere) = inr (λ run has is. elim has [
         | inl e ↦ other (subst (Covers root k) (sym e) is)
-        | inr behind ↦ nowhere run behind is
+        | inr past_end ↦ nowhere run past_end is
       ])
 
   -- where none does the word stays
@@ -94,9 +94,9 @@ module _ (root : WordPath) (k : ℕ) where
     where
       go : (b : Bool) → bytes_eq first.root.items root ≡ b → (k < first.offset / 8) ⊎ (first.offset / 8 ≤ k) → ((run_end first - 1) / 8 < k) ⊎ (k ≤ (run_end first - 1) / 8) →
           cond (bytes_eq first.root.items root) (run_word first k old) old ≡ old
-      go false e before behind = rw e refl
-      go true e (inl before) behind = rw e (run_word-outside first k old (inl (omega (arith, before))))
-      go true e (inr low) (inl behind) = rw e (run_word-outside first k old (inr (omega (arith, behind))))
+      go false e before past_end = rw e refl
+      go true e (inl before) past_end = rw e (run_word-outside first k old (inl (omega (arith, before))))
+      go true e (inr low) (inl past_end) = rw e (run_word-outside first k old (inr (omega (arith, past_end))))
       go true e (inr low) (inr high) = absurd (nowhere first (inl refl) (record { tree = (bytes_eq-Decides first.root.items root).0 e; low = low; high = high }))
 
 -- ---- the bytes of a word

@@ -3,7 +3,7 @@ use Rattle.std.proofs.Common.{◌≡◌, ◌≢◌, ◌⊎◌, ℕ, Bool, ◌<�
 use Rattle.bp_layout.specs.Formatted.{version_of}
 use Rattle.bp_limits.specs.Limits.{greatest_height}
 use Rattle.std.proofs.lemmas.Bool.{cases_eq}
-use Rattle.bp_layout.proofs.MemberLaws.{has-behind}
+use Rattle.bp_layout.proofs.MemberLaws.{has-after}
 use Rattle.bp_free.specs.Set.{Set, has, members}
 use Rattle.bp_layout.specs.Free.{AreUnheld}
 use Rattle.bp_layout.specs.Inode.{root_of, size_of}
@@ -113,7 +113,7 @@ module _ {in_snapshot : ℕ → Bool} (old middle : Memory) (blocks inodes after
             has = other_block_back image mid x from to bytes prepared.taken prepared.ready one.tree (back one.tree one.reached) other b (of_other one.tree b other one.has);
           })
 
-  -- so is a block that is live behind the preparation
+  -- so is a block that is live after the preparation
   pub live_before : (b : ℕ) → IsLiveBlock (current_words middle) b → IsLiveBlock (current_words old) b ⊎ Has prepared.taken b
   live_before b live = held_before b (record { tree = live.tree; reached = live.reached; has = wider mid (root_of mid live.tree) (size_of mid live.tree) (bound live.tree) b (sizes_low live.tree) live.has })
 
@@ -135,7 +135,7 @@ module _ {in_snapshot : ℕ → Bool} (old middle : Memory) (blocks inodes after
   -- the blocks that are left in the set were free, and the preparation did not take them
   pub still_free : (b : ℕ) → has after b ≡ true → IsFreeBlock (current_words old) in_snapshot b × (Has prepared.taken b → ⊥)
   still_free b is =
-      let there : Has (members blocks) b = subst (λ bs. Has bs b) (sym prepared.takes) (has-behind prepared.taken (members after) b (in_members after b is)) in (
+      let there : Has (members blocks) b = subst (λ bs. Has bs b) (sym prepared.takes) (has-after prepared.taken (members after) b (in_members after b is)) in (
         exact.free_blocks.free b (of_members blocks b there),
         λ took. apart_parts prepared.taken (members after) b (subst AreApart prepared.takes (members_apart blocks)) took (in_members after b is),
       )

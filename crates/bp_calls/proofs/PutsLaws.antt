@@ -1,4 +1,4 @@
--- An entry is put behind the last one of a directory: what that asks of a preparation, and that it reads back.
+-- An entry is put after the last one of a directory: what that asks of a preparation, and that it reads back.
 use Rattle.std.proofs.Common.{◌≡◌, ℕ, Bool, zero, suc, ◌+◌, ◌*◌, ◌/◌, ◌%◌, ◌^◌, ◌<◌, ◌≤◌, List, length, refl, sym, ◌∙◌, arith, le_trans}
 use Rattle.bp_limits.specs.declared.version.Version.TheVariants.{One}
 use Rattle.bp_limits.proofs.Versions.{size_least}
@@ -22,12 +22,12 @@ use Rattle.bp_limits.specs.Limits.{max_height}
 use Rattle.bp_limits.specs.CallLimits.{greatest_size}
 use Rattle.pm_region.specs.Memory.{Memory, current_words}
 use Rattle.pm_region.proofs.MemoryLaws.{length-current_words}
-use Rattle.bp_calls.specs.Entries.{AreEntryBytes, PutsBehind}
-use Rattle.bp_calls.specs.Steps.{CanPutBehind, entering_room}
+use Rattle.bp_calls.specs.Entries.{AreEntryBytes, PutsPastEnd}
+use Rattle.bp_calls.specs.Steps.{CanPutPastEnd, entering_room}
 use Rattle.bp_calls.proofs.EnteredLaws.{directory_inode}
 use Rattle.bp_calls.proofs.EntryBytes.{inumber_there, length_there, inumber_read, name_read_back}
 use Rattle.bp_calls.proofs.TakenBlocks.{members_free, usable_members}
-use Rattle.bp_append.proofs.StoresLaws.{room_behind_one}
+use Rattle.bp_append.proofs.StoresLaws.{room_past_end_one}
 
 -- a directory is small, since it has no nulls
 pub small_directory : (image : Image) → IsWellFormed image → (i : ℕ) → IsReached image i → kind_of image i ≡ 2 → size_of image i + 256 ≤ greatest_size One
@@ -35,13 +35,13 @@ small_directory image wf i reached kind =
     let few = few_entries image (root_of image i) (size_of image i) (wf.sound i reached) (wf.full_directories i reached kind) (omega (arith, wf.formatted.sized.at_least)) in
     omega (arith, few, wf.formatted.sized.at_most, wf.directory_sizes i reached kind)
 
--- an entry behind the last one lies in one leaf
+-- an entry after the last one lies in one leaf
 pub one_entry : (size : ℕ) → size % 256 ≡ 0 → size + 256 ≤ size / 4096 * 4096 + 4096
 one_entry size whole = omega (arith, whole)
 
 -- one entry needs few blocks
-pub few_behind : (image : Image) → IsWellFormed image → (i : ℕ) → IsReached image i → need_for image i (size_of image i) (size_of image i + 256) ≤ 18 + 3 * max_height
-few_behind image wf i reached =
+pub few_past_end : (image : Image) → IsWellFormed image → (i : ℕ) → IsReached image i → need_for image i (size_of image i) (size_of image i + 256) ≤ 18 + 3 * max_height
+few_past_end image wf i reached =
     let few = few_needed image (root_of image i) (size_of image i) (size_of image i) (size_of image i + 256) 1 (omega arith) (omega arith) (omega arith) (wf.sound i reached).low in omega (arith, few)
 
 module _ (old : Memory) (blocks : Set) (j : ℕ) (name : Name) where
@@ -49,13 +49,13 @@ module _ (old : Memory) (blocks : Set) (j : ℕ) (name : Name) where
   image = current_words old
 
   module _ {in_snapshot : ℕ → Bool} where
-    prepares : (n : ℕ) → CanPutBehind in_snapshot old blocks (suc n) name → (path : WordPath) → path ≡ inode_path (height_of (root_of image 0)) (suc n) 1 →
+    prepares : (n : ℕ) → CanPutPastEnd in_snapshot old blocks (suc n) name → (path : WordPath) → path ≡ inode_path (height_of (root_of image 0)) (suc n) 1 →
         CanPrepare in_snapshot old (members blocks) (suc n) path (size_of image (suc n)) (size_of image (suc n) + 256)
     prepares n can path is = record {
       well = can.lacks.well_formed;
       reached = can.lacks.reached;
       leads = is ∙ sym (append-nil (inode_path (height_of (root_of image 0)) (suc n) 1));
-      behind = omega arith;
+      past_end = omega arith;
       order = omega arith;
       fits = le_trans (small_directory image can.lacks.well_formed (suc n) can.lacks.reached can.lacks.directory) (size_least (version_of image));
       by_words = λ by. refl;
@@ -63,22 +63,22 @@ module _ (old : Memory) (blocks : Set) (j : ℕ) (name : Name) where
       are_free = members_free image blocks can.inodes can.exact;
       loose = can.loose;
       enough = can.enough;
-      room = go _ _ _ (room_behind_one (size_of image (suc n)) (size_of image (suc n) + 256) max_height (one_entry (size_of image (suc n)) (can.lacks.well_formed.directory_sizes (suc n) can.lacks.reached can.lacks.directory))) can.room;
+      room = go _ _ _ (room_past_end_one (size_of image (suc n)) (size_of image (suc n) + 256) max_height (one_entry (size_of image (suc n)) (can.lacks.well_formed.directory_sizes (suc n) can.lacks.reached can.lacks.directory))) can.room;
     }
       where
         go : (needed asked room : ℕ) → asked ≤ 1024 + max_height → entering_room needed ≤ room → 512 * needed + asked + 4 ≤ room
         go needed asked room a b = omega (arith, a, b)
 
     -- given the size that was read
-    pub put_prepares : (i : ℕ) → CanPutBehind in_snapshot old blocks i name → (path : WordPath) → path ≡ inode_path (height_of (root_of image 0)) i 1 → (size : ℕ) → size ≡ size_of image i →
+    pub put_prepares : (i : ℕ) → CanPutPastEnd in_snapshot old blocks i name → (path : WordPath) → path ≡ inode_path (height_of (root_of image 0)) i 1 → (size : ℕ) → size ≡ size_of image i →
         CanPrepare in_snapshot old (members blocks) i path size (size + 256)
     put_prepares zero can path is size e = absurd (directory_inode image 0 can.lacks.directory refl)
     put_prepares (suc n) can path is size e = rw e (prepares n can path is)
 
--- the bytes of an entry are prepared behind the last one of a directory, by the size that was read
+-- the bytes of an entry are prepared after the last one of a directory, by the size that was read
 pub record PreparesEntry (in_snapshot : ℕ → Bool) (old new : Memory) (blocks : Set) (rest : List ℕ) (i size j : ℕ) (name : Name) : Type 0 where
   pub bytes : List ℕ
-  pub can : CanPutBehind in_snapshot old blocks i name
+  pub can : CanPutPastEnd in_snapshot old blocks i name
   pub sized : size ≡ size_of (current_words old) i
   pub entry : AreEntryBytes j name bytes
   pub prepared : PreparesWith in_snapshot old new (members blocks) rest i size (size + 256) bytes
@@ -117,7 +117,7 @@ module _ {in_snapshot : ℕ → Bool} {old new : Memory} {blocks : Set} {rest : 
     pub put_count : count ≡ length name
     put_count = second ∙ rw is second_is
 
-    pub put_done : PutsBehind in_snapshot old new (members blocks) rest i j name
+    pub put_done : PutsPastEnd in_snapshot old new (members blocks) rest i j name
     put_done = record {
       bytes = bytes;
       prepared = rw e at prepared;

@@ -17,7 +17,7 @@ use Rattle.bp_layout.specs.WellFormed.{IsWellFormed}
 use Rattle.bp_layout.specs.Words.{Image, word, byte_of}
 use Rattle.bp_layout.specs.declared.fields.Kind.{Kind}
 use Rattle.bp_layout.specs.declared.fields.Kind.TheVariants.{File, Dir}
-use Rattle.bp_layout.proofs.NameBytes.{map-tells}
+use Rattle.bp_layout.proofs.NameBytes.{map-equal}
 use Rattle.pm_epochs.specs.May.{AnyAt}
 use Rattle.pm_region.specs.Memory.{Memory, current_words}
 use Rattle.pm_region.specs.Safe.{AddsMay}
@@ -38,7 +38,7 @@ kind_most Dir = omega arith
 pub name_read : (image : Image) (root slot place : ℕ) (name : Name) → length name ≤ max_name → HasNameAt image place name →
     ((f : ℕ) → 1 ≤ f → f < 32 → content_word image root (32 * slot + f) ≡ word image (place + f)) → name_in image root slot ≡ name
 name_read image root slot place name short has words =
-    rw (words 1 (omega arith) (omega arith) ∙ has.count) (map-tells (λ o. byte image root (256 * slot + 16 + o)) name one)
+    rw (words 1 (omega arith) (omega arith) ∙ has.count) (map-equal (λ o. byte image root (256 * slot + 16 + o)) name one)
   where
     one : (o : ℕ) → o < length name → byte image root (256 * slot + 16 + o) ≡ get_or name o 0
     one o low =

@@ -81,7 +81,7 @@ module _ (image : Image) (wf : IsWellFormed image) where
             let kinds : (1 ≤ kind_of image (suc j)) × (kind_of image (suc j) ≤ 2) = wf.kinds j (subst (IsReached image) at names_reached) in
             rw at (record { low = omega arith; high = omega (arith, high, at); few = subst (λ k. k < block_inodes * max_blocks) at (few_inode (inumber_in image root slot) high); least = kinds.0; most = kinds.1 })
 
--- ---- the entries of some slots and of those behind them
+-- ---- the entries of some slots and of those after them
 
 pub seen-parts : (f : ℕ → Option (Kind × Name)) (first count more next : ℕ) → first + count ≡ next →
     filter_map f (range_with_len first (count + more)) ≡ filter_map f (range_with_len first count) ++ filter_map f (range_with_len next more)

@@ -1,4 +1,4 @@
--- An entry that stands ready behind the last one of a directory is still ready after stores to an inode that nobody reaches.
+-- An entry that stands ready after the last one of a directory is still ready after stores to an inode that nobody reaches.
 use Rattle.std.proofs.Common.{◌≡◌, ◌≢◌, ℕ, zero, suc, ◌+◌, ◌-◌, ◌*◌, ◌/◌, ◌%◌, ◌<◌, ◌≤◌, refl, sym, ◌∙◌, subst, subst₂, suc-ne-zero, arith}
 use Rattle.bp_changes.proofs.Formatted.{version_stays}
 use Rattle.bp_layout.specs.Paths.{Name, IsName}
@@ -12,14 +12,14 @@ use Rattle.bp_layout.specs.Words.{Image, word, height_of, slot_word}
 use Rattle.bp_layout.proofs.Reached.{reached-in_file}
 use Rattle.bp_layout.proofs.TreeLaws.{KeepsPointers, content-kept, slot_word-at, slot_word-same, tree_word-suc, live_pointer_word, live_content, live_above, sound-kept, full-kept, has_block-kept, has_block-stays}
 use Rattle.bp_tree.specs.Within.{IsWithin}
-use Rattle.bp_calls.specs.Entered.{IsReadyBehind}
+use Rattle.bp_calls.specs.Entered.{IsReadyPastEnd}
 use Rattle.bp_calls.proofs.AfterLaws.{kind_after, reached_after, reached_before, size_after}
 use Rattle.bp_calls.proofs.EnteredLaws.{directory_inode, name_same}
 use Rattle.bp_calls.proofs.Spares.{one_content, row_stands}
 use Rattle.bp_calls.proofs.Trees.{SameTrees, live_leaf, word_kept}
 
 module _ (old new : Image) (wf : IsWellFormed old) (trees : SameTrees old new) (n j at : ℕ) (name : Name) (free : IsFreeInode old j) (stands : ContentStandsAt old 0 (8 * j + 0) at)
-    (frame : (p : ℕ) → (IsWithin at 3 p → ⊥) → word new p ≡ word old p) (ready : IsReadyBehind old (suc n) j name) where
+    (frame : (p : ℕ) → (IsWithin at 3 p → ⊥) → word new p ≡ word old p) (ready : IsReadyPastEnd old (suc n) j name) where
   abbrev root : ℕ
   root = root_of old (suc n)
 
@@ -96,7 +96,7 @@ module _ (old new : Image) (wf : IsWellFormed old) (trees : SameTrees old new) (
   pub more_stays : (b : ℕ) → HasBlock old root more b → HasBlock new (root_of new (suc n)) (size_of new (suc n) + 256) b
   more_stays b has = subst₂ (λ r s. HasBlock new r (s + 256) b) (sym root_stays) (sym size_stays) (has_block-stays old new root more keeps b has)
 
-  pub ready_kept_suc : IsName name → size_of old (suc n) % 256 ≡ 0 → IsReadyBehind new (suc n) j name
+  pub ready_kept_suc : IsName name → size_of old (suc n) % 256 ≡ 0 → IsReadyPastEnd new (suc n) j name
   ready_kept_suc form entries = record {
     reached = reached_after old new wf trees.prepared (suc n) ready.reached;
     directory = kind_after old new wf trees.prepared (suc n) ready.reached ∙ ready.directory;
@@ -114,17 +114,17 @@ module _ (old new : Image) (wf : IsWellFormed old) (trees : SameTrees old new) (
 -- ---- the same of any directory
 
 module _ (old new : Image) (wf : IsWellFormed old) (trees : SameTrees old new) where
-  pub ready_kept : (i j at : ℕ) (name : Name) → IsFreeInode old j → ContentStandsAt old 0 (8 * j + 0) at → ((p : ℕ) → (IsWithin at 3 p → ⊥) → word new p ≡ word old p) → IsReadyBehind old i j name → IsName name →
-      IsReadyBehind new i j name
+  pub ready_kept : (i j at : ℕ) (name : Name) → IsFreeInode old j → ContentStandsAt old 0 (8 * j + 0) at → ((p : ℕ) → (IsWithin at 3 p → ⊥) → word new p ≡ word old p) → IsReadyPastEnd old i j name → IsName name →
+      IsReadyPastEnd new i j name
   ready_kept zero j at name free stands frame ready form = absurd (directory_inode old 0 ready.directory refl)
   ready_kept (suc n) j at name free stands frame ready form = ready_kept_suc old new wf trees n j at name free stands frame ready form (wf.directory_sizes (suc n) ready.reached ready.directory)
 
-  pub ready_back : (i j at : ℕ) (name : Name) → IsFreeInode old j → ContentStandsAt old 0 (8 * j + 0) at → ((p : ℕ) → (IsWithin at 3 p → ⊥) → word new p ≡ word old p) → IsReadyBehind old i j name →
+  pub ready_back : (i j at : ℕ) (name : Name) → IsFreeInode old j → ContentStandsAt old 0 (8 * j + 0) at → ((p : ℕ) → (IsWithin at 3 p → ⊥) → word new p ≡ word old p) → IsReadyPastEnd old i j name →
       (b : ℕ) → HasBlock new (root_of new i) (size_of new i + 256) b → HasBlock old (root_of old i) (size_of old i + 256) b
   ready_back zero j at name free stands frame ready = absurd (directory_inode old 0 ready.directory refl)
   ready_back (suc n) j at name free stands frame ready = more_back old new wf trees n j at name free stands frame ready
 
-  pub ready_stays : (i j at : ℕ) (name : Name) → IsFreeInode old j → ContentStandsAt old 0 (8 * j + 0) at → ((p : ℕ) → (IsWithin at 3 p → ⊥) → word new p ≡ word old p) → IsReadyBehind old i j name →
+  pub ready_stays : (i j at : ℕ) (name : Name) → IsFreeInode old j → ContentStandsAt old 0 (8 * j + 0) at → ((p : ℕ) → (IsWithin at 3 p → ⊥) → word new p ≡ word old p) → IsReadyPastEnd old i j name →
       (b : ℕ) → HasBlock old (root_of old i) (size_of old i + 256) b → HasBlock new (root_of new i) (size_of new i + 256) b
   ready_stays zero j at name free stands frame ready = absurd (directory_inode old 0 ready.directory refl)
   ready_stays (suc n) j at name free stands frame ready = more_stays old new wf trees n j at name free stands frame ready

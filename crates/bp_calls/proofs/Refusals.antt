@@ -62,8 +62,8 @@ module _ {in_snapshot : ℕ → Bool} (image : Image) (blocks inodes : Set) (exa
   not_some none i (a_least free least) = has_members inodes i (exact.free_inodes.all i free) none
 
   pub is_none : members inodes ≡ [] → (free : Option ℕ) → IsLeastFree image free → free ≡ None
-  is_none none None told = refl
-  is_none none (Some i) told = absurd (not_some none i told)
+  is_none none None reported = refl
+  is_none none (Some i) reported = absurd (not_some none i reported)
 
   least_of : (i : ℕ) → (has inodes i ≡ true) × ((k : ℕ) → k < i → has inodes k ≡ false) → IsLeastFree image (Some i)
   least_of i (is, first) = a_least (exact.free_inodes.free i is) (λ j free. go j free (cases_lt j i))
@@ -74,7 +74,7 @@ module _ {in_snapshot : ℕ → Bool} (image : Image) (blocks inodes : Set) (exa
 
   -- the least number of the set is the least free inode, and there is no other
   pub is_least : (i : ℕ) → IsLeast inodes i → (free : Option ℕ) → IsLeastFree image free → free ≡ Some i
-  is_least i least None told = absurd (not_none (has_members inodes i least.is_in) told)
+  is_least i least None reported = absurd (not_none (has_members inodes i least.is_in) reported)
   is_least i least (Some j) (a_least free most) =
       let low : j ≤ i = most i (exact.free_inodes.free i least.is_in) in
       ap Some (same low (cases_lt j i))
@@ -83,9 +83,9 @@ module _ {in_snapshot : ℕ → Bool} (image : Image) (blocks inodes : Set) (exa
       same low (inl less) = absurd (true≢false (sym (exact.free_inodes.all j free) ∙ least.first j less))
       same low (inr high) = omega (arith, low, high)
 
-  -- so it is told which is the least
-  pub tells : (free : Option ℕ) × IsLeastFree image free
-  tells = elim (first_in (has inodes) (length inodes)) [
+  -- so it is reported which is the least
+  pub reports : (free : Option ℕ) × IsLeastFree image free
+  reports = elim (first_in (has inodes) (length inodes)) [
     | inl (i, found) ↦ (Some i, least_of i found)
     | inr none ↦ (None, no_least (λ i free. true≢false (sym (exact.free_inodes.all i free) ∙ none i (in_room inodes i (exact.free_inodes.all i free)))))
   ]

@@ -12,7 +12,7 @@ use Rattle.bp_layout.specs.Paths.Node.{file}
 use Rattle.bp_layout.specs.Tree.{byte, content}
 use Rattle.bp_layout.specs.WellFormed.{IsWellFormed}
 use Rattle.bp_layout.specs.Words.{Image}
-use Rattle.bp_layout.proofs.NameBytes.{map-tells}
+use Rattle.bp_layout.proofs.NameBytes.{map-equal}
 use Rattle.bp_plain.specs.Plain.{bytes_at, bytes_in, resized, with_content}
 use Rattle.bp_plain.specs.Stands.{Shows}
 use Rattle.bp_stands.proofs.FileStands.{content_shows}
@@ -46,7 +46,7 @@ module _ (old new : Image) (wf : IsWellFormed old) (i size : ℕ) (is : ResizesF
   bytes_are : content new (root_of new i) (size_of new i) ≡ resized had size
   bytes_are =
       ap (content new (root_of new i)) (is.size_is ∙ sym whole)
-      ∙ map-tells (byte new (root_of new i)) (resized had size) (λ o low. byte_is o (omega (arith, low, whole)))
+      ∙ map-equal (byte new (root_of new i)) (resized had size) (λ o low. byte_is o (omega (arith, low, whole)))
 
   node_is : node_of old i ≡ file had
   node_is = rw is.changes.is_file refl

@@ -34,13 +34,13 @@ use Rattle.bp_cow.specs.Commit.{HasLooseCover, cover_word}
 use Rattle.bp_cow.specs.Touched.{IsRun, IsTouched, run_byte, run_end, run_leaves, run_path, run_way}
 use Rattle.bp_cow.proofs.CommitTaking.{cover_open}
 use Rattle.bp_cow.proofs.CopiesNeed.{has-of-run}
-use Rattle.bp_cow.proofs.RunPointers.{leaf-fronts}
-use Rattle.bp_cow.proofs.RunFronts.{front-run_way}
+use Rattle.bp_cow.proofs.RunPointers.{leaf-prefixes}
+use Rattle.bp_cow.proofs.RunPrefixes.{prefix-run_way}
 use Rattle.bp_cow.proofs.RunLaws.{length-run_path, length-run_way}
 use Rattle.bp_cow.proofs.RunWrites.{root_path_trail}
 use Rattle.bp_calls.specs.WritesFile.{WritesFile, written_byte}
 use Rattle.bp_calls.proofs.SetLaws.{free_inodes_stay}
-use Rattle.bp_calls.proofs.WriteBehind.{written_before, written_inside, written_past}
+use Rattle.bp_calls.proofs.WritePastEnd.{written_before, written_inside, written_past}
 use Rattle.bp_layout.specs.Thaw.{IsLoose}
 use Rattle.bp_cow.specs.Cover.{commit_cover}
 use Rattle.bp_cow.proofs.LooseCover.{loose_cover}
@@ -83,8 +83,8 @@ module _ (image : Image) (wf : IsWellFormed image) (n : ℕ) (reached : IsReache
   run_live : (d : ℕ) → d < length (run_path run (run.offset / 8)) → IsTreePointer image (size_of image) (trail_of (run_path run (run.offset / 8)) d)
   run_live d low =
       let short : d ≤ length (run_way run 0) = omega (arith, low, length-run_path run (run.offset / 8), length-run_way run 0) in
-      subst (IsTreePointer image (size_of image)) (front-run_way run 0 (run.offset / 8) d (omega arith) short)
-      (leaf-fronts image (size_of image) (wf_forest image wf) run run_is run_in 0 d (omega arith) short)
+      subst (IsTreePointer image (size_of image)) (prefix-run_way run 0 (run.offset / 8) d (omega arith) short)
+      (leaf-prefixes image (size_of image) (wf_forest image wf) run run_is run_in 0 d (omega arith) short)
 
   -- so the word of the cover, whatever else is touched, is one where a call may store
   pub run_open : (in_snapshot : ℕ → Bool) (touched : Touched) → IsTouched touched → Has touched.runs.now run → HasLooseCover image in_snapshot touched → (taken : List ℕ) → IsOpen image in_snapshot taken (cover_word image touched)
@@ -133,13 +133,13 @@ run_writes run bytes size old first o low = go (cases_lt o run.offset) (cases_lt
 module _ (image new : Image) (i : ℕ) (run : Run) (bytes : List ℕ) (changes : ChangesFile image new i) (first : run.bytes.now ≡ take (size_of image i - run.offset) bytes) (starts : run.offset ≤ size_of image i)
     (size : size_of new i ≡ max (size_of image i) (run.offset + length bytes))
     (laid : (o : ℕ) → o < size_of image i → byte new (root_of new i) o ≡ run_byte run o (byte image (root_of image i) o))
-    (behind : (o : ℕ) → size_of image i ≤ o → o < size_of new i → byte new (root_of new i) o ≡ slice_index bytes (o - run.offset)) where
+    (past_end : (o : ℕ) → size_of image i ≤ o → o < size_of new i → byte new (root_of new i) o ≡ slice_index bytes (o - run.offset)) where
   pub commit_writes_file : WritesFile i run.offset bytes image new
   commit_writes_file = record { changes = changes; size = size; bytes_are = λ o low. go o low (cases_lt o (size_of image i)) }
     where
       go : (o : ℕ) → o < size_of new i → (o < size_of image i) ⊎ (size_of image i ≤ o) → byte new (root_of new i) o ≡ written_byte run.offset bytes (size_of image i) (byte image (root_of image i)) o
       go o low (inl below) = laid o below ∙ run_writes run bytes (size_of image i) (byte image (root_of image i)) first o below
-      go o low (inr past) = behind o past low ∙ sym (written_inside run.offset bytes (size_of image i) (byte image (root_of image i)) o (omega (arith, past, starts)) (omega (arith, low, past, size)))
+      go o low (inr past) = past_end o past low ∙ sym (written_inside run.offset bytes (size_of image i) (byte image (root_of image i)) o (omega (arith, past, starts)) (omega (arith, low, past, size)))
 
 -- ---- the sets
 

@@ -1,4 +1,4 @@
--- What may be written into a file before a thaw may be written behind it, and so with a size that it is to get.
+-- What may be written into a file before a thaw may be written after it, and so with a size that it is to get.
 use Rattle.std.proofs.Common.{◌≡◌, ◌+◌, ◌<◌, ◌≤◌, [], ◌∷◌, ℕ, List, length, sym, ◌∙◌, subst}
 use Rattle.bp_calls.specs.CanGrow.{CanGrowFile}
 use Rattle.bp_calls.specs.CanWrite.{CanWrite, CanWriteInto, CanWriteThawed}
@@ -60,9 +60,9 @@ module _ {R : Type 0} (memory : R → Memory) (old new : Parts R) (mounted : IsM
   after = current_words (memory new.region)
 
   -- bytes
-  pub write_behind_thaw : (i offset : ℕ) (bytes : List ℕ) → CanWrite (current_words (memory old.region)) i offset bytes → ThawsFor memory (targets (current_words (memory old.region)) (writes i offset (length bytes))) old new →
+  pub write_after_thaw : (i offset : ℕ) (bytes : List ℕ) → CanWrite (current_words (memory old.region)) i offset bytes → ThawsFor memory (targets (current_words (memory old.region)) (writes i offset (length bytes))) old new →
       HasRoomThawed (memory new.region) new.free_blocks (writes i offset (length bytes)) → CanWriteThawed (in_snapshot_of new) (memory new.region) new.free_blocks new.free_inodes i offset bytes
-  write_behind_thaw i offset bytes can done room =
+  write_after_thaw i offset bytes can done room =
       let there = mounted_thawed memory (writes i offset (length bytes)) old new mounted can.reached done in
       let still : CanWrite (current_words (memory new.region)) i offset bytes = record {
         reached = reached_on image after done.thaws.shape.meaning i can.reached;
@@ -78,10 +78,10 @@ module _ {R : Type 0} (memory : R → Memory) (old new : Parts R) (mounted : IsM
       }
 
   -- a greater size
-  pub grow_behind_thaw : (i size : ℕ) → (reached : IsReached (current_words (memory old.region)) i) → IsFile (current_words (memory old.region)) i → size_of (current_words (memory old.region)) i < size →
+  pub grow_after_thaw : (i size : ℕ) → (reached : IsReached (current_words (memory old.region)) i) → IsFile (current_words (memory old.region)) i → size_of (current_words (memory old.region)) i < size →
       size ≤ greatest_size (version_of (current_words (memory old.region))) → ThawsFor memory (targets (current_words (memory old.region)) (resizes i size)) old new →
       HasRoomThawed (memory new.region) new.free_blocks (resizes i size) → CanGrowFile (in_snapshot_of new) (memory new.region) new.free_blocks new.free_inodes i size
-  grow_behind_thaw i size reached file longer fits done room =
+  grow_after_thaw i size reached file longer fits done room =
       let there = mounted_thawed memory (resizes i size) old new mounted reached done in
       record {
         well_formed = there.well_formed;

@@ -5,9 +5,9 @@ use Rattle.bp_layout.specs.Directory.{empty_slot}
 use Rattle.bp_layout.specs.Paths.{Name}
 use Rattle.bp_layout.specs.Need.Entrant.{linked}
 use Rattle.pm_region.specs.Memory.{Memory, current_words, room_in}
-use Rattle.bp_calls.specs.Steps.{CanLinkBehind, CanShare, HasLooseEntry, entering_room, name_need}
+use Rattle.bp_calls.specs.Steps.{CanLinkPastEnd, CanShare, HasLooseEntry, entering_room, name_need}
 use Rattle.bp_calls.proofs.EnterTargets.{entry_loose}
-use Rattle.bp_calls.proofs.NeedLaws.{need_behind}
+use Rattle.bp_calls.proofs.NeedLaws.{need_past_end}
 use Rattle.bp_calls.proofs.NewNames.{room_entering}
 
 module _ {in_snapshot : ℕ → Bool} (memory : Memory) (blocks inodes : Set) (i j : ℕ) (name : Name) (can : CanShare in_snapshot memory blocks inodes i j name) where
@@ -17,9 +17,9 @@ module _ {in_snapshot : ℕ → Bool} (memory : Memory) (blocks inodes : Set) (i
   pub link_room : entering_room (name_need (current_words memory) i) ≤ room_in memory
   link_room = room_entering (name_need (current_words memory) i) (room_in memory) can.thawed.room
 
-  pub can_link_behind : empty_slot (current_words memory) i ≡ None → CanLinkBehind in_snapshot memory blocks i j name
-  can_link_behind none =
-      let needs = need_behind (current_words memory) i can.link.lacks.well_formed can.link.lacks.reached can.link.lacks.directory none in
+  pub can_link_past_end : empty_slot (current_words memory) i ≡ None → CanLinkPastEnd in_snapshot memory blocks i j name
+  can_link_past_end none =
+      let needs = need_past_end (current_words memory) i can.link.lacks.well_formed can.link.lacks.reached can.link.lacks.directory none in
       record {
         can = record {
           lacks = can.link.lacks;
@@ -27,7 +27,7 @@ module _ {in_snapshot : ℕ → Bool} (memory : Memory) (blocks inodes : Set) (i
           inodes = inodes;
           exact = can.exact;
           enough = rw needs at can.thawed.enough;
-          loose = link_loose.behind none;
+          loose = link_loose.past_end none;
           room = rw needs at link_room;
         };
         there = can.link.there;

@@ -1,11 +1,11 @@
--- A file gets smaller by a store of its size, and the blocks behind it come back.
+-- A file gets smaller by a store of its size, and the blocks after it come back.
 use Rattle.std.proofs.Common.{◌≡◌, ◌⊎◌, ℕ, zero, suc, ◌+◌, ◌*◌, ◌<◌, ◌≤◌, [], length, set, ◌/◌, Bool, true, false, sym, ◌∙◌, ap, suc-ne-zero, arith, inl, inr, lt_of_lt_of_le, refl, flat_map, fold, ◌==◌, ◌++◌, get_or, List, if◌then◌else◌}
 use Rattle.std.proofs.lemmas.Bool.{cases_Bool, le-ltb}
 use Rattle.std.proofs.lemmas.List.{length-set}
 use Rattle.std.proofs.lemmas.List.FromFn.{get_or-map-range_with_len}
 use Rattle.bp_calls.specs.GivenBack.{GivesBack}
 use Rattle.bp_calls.specs.Resized.{ResizesFile}
-use Rattle.bp_calls.proofs.GivenUpLaws.{gives_as, has_larger}
+use Rattle.bp_calls.proofs.TruncatedLaws.{gives_as, has_larger}
 use Rattle.bp_calls.proofs.Longer.{no_file}
 use Rattle.bp_calls.proofs.OpenPlaces.{content_live, inode_address, root_word_stays, stands_stored}
 use Rattle.bp_calls.proofs.SetLaws.{free_inodes_stay}
@@ -29,7 +29,7 @@ use Rattle.bp_layout.proofs.Reached.{reached-in_file}
 use Rattle.bp_layout.proofs.SameLaws.{same_self}
 use Rattle.bp_layout.proofs.TreeLaws.{KeepsPointers, node-kept, sound-kept, has_block-kept, live_content, live_pointer_word}
 use Rattle.bp_shapes.specs.Sets.{AreExact}
-use Rattle.bp_shapes.specs.Freed.{IsGivenUp}
+use Rattle.bp_shapes.specs.Freed.{IsTruncated}
 use Rattle.bp_shapes.proofs.Freed.{freed_blocks, resize_frees}
 use Rattle.bp_commit.specs.Performs.{PerformsThawed}
 use Rattle.bp_tree.proofs.ExistingPaths.{AllThere, inode_path-there, cover-one, copied-one}
@@ -80,7 +80,7 @@ module _ (image : Image) (wf : IsWellFormed image) (n size : ℕ) (reached : IsR
       let copies : length (copied image change) ≡ 0 = ap length (copied-one image change (inode_word_path image change (suc n) 2) refl all) in
       omega (arith, made, copies)
 
--- told of any number
+-- stated of any number
 pub none_shrinking : (image : Image) → IsWellFormed image → (i size : ℕ) → IsReached image i → kind_of image i ≡ 1 → size ≤ size_of image i → need image (resizes i size) ≡ 0
 none_shrinking image wf zero size reached file smaller = absurd (omega (arith, file))
 none_shrinking image wf (suc n) size reached file smaller = needed_smaller image wf n size reached smaller
@@ -161,8 +161,8 @@ module _ {in_snapshot : ℕ → Bool} (image : Image) (blocks inodes : Set) (n s
       go (inl is) = absurd ((shrinks.exact.free_blocks.free b is).free (record { tree = file; reached = shrinks.reached; has = here }))
       go (inr not) = not
 
-  given_up_back : (b : ℕ) → IsGivenUp last (root_of image file) (size_of image file) size b → IsGivenUp image (root_of image file) (size_of image file) size b
-  given_up_back b gone = record {
+  truncated_back : (b : ℕ) → IsTruncated last (root_of image file) (size_of image file) size b → IsTruncated image (root_of image file) (size_of image file) size b
+  truncated_back b gone = record {
     has = record {
       depth = gone.has.depth;
       index = gone.has.index;
@@ -173,8 +173,8 @@ module _ {in_snapshot : ℕ → Bool} (image : Image) (blocks inodes : Set) (n s
     past = gone.past;
   }
 
-  given_up_on : (b : ℕ) → IsGivenUp image (root_of image file) (size_of image file) size b → IsGivenUp last (root_of image file) (size_of image file) size b
-  given_up_on b gone = record {
+  truncated_on : (b : ℕ) → IsTruncated image (root_of image file) (size_of image file) size b → IsTruncated last (root_of image file) (size_of image file) size b
+  truncated_on b gone = record {
     has = record {
       depth = gone.has.depth;
       index = gone.has.index;
@@ -185,19 +185,19 @@ module _ {in_snapshot : ℕ → Bool} (image : Image) (blocks inodes : Set) (n s
     past = gone.past;
   }
 
-  exact_last : (after : Set) → GivesBack in_snapshot (IsGivenUp last (root_of image file) (size_of image file) size) blocks after → AreExact last in_snapshot after inodes
+  exact_last : (after : Set) → GivesBack in_snapshot (IsTruncated last (root_of image file) (size_of image file) size) blocks after → AreExact last in_snapshot after inodes
   exact_last after gives = record {
     block_room = rw (length-set image place size) (gives.room ∙ shrinks.exact.block_room);
     inode_room = rw (length-set image place size) shrinks.exact.inode_room;
-    free_blocks = freed_blocks image last wf (length-set image place size) (IsGivenUp image (root_of image file) (size_of image file) size)
+    free_blocks = freed_blocks image last wf (length-set image place size) (IsTruncated image (root_of image file) (size_of image file) size)
         (resize_frees image wf n size place can (omega (arith, shrinks.smaller))) in_snapshot (has blocks) (has after) shrinks.exact.free_blocks
-        told.only told.still told.given;
+        reported.only reported.still reported.given;
     free_inodes = free_inodes_stay image last (has inodes) (changes.size 0 inode_file (λ e. suc-ne-zero n (sym e)))
         (changed.reached-back image last file wf changes) (changed.reached-on image last file wf changes) shrinks.exact.free_inodes;
   }
     where
-      told : GivesBack in_snapshot (IsGivenUp image (root_of image file) (size_of image file) size) blocks after
-      told = gives_as (IsGivenUp last (root_of image file) (size_of image file) size) (IsGivenUp image (root_of image file) (size_of image file) size) blocks after given_up_back given_up_on gives
+      reported : GivesBack in_snapshot (IsTruncated image (root_of image file) (size_of image file) size) blocks after
+      reported = gives_as (IsTruncated last (root_of image file) (size_of image file) size) (IsTruncated image (root_of image file) (size_of image file) size) blocks after truncated_back truncated_on gives
 
   -- the store is at the cover
   at_cover : address last (cover image (resizes file size)) ≡ place
@@ -227,7 +227,7 @@ module _ {in_snapshot : ℕ → Bool} (old new : Memory) (blocks inodes : Set) (
       (rw stored (changed.well_formed-same (current_words old) (set (current_words old) place size) (suc n) shrinks.well_formed (changes (current_words old) blocks inodes n size place shrinks)))
       (rw stored (resizes_last (current_words old) blocks inodes n size place shrinks))
 
--- ---- told of any number
+-- ---- stated of any number
 
 -- what giving back asks after the store
 pub record CanGiveBack (image : Image) (root size : ℕ) (blocks : Set) : Type 0 where
@@ -245,7 +245,7 @@ can_give_back old new blocks inodes (suc n) size place root was at here shrinks 
 })
 
 pub shrunk : {in_snapshot : ℕ → Bool} (old new : Memory) (blocks after inodes : Set) (i size place root was : ℕ) → root ≡ root_of (current_words old) i → was ≡ size_of (current_words old) i → Shrinks (current_words old) in_snapshot blocks inodes i size place → Adds old new (commit place size) →
-    in_snapshot (place / 512) ≡ false → GivesBack in_snapshot (IsGivenUp (current_words new) root was size) blocks after → PerformsThawed in_snapshot old new (resizes i size) (ResizesFile i size) × AreExact (current_words new) in_snapshot after inodes
+    in_snapshot (place / 512) ≡ false → GivesBack in_snapshot (IsTruncated (current_words new) root was size) blocks after → PerformsThawed in_snapshot old new (resizes i size) (ResizesFile i size) × AreExact (current_words new) in_snapshot after inodes
 shrunk old new blocks after inodes zero size place root was at here shrinks adds loose gives = absurd (no_file (current_words old) shrinks.is_file)
 shrunk old new blocks after inodes (suc n) size place root was at here shrinks adds loose gives = (
   shorter_performs old new blocks inodes n size place shrinks adds loose,

@@ -6,7 +6,7 @@ use Rattle.bp_layout.specs.Need.Change.{enters as gains}
 use Rattle.bp_layout.specs.Need.Entrant.{linked}
 use Rattle.bp_layout.specs.WordPaths.{address, tree_path}
 use Rattle.bp_commit.specs.Performs.{IsOpen, PerformsWithin}
-use Rattle.bp_calls.specs.Growth.{stores_behind_growth}
+use Rattle.bp_calls.specs.Growth.{stores_after_growth}
 use Rattle.bp_commit.proofs.PerformsLaws.{within_stores, within_more}
 use Rattle.bp_calls.proofs.NeedLaws.{cover_in_slot, need_in_slot}
 use Rattle.bp_calls.proofs.OpenPlaces.{content_open, each_weaker, stands_stored, root_word_stays, content_address}
@@ -152,9 +152,9 @@ module _ {in_snapshot : ℕ → Bool} (first third last : Memory) (i s j entry m
         (λ p v both. both.1) (sym (subst (λ w. address w (cover image change) ≡ entry) (sym slot_committed) covered_after)) (sym (needs ∙ need_in_slot image i wf reached lacks.directory s found))
         (content_open image [] i (32 * s + 0) entry reached (omega (arith, in_size)) entry_at loose) (subst IsWellFormed (sym slot_committed) well_formed) effect)
 
-    pub slot_within : Effect image (current_words last) → PerformsWithin in_snapshot (name_need image i) 5 (stores_behind_growth (name_need image i)) first last change Effect
+    pub slot_within : Effect image (current_words last) → PerformsWithin in_snapshot (name_need image i) 5 (stores_after_growth (name_need image i)) first last change Effect
     slot_within effect =
-        within_more in_snapshot (name_need image i) 2 (more + 1) first last change Effect (in_two effect) 5 (stores_behind_growth (name_need image i)) (omega arith) (enough (name_need image i))
+        within_more in_snapshot (name_need image i) 2 (more + 1) first last change Effect (in_two effect) 5 (stores_after_growth (name_need image i)) (omega arith) (enough (name_need image i))
       where
-        enough : (needed : ℕ) → more + 1 ≤ stores_behind_growth needed
+        enough : (needed : ℕ) → more + 1 ≤ stores_after_growth needed
         enough needed = omega (arith, few)

@@ -1,7 +1,7 @@
 -- The sets of free numbers stay exact over a call that takes some of the blocks.
 use Rattle.std.proofs.Common.{◌≡◌, ◌⊎◌, ℕ, Bool, ◌<◌, ◌≤◌, List, [], ◌∷◌, ◌++◌, length, true, sym, ◌∙◌, inl, inr, subst, arith}
 use Rattle.std.specs.List.{range_with_len}
-use Rattle.bp_layout.proofs.MemberLaws.{apart-filter, apart-range, each-of, filter-has, has-behind, has-filter, has-range}
+use Rattle.bp_layout.proofs.MemberLaws.{apart-filter, apart-range, each-of, filter-has, has-after, has-filter, has-range}
 use Rattle.bp_free.specs.Set.{Set, has, members}
 use Rattle.bp_layout.specs.Words.{Image, block_count}
 use Rattle.bp_layout.specs.Free.{AreFreeBlocks}
@@ -60,7 +60,7 @@ module _ {in_snapshot : ℕ → Bool} (old new : Image) (whole : length new ≡ 
 
   free_now : (b : ℕ) → has after b ≡ true → IsFreeBlock new in_snapshot b
   free_now b is =
-      let there : Has (members blocks) b = subst (λ bs. Has bs b) (sym takes) (has-behind taken (members after) b (in_members after b is)) in
+      let there : Has (members blocks) b = subst (λ bs. Has bs b) (sym takes) (has-after taken (members after) b (in_members after b is)) in
       let free : IsFreeBlock old in_snapshot b = free_of old blocks inodes exact b there in
       record {
         low = free.low;

@@ -4,9 +4,9 @@ use Rattle.std.proofs.lemmas.Bool.{le-ltb, lt-ltb, ltb-true, cases_lt}
 use Rattle.std.proofs.lemmas.List.{append-nil, take-take}
 use Rattle.std.proofs.Math.Seq.{take-length}
 use Rattle.bp_layout.specs.Need.{common_all, cover_of}
-use Rattle.bp_cow.proofs.CommonPaths.{Begins, HasExistingFront, all-begin, existing}
-use Rattle.bp_thaw.specs.Fronts.{IsPointerPath}
-use Rattle.bp_thaw.proofs.PointerPaths.{front_path}
+use Rattle.bp_cow.proofs.CommonPaths.{Begins, HasExistingPrefix, all-begin, existing}
+use Rattle.bp_thaw.specs.Prefixes.{IsPointerPath}
+use Rattle.bp_thaw.proofs.PointerPaths.{prefix_path}
 use Rattle.bp_layout.proofs.Reached.{reached-in_file}
 use Rattle.bp_changes.specs.Effects.{CanUnlink}
 use Rattle.bp_layout.specs.Inode.{ContentStandsAt, inode_count, kind_of, root_of, size_of}
@@ -20,7 +20,7 @@ use Rattle.bp_layout.specs.WellFormed.{IsWellFormed}
 use Rattle.bp_layout.specs.WordPaths.{WordPath, digits, inode_path, tree_path}
 use Rattle.bp_layout.specs.Words.{Image, height_of}
 use Rattle.bp_limits.specs.Limits.{max_height}
-use Rattle.bp_thaw.specs.Fronts.{HasDigits, IsWayIn}
+use Rattle.bp_thaw.specs.Prefixes.{HasDigits, IsWayIn}
 use Rattle.bp_layout.specs.Tree.{node, span}
 use Rattle.bp_layout.proofs.TreeLaws.{span-is}
 use Rattle.bp_layout.proofs.ThawLaws.{loose-on}
@@ -72,7 +72,7 @@ inode_way image wf i f reached low =
     let inside : i < inode_count image = reached-in_file image wf i reached in
     content_way image wf 0 (8 * i + f) inode_file (omega (arith, inside, low))
 
--- ---- where bytes come behind a size
+-- ---- where bytes come after a size
 
 -- the way to the root word of a reached tree
 pub root_way : (image : Image) → IsWellFormed image → (t : ℕ) → IsReached image t → IsWayIn image (root_path_now image t)
@@ -94,7 +94,7 @@ end_way image wf t reached =
     record { tree = t; depth = suc (heights_now image t); index = size_of image t / 8; reached = reached; low = omega arith; few = few_digits (suc (heights_now image t)) (size_of image t / 8) (omega (arith, less, wide, next)); is = refl })
     (root_way image wf t reached)
 
--- the path of a word, behind that of its tree's root word
+-- the path of a word, after that of its tree's root word
 root_then : (h t d k : ℕ) → tree_path h t 0 0 ++ digits d k ≡ tree_path h t d k
 root_then h zero d k = refl
 root_then h (suc i) d k = ap (λ (p : WordPath). p ++ digits d k) (append-nil (inode_path h (suc i) 1))
@@ -114,12 +114,12 @@ end_below_root image t root size is long some below =
 pub pointer_way : (image : Image) (path : WordPath) → IsPointerPath image path → IsWayIn image path
 pointer_way image path of = record { tree = of.tree; depth = of.depth; index = of.index; reached = of.reached; low = omega (arith, of.low); few = of.few; is = of.is }
 
--- a front of a way, or all of it, is one
-front_way : (image : Image) → IsWellFormed image → (path : WordPath) (n : ℕ) → IsWayIn image path → n ≤ length path → IsWayIn image (take n path)
-front_way image wf path n way low = go (cases_lt n (length path))
+-- a prefix of a way, or all of it, is one
+prefix_way : (image : Image) → IsWellFormed image → (path : WordPath) (n : ℕ) → IsWayIn image path → n ≤ length path → IsWayIn image (take n path)
+prefix_way image wf path n way low = go (cases_lt n (length path))
   where
     go : (n < length path) ⊎ (length path ≤ n) → IsWayIn image (take n path)
-    go (inl less) = pointer_way image (take n path) (front_path image wf path n way less)
+    go (inl less) = pointer_way image (take n path) (prefix_path image wf path n way less)
     go (inr most) =
         let all : n ≡ length path = omega (arith, low, most) in
         subst (IsWayIn image) (sym (ap (λ m. take m path) all ∙ take-length path)) way
@@ -127,12 +127,12 @@ front_way image wf path n way low = go (cases_lt n (length path))
 -- so is the cover of some ways, of which this is one
 pub cover_way : (image : Image) → IsWellFormed image → (paths : List WordPath) (path : WordPath) → Has paths path → IsWayIn image path → IsWayIn image (cover_of (is_there_now image) paths)
 cover_way image wf paths path among way =
-    subst (IsWayIn image) (sym (far.is ∙ part)) (front_way image wf path far.count way (omega (arith, far.far.low, begins.long)))
+    subst (IsWayIn image) (sym (far.is ∙ part)) (prefix_way image wf path far.count way (omega (arith, far.far.low, begins.long)))
   where
     begins : Begins (common_all paths) path
     begins = all-begin paths path among
 
-    far : HasExistingFront (is_there_now image) [] (common_all paths)
+    far : HasExistingPrefix (is_there_now image) [] (common_all paths)
     far = existing (is_there_now image) [] (common_all paths)
 
     part : take far.count (common_all paths) ≡ take far.count path

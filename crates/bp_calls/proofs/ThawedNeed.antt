@@ -1,5 +1,5 @@
 -- A change before which blocks of the snapshot are thawed: what is known of it then, and the blocks and the room that
--- it has behind the thaw.
+-- it has after the thaw.
 use Rattle.std.proofs.Common.{◌≡◌, ℕ, ◌+◌, ◌<◌, ◌≤◌, List, length, refl, sym, ◌∙◌, subst, arith}
 use Rattle.bp_calls.specs.Mounted.{IsMounted}
 use Rattle.bp_calls.specs.Space.{HasRoomThawed, HasRoomWhereFree, LacksBlocks, LacksSpace}
@@ -19,7 +19,7 @@ use Rattle.bp_layout.specs.Thaw.{targets}
 use Rattle.bp_layout.specs.WordPaths.{WordPath}
 use Rattle.bp_layout.specs.Words.{Image}
 use Rattle.bp_shapes.specs.Sets.{in_snapshot_of}
-use Rattle.bp_thaw.specs.Fronts.{IsWayIn}
+use Rattle.bp_thaw.specs.Prefixes.{IsWayIn}
 use Rattle.pm_region.specs.Memory.{Memory, current_words, room_in}
 
 module _ {R : Type 0} (memory : R → Memory) (change : Change) (more : ℕ) (old : Parts R) (needs : need (current_words (memory old.region)) change ≡ more)
@@ -80,16 +80,16 @@ module _ {R : Type 0} {memory : R → Memory} {change : Change} {more : ℕ} {ol
         free_for_both = subst (λ (ps : List WordPath). thaw_count memory ps old + more ≤ length (members old.free_blocks)) are enough
 
         -- so the log has room for the change
-        pub room_behind : room_for more ≤ room_in (memory new.region) + 2
-        room_behind = room_left memory change more old plan.needs plan.room plan.mounted plan.reached new thaws_before free_for_both
+        pub room_past_end : room_for more ≤ room_in (memory new.region) + 2
+        room_past_end = room_left memory change more old plan.needs plan.room plan.mounted plan.reached new thaws_before free_for_both
 
         -- enough blocks are free for it
-        pub enough_behind : more ≤ length (members new.free_blocks)
-        enough_behind = enough_left memory change more old plan.needs plan.room plan.mounted plan.reached new thaws_before free_for_both
+        pub enough_after : more ≤ length (members new.free_blocks)
+        enough_after = enough_left memory change more old plan.needs plan.room plan.mounted plan.reached new thaws_before free_for_both
 
         -- and nothing is left to thaw
-        pub ready_behind : AreThawedFor memory new change
-        ready_behind =
+        pub ready_after : AreThawedFor memory new change
+        ready_after =
             let enough = has_enough memory change more old plan.needs plan.room plan.mounted plan.reached new thaws_before free_for_both in
             record {
               clear = thawed_clear memory change old new plan.mounted plan.reached thaws_before;
@@ -127,4 +127,4 @@ module _ {R : Type 0} {memory : R → Memory} {change : Change} {more : ℕ} {ol
 
       -- and it is ready
       pub ready_unthawed : AreThawedFor memory old change
-      ready_unthawed = ready_behind refl thaws_unthawed (omega (arith, nothing_thawed, enough))
+      ready_unthawed = ready_after refl thaws_unthawed (omega (arith, nothing_thawed, enough))

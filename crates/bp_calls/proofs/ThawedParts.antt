@@ -1,4 +1,4 @@
--- The parts of a file system are exact over a thaw, and what a change behind it then makes is made of both.
+-- The parts of a file system are exact over a thaw, and what a change after it then makes is made of both.
 use Rattle.std.proofs.Common.{◌≡◌, ℕ, ◌+◌, ◌*◌, ◌/◌, ◌≤◌, List, [], ◌∷◌, length, filter, Bool, true, false, ◌&&◌, refl, sym, ◌∙◌, ap, subst, arith}
 use Rattle.bp_calls.specs.Mounted.{IsMounted}
 use Rattle.bp_calls.specs.ThawsFor.{ThawsFor}
@@ -21,11 +21,11 @@ use Rattle.bp_layout.specs.Names.{AreCounts}
 use Rattle.bp_layout.specs.Need.{Change}
 use Rattle.bp_layout.specs.Reached.IsReached.{inode_file}
 use Rattle.bp_layout.specs.Same.{Same}
-use Rattle.bp_layout.specs.Thaw.{fronts_of, is_in_snapshot_at, is_there_now, targets, thawed, thawed_on}
+use Rattle.bp_layout.specs.Thaw.{proper_prefixes_of, is_in_snapshot_at, is_there_now, targets, thawed, thawed_on}
 use Rattle.bp_layout.specs.WordPaths.{WordPath, address}
 use Rattle.bp_layout.specs.Words.{Image, block_of, word}
 use Rattle.bp_shapes.specs.Sets.{AreExact, in_snapshot_of}
-use Rattle.bp_thaw.specs.Fronts.{IsWayIn}
+use Rattle.bp_thaw.specs.Prefixes.{IsWayIn}
 use Rattle.bp_thaw.specs.Thaws.{Thaws}
 use Rattle.bp_thaw.proofs.Whole.{thaws_nothing}
 use Rattle.pm_region.specs.Memory.{Memory, current_words, room_in}
@@ -67,9 +67,9 @@ module _ {R : Type 0} (memory : R → Memory) (paths : List WordPath) (old : Par
 
   -- ---- where no block is in the snapshot
 
-  nothing_at : (image : Image) (in_snapshot : ℕ → Bool) → ((b : ℕ) → in_snapshot b ≡ false) → (fronts : List WordPath) → filter (is_in_snapshot_at image in_snapshot) fronts ≡ []
+  nothing_at : (image : Image) (in_snapshot : ℕ → Bool) → ((b : ℕ) → in_snapshot b ≡ false) → (prefixes : List WordPath) → filter (is_in_snapshot_at image in_snapshot) prefixes ≡ []
   nothing_at image in_snapshot none [] = refl
-  nothing_at image in_snapshot none (front ∷ fronts) = rw (with_false (is_there_now image front) (none (block_of (word image (address image front))))) (nothing_at image in_snapshot none fronts)
+  nothing_at image in_snapshot none (prefix ∷ prefixes) = rw (with_false (is_there_now image prefix) (none (block_of (word image (address image prefix))))) (nothing_at image in_snapshot none prefixes)
     where
       with_false : (b : Bool) {c : Bool} → c ≡ false → (b && c) ≡ false
       with_false true e = e
@@ -80,7 +80,7 @@ module _ {R : Type 0} (memory : R → Memory) (paths : List WordPath) (old : Par
   no_members (x ∷ xs) none = absurd (omega (arith, none))
 
   pub nothing_in_snapshot : length (members old.snapshot_blocks) ≡ 0 → thawed_on (current_words (memory old.region)) (in_snapshot_of old) paths ≡ []
-  nothing_in_snapshot none = nothing_at (current_words (memory old.region)) (in_snapshot_of old) (none_in old.snapshot_blocks (no_members (members old.snapshot_blocks) none)) (fronts_of [] paths)
+  nothing_in_snapshot none = nothing_at (current_words (memory old.region)) (in_snapshot_of old) (none_in old.snapshot_blocks (no_members (members old.snapshot_blocks) none)) (proper_prefixes_of [] paths)
 
   pub thaws_none : ((path : WordPath) → Has paths path → IsWayIn (current_words (memory old.region)) path) → 2 ≤ room_in (memory old.region) → length (members old.snapshot_blocks) ≡ 0 → ThawsFor memory paths old old
   thaws_none ways room none =
@@ -93,7 +93,7 @@ module _ {R : Type 0} (memory : R → Memory) (paths : List WordPath) (old : Par
         snapshot_blocks = refl;
       }
 
--- ---- a change behind it
+-- ---- a change after it
 
 module _ {R : Type 0} (memory : R → Memory) (change : Change) (old middle : Parts R) (mounted : IsMounted (current_words (memory old.region)) old) (of : IsOfReached (current_words (memory old.region)) change)
     (done : ThawsFor memory (targets (current_words (memory old.region)) change) old middle) where

@@ -15,13 +15,13 @@ use Rattle.bp_free.specs.declared.parts.NoSpace.{NoSpace}
 use Rattle.bp_free.specs.declared.parts.Parts.{Parts}
 use Rattle.bp_layout.specs.Members.{Has}
 use Rattle.bp_layout.specs.Reached.{IsFreeBlock}
-use Rattle.bp_layout.proofs.MemberLaws.{apart-within, has-behind, has-front}
+use Rattle.bp_layout.proofs.MemberLaws.{apart-within, has-after, has-prefix}
 use Rattle.bp_layout.specs.Need.{Change, need}
 use Rattle.bp_layout.specs.Thaw.{full_need, targets}
 use Rattle.bp_layout.specs.WordPaths.{WordPath}
 use Rattle.bp_layout.specs.Words.{Image}
 use Rattle.bp_shapes.specs.Sets.{in_snapshot_of}
-use Rattle.bp_thaw.specs.Fronts.{IsWayIn}
+use Rattle.bp_thaw.specs.Prefixes.{IsWayIn}
 use Rattle.pm_region.specs.Memory.{Memory, current_words, room_in}
 
 -- ---- members of a set
@@ -52,7 +52,7 @@ module _ {R : Type 0} (memory : R → Memory) (change : Change) (more : ℕ) (ol
   lacks_all lacks has = record { needed = full_is ∙ has.needed; free = has.free; fewer = has.fewer }
 
   module _ (mounted : IsMounted image old) (of : IsOfReached image change) where
-    -- behind the thaw there is room for all but its two barriers
+    -- after the thaw there is room for all but its two barriers
     pub room_left : (new : Parts R) → ThawsFor memory ways old new → thaw_count memory ways old + more ≤ length (members old.free_blocks) → room_for more ≤ room_in (memory new.region) + 2
     room_left new done enough =
         let fits = room_to_thaw enough in
@@ -78,8 +78,8 @@ module _ {R : Type 0} (memory : R → Memory) (change : Change) (more : ℕ) (ol
 
         inside : (b : ℕ) → Has (members old.free_blocks) b → Has (done.thaws.taken ++ members new.free_blocks) b
         inside b found = elim (has_or done.thaws.taken b) [
-          | inl took ↦ has-front done.thaws.taken (members new.free_blocks) b took
-          | inr not ↦ has-behind done.thaws.taken (members new.free_blocks) b (in_members new.free_blocks b (still b (of_members old.free_blocks b found) not))
+          | inl took ↦ has-prefix done.thaws.taken (members new.free_blocks) b took
+          | inr not ↦ has-after done.thaws.taken (members new.free_blocks) b (in_members new.free_blocks b (still b (of_members old.free_blocks b found) not))
         ]
 
     -- where nothing is in the snapshot

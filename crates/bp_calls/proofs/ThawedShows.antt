@@ -1,5 +1,5 @@
 -- An image whose trees mean the same shows the same: each path finds the same inode in it, and it stands for the same plain
--- tree. So what a call makes of the plain tree is told behind a thaw as well as before it.
+-- tree. So what a call makes of the plain tree is reported after a thaw as well as before it.
 use Rattle.std.proofs.Common.{◌≡◌, ℕ, ◌+◌, ◌≤◌, List, length, Some, sym, ◌∙◌, subst}
 use Rattle.bp_changes.specs.SameMeaning.{SameMeaning}
 use Rattle.bp_changes.specs.Thawed.{SameShape}

@@ -1,4 +1,4 @@
--- The trail of a content word tells its tree and its number.
+-- The trail of a content word reports its tree and its number.
 use Rattle.std.proofs.Common.{◌≡◌, ℕ, zero, suc, ◌+◌, ◌*◌, ◌/◌, ◌<◌, [], length, refl, sym, ap, arith}
 use Rattle.bp_layout.specs.Inode.{root_of}
 use Rattle.bp_layout.specs.Reached.{IsReached}

@@ -8,17 +8,17 @@ use Rattle.bp_shapes.specs.Trail.IsPlaced.{at_top, in_block}
 use Rattle.bp_cow.specs.Cover.{BeginAlike, end_path}
 use Rattle.bp_cow.specs.Found.{AreWaysIn}
 use Rattle.bp_cow.specs.Touched.{IsTouched, all_paths}
-use Rattle.bp_cow.specs.declared.covering.FoundWays.{FoundWays}
+use Rattle.bp_cow.specs.declared.covers.FoundWays.{FoundWays}
 use Rattle.bp_cow.specs.declared.touched.Touched.{Touched}
 use Rattle.bp_cow.proofs.CopiesNeed.{alike-all}
 use Rattle.bp_cow.proofs.CoverLaws.{end-slots, some-ends}
-use Rattle.bp_cow.proofs.CoverOf.{alike_front}
+use Rattle.bp_cow.proofs.CoverOf.{alike_prefix}
 
 module _ (old new : Image) (touched : Touched) (shape : IsTouched touched) (whole : length new ≡ length old)
     (same : (d : ℕ) → BeginAlike touched (suc d) → block_on new (trail_of (end_path touched 0) d) ≡ block_on old (trail_of (end_path touched 0) d)) (found : FoundWays) (ways : AreWaysIn old touched found) where
   -- on the way
   here : (d : ℕ) → d < found.cover.len → block_on new (trail_of (end_path touched 0) d) ≡ block_on old (trail_of (end_path touched 0) d)
-  here d low = same d (alike_front touched found.cover.len (suc d) (omega (arith, low)) ways.cover.at.alike)
+  here d low = same d (alike_prefix touched found.cover.len (suc d) (omega (arith, low)) ways.cover.at.alike)
 
   exists : (d : ℕ) → d < found.cover.len → block_on new (trail_of (end_path touched 0) d) ≢ 0
   exists d low null = ways.cover.at.exists d low (sym (here d low) ∙ null)
@@ -63,8 +63,8 @@ ways_stay_on old new touched shape whole path in_paths same = ways_stay old new 
     on : (d : ℕ) → BeginAlike touched (suc d) → block_on new (trail_of (end_path touched 0) d) ≡ block_on old (trail_of (end_path touched 0) d)
     on d alike =
         let begins = alike-all touched shape (suc d) alike path in_paths in
-        let front : trail_of path d ≡ trail_of (end_path touched 0) d = front_of begins.1 in
-        ap (block_on new) (sym front) ∙ same d (omega (arith, begins.0)) ∙ ap (block_on old) front
+        let prefix : trail_of path d ≡ trail_of (end_path touched 0) d = prefix_of begins.1 in
+        ap (block_on new) (sym prefix) ∙ same d (omega (arith, begins.0)) ∙ ap (block_on old) prefix
       where
-        front_of : trail_of path (suc d) ≡ trail_of (end_path touched 0) (suc d) → trail_of path d ≡ trail_of (end_path touched 0) d
-        front_of e = cc
+        prefix_of : trail_of path (suc d) ≡ trail_of (end_path touched 0) (suc d) → trail_of path d ≡ trail_of (end_path touched 0) d
+        prefix_of e = cc

@@ -241,7 +241,7 @@ module _ {in_snapshot : ℕ → Bool} {old : Memory} {blocks inodes : Set} {i of
   pub write_apart : NoneBegins (all_paths touched)
   write_apart = none-begins (current_words old) (size_of (current_words old)) touched (has blocks) write.into.well_formed write_can
 
-  -- so many blocks it takes, and near its cover it stores
+  -- as many blocks it takes, and near its cover it stores
   pub write_needs : copied_count (current_words old) touched ≡ need (current_words old) (writes i offset (length bytes))
   write_needs =
       from_run write.touches.is (λ o bs. copied_count (current_words old) touched ≡ need (current_words old) (writes i o (length bs))) ready.need_is

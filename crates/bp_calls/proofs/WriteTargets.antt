@@ -1,4 +1,4 @@
--- The words near which bytes come into a file, and the ways to them: below its size, behind it, and across it.
+-- The words near which bytes come into a file, and the ways to them: below its size, after it, and across it.
 use Rattle.std.proofs.Common.{◌≡◌, ◌≢◌, ◌⊎◌, ℕ, zero, suc, ◌+◌, ◌-◌, ◌*◌, ◌/◌, ◌%◌, ◌<◌, ◌≤◌, min, max, List, [], ◌∷◌, ◌++◌, Bool, nat_lt, if◌then◌else◌, flat_map, fold, take, length, map, refl, sym, ◌∙◌, ap, ap₂, subst, arith, inl, inr, append_assoc}
 use Rattle.std.specs.List.{range_with_len}
 use Rattle.std.proofs.lemmas.Bool.{cases_lt, eq-eqb, le-ltb, lt-ltb, ne_eqb}
@@ -14,47 +14,47 @@ use Rattle.bp_layout.specs.Thaw.{cover_now, end_path_now, end_targets, heights_n
 use Rattle.bp_layout.specs.WellFormed.{IsWellFormed}
 use Rattle.bp_layout.specs.WordPaths.{WordPath, digits, inode_path}
 use Rattle.bp_layout.specs.Words.{Image}
-use Rattle.bp_layout.proofs.MemberLaws.{has-behind}
+use Rattle.bp_layout.proofs.MemberLaws.{has-after}
 use Rattle.bp_cow.proofs.LeafCover.{leaf_path}
-use Rattle.bp_thaw.specs.Fronts.{IsWayIn}
+use Rattle.bp_thaw.specs.Prefixes.{IsWayIn}
 use Rattle.bp_tree.proofs.ExistingPaths.{AllThere, cover_of-one, existing-all}
 use Rattle.bp_calls.proofs.TargetPaths.{content_way, cover_way, end_way, inode_path-now, inode_way, root_way}
 
 -- ---- what paths have in common
 
-common_front : (xs ys zs : List ℕ) → common (xs ++ ys) (xs ++ zs) ≡ xs ++ common ys zs
-common_front [] ys zs = refl
-common_front (x ∷ xs) ys zs = rw (eq-eqb x x refl) (ap (λ (r : WordPath). x ∷ r) (common_front xs ys zs))
+common_prefix : (xs ys zs : List ℕ) → common (xs ++ ys) (xs ++ zs) ≡ xs ++ common ys zs
+common_prefix [] ys zs = refl
+common_prefix (x ∷ xs) ys zs = rw (eq-eqb x x refl) (ap (λ (r : WordPath). x ∷ r) (common_prefix xs ys zs))
 
--- the path goes on behind a front by this slot
-record GoesOn (front : WordPath) (slot : ℕ) (path : WordPath) : Type 0 where
+-- the path goes on after a prefix by this slot
+record GoesOn (prefix : WordPath) (slot : ℕ) (path : WordPath) : Type 0 where
   pub rest : WordPath
-  pub is : path ≡ front ++ slot ∷ rest
+  pub is : path ≡ prefix ++ slot ∷ rest
 
-common_goes : (front : WordPath) (slot : ℕ) (p q : WordPath) → GoesOn front slot p → GoesOn front slot q → GoesOn front slot (common p q)
-common_goes front slot p q one two = record {
+common_goes : (prefix : WordPath) (slot : ℕ) (p q : WordPath) → GoesOn prefix slot p → GoesOn prefix slot q → GoesOn prefix slot (common p q)
+common_goes prefix slot p q one two = record {
   rest = common one.rest two.rest;
-  is = ap₂ common one.is two.is ∙ common_front front (slot ∷ one.rest) (slot ∷ two.rest) ∙ rw (eq-eqb slot slot refl) refl;
+  is = ap₂ common one.is two.is ∙ common_prefix prefix (slot ∷ one.rest) (slot ∷ two.rest) ∙ rw (eq-eqb slot slot refl) refl;
 }
 
-fold_goes : (f : ℕ → WordPath) (front : WordPath) (slot : ℕ) → ((k : ℕ) → GoesOn front slot (f k)) → (ks : List ℕ) (p : WordPath) → GoesOn front slot p → GoesOn front slot (fold common p (map f ks))
-fold_goes f front slot each [] p goes = goes
-fold_goes f front slot each (k ∷ ks) p goes = fold_goes f front slot each ks (common p (f k)) (common_goes front slot p (f k) goes (each k))
+fold_goes : (f : ℕ → WordPath) (prefix : WordPath) (slot : ℕ) → ((k : ℕ) → GoesOn prefix slot (f k)) → (ks : List ℕ) (p : WordPath) → GoesOn prefix slot p → GoesOn prefix slot (fold common p (map f ks))
+fold_goes f prefix slot each [] p goes = goes
+fold_goes f prefix slot each (k ∷ ks) p goes = fold_goes f prefix slot each ks (common p (f k)) (common_goes prefix slot p (f k) goes (each k))
 
 -- and another one by another slot
-common_apart : (front : WordPath) (slot other : ℕ) (p q : WordPath) → slot ≢ other → GoesOn front slot p → GoesOn front other q → common p q ≡ front
-common_apart front slot other p q apart one two =
-    ap₂ common one.is two.is ∙ common_front front (slot ∷ one.rest) (other ∷ two.rest) ∙ rw (ne_eqb slot other apart) (append-nil front)
+common_apart : (prefix : WordPath) (slot other : ℕ) (p q : WordPath) → slot ≢ other → GoesOn prefix slot p → GoesOn prefix other q → common p q ≡ prefix
+common_apart prefix slot other p q apart one two =
+    ap₂ common one.is two.is ∙ common_prefix prefix (slot ∷ one.rest) (other ∷ two.rest) ∙ rw (ne_eqb slot other apart) (append-nil prefix)
 
-common_leaf : (f : ℕ → WordPath) (front : WordPath) (slot other : ℕ) (last : WordPath) → slot ≢ other → ((k : ℕ) → GoesOn front slot (f k)) → GoesOn front other last → (from count : ℕ) →
-    common_all (map f (range_with_len from (suc count)) ++ last ∷ []) ≡ front
-common_leaf f front slot other last apart each goes from count =
+common_leaf : (f : ℕ → WordPath) (prefix : WordPath) (slot other : ℕ) (last : WordPath) → slot ≢ other → ((k : ℕ) → GoesOn prefix slot (f k)) → GoesOn prefix other last → (from count : ℕ) →
+    common_all (map f (range_with_len from (suc count)) ++ last ∷ []) ≡ prefix
+common_leaf f prefix slot other last apart each goes from count =
     fold-append common (f from) (map f (range_with_len (from + 1) count)) (last ∷ [])
-    ∙ common_apart front slot other _ last apart (fold_goes f front slot each (range_with_len (from + 1) count) (f from) (each from)) goes
+    ∙ common_apart prefix slot other _ last apart (fold_goes f prefix slot each (range_with_len (from + 1) count) (f from) (each from)) goes
 
-there_front : (there : WordPath → Bool) (here p q : WordPath) → AllThere there here (p ++ q) → AllThere there here p
-there_front there here [] q all = tt
-there_front there here (slot ∷ p) q all = (all.0, there_front there (here ++ slot ∷ []) p q all.1)
+there_prefix : (there : WordPath → Bool) (here p q : WordPath) → AllThere there here (p ++ q) → AllThere there here p
+there_prefix there here [] q all = tt
+there_prefix there here (slot ∷ p) q all = (all.0, there_prefix there (here ++ slot ∷ []) p q all.1)
 
 module _ (image : Image) (wf : IsWellFormed image) (n : ℕ) (reached : IsReached image (suc n)) where
   abbrev i : ℕ
@@ -66,12 +66,12 @@ module _ (image : Image) (wf : IsWellFormed image) (n : ℕ) (reached : IsReache
   size_there : AllThere (is_there_now image) [] size_way
   size_there = inode_path-now image wf (suc n) 2 reached (omega arith)
 
-  -- behind a cover come the ways to the end
-  abbrev pub behind_cover : WordPath → List WordPath
-  behind_cover cover = cover ∷ root_path_now image (suc n) ∷ end_path_now image (suc n) ∷ []
+  -- after a cover come the ways to the end
+  abbrev pub past_end_cover : WordPath → List WordPath
+  past_end_cover cover = cover ∷ root_path_now image (suc n) ∷ end_path_now image (suc n) ∷ []
 
-  behind_ways : (cover : WordPath) → IsWayIn image cover → (path : WordPath) → Has (behind_cover cover) path → IsWayIn image path
-  behind_ways cover way path has = elim has [
+  past_end_ways : (cover : WordPath) → IsWayIn image cover → (path : WordPath) → Has (past_end_cover cover) path → IsWayIn image path
+  past_end_ways cover way path has = elim has [
     | inl e ↦ subst (IsWayIn image) e way
     | inr more ↦ elim more [
       | inl e ↦ subst (IsWayIn image) e (root_way image wf (suc n) reached)
@@ -83,12 +83,12 @@ module _ (image : Image) (wf : IsWellFormed image) (n : ℕ) (reached : IsReache
     growing_cover : cover_now image (resizes (suc n) size) ≡ size_way
     growing_cover = cover_of-one (is_there_now image) size_way size_there
 
-    pub growing_targets : targets image (resizes (suc n) size) ≡ behind_cover (inode_path (heights_now image 0) (suc n) 2)
-    growing_targets = rw (lt-ltb (size_of image (suc n)) size longer) (ap behind_cover growing_cover)
+    pub growing_targets : targets image (resizes (suc n) size) ≡ past_end_cover (inode_path (heights_now image 0) (suc n) 2)
+    growing_targets = rw (lt-ltb (size_of image (suc n)) size longer) (ap past_end_cover growing_cover)
 
     pub growing_ways : (path : WordPath) → Has (targets image (resizes (suc n) size)) path → IsWayIn image path
     growing_ways path has =
-        behind_ways (inode_path (heights_now image 0) (suc n) 2) (inode_way image wf (suc n) 2 reached (omega arith)) path (subst (λ ps. Has ps path) growing_targets has)
+        past_end_ways (inode_path (heights_now image 0) (suc n) 2) (inode_way image wf (suc n) 2 reached (omega arith)) path (subst (λ ps. Has ps path) growing_targets has)
 
   module _ (offset len : ℕ) where
     abbrev change : Change
@@ -103,19 +103,19 @@ module _ (image : Image) (wf : IsWellFormed image) (n : ℕ) (reached : IsReache
     abbrev covered : Bool → Bool → WordPath
     covered starts longer = cover_of (is_there_now image) (touched_by starts longer)
 
-    past_targets : size_of image (suc n) < offset + len → targets image (writes (suc n) offset len) ≡ behind_cover (cover_now image (writes (suc n) offset len))
+    past_targets : size_of image (suc n) < offset + len → targets image (writes (suc n) offset len) ≡ past_end_cover (cover_now image (writes (suc n) offset len))
     past_targets past =
         ap (λ (longer : Bool). cover_now image change ∷ flat_map (end_targets image) ((if longer then record { tree = suc n; from = max offset (size_of image (suc n)); to = offset + len } ∷ [] else []) ++ []) ++ []) (lt-ltb (size_of image (suc n)) (offset + len) past)
 
-    -- ---- behind the size
+    -- ---- after the size
 
-    behind_covered : size_of image (suc n) ≤ offset → size_of image (suc n) < offset + len → cover_now image (writes (suc n) offset len) ≡ inode_path (heights_now image 0) (suc n) 2
-    behind_covered behind past =
-        ap₂ covered (le-ltb offset (size_of image (suc n)) behind) (lt-ltb (size_of image (suc n)) (offset + len) past)
+    past_end_covered : size_of image (suc n) ≤ offset → size_of image (suc n) < offset + len → cover_now image (writes (suc n) offset len) ≡ inode_path (heights_now image 0) (suc n) 2
+    past_end_covered past_end past =
+        ap₂ covered (le-ltb offset (size_of image (suc n)) past_end) (lt-ltb (size_of image (suc n)) (offset + len) past)
         ∙ cover_of-one (is_there_now image) size_way size_there
 
-    pub behind_targets : size_of image (suc n) ≤ offset → size_of image (suc n) < offset + len → targets image (writes (suc n) offset len) ≡ behind_cover (inode_path (heights_now image 0) (suc n) 2)
-    behind_targets behind past = past_targets past ∙ ap behind_cover (behind_covered behind past)
+    pub past_end_targets : size_of image (suc n) ≤ offset → size_of image (suc n) < offset + len → targets image (writes (suc n) offset len) ≡ past_end_cover (inode_path (heights_now image 0) (suc n) 2)
+    past_end_targets past_end past = past_targets past ∙ ap past_end_cover (past_end_covered past_end past)
 
     -- ---- across it
 
@@ -137,7 +137,7 @@ module _ (image : Image) (wf : IsWellFormed image) (n : ℕ) (reached : IsReache
         }
 
     leaf_there : AllThere (is_there_now image) [] leaf
-    leaf_there = there_front (is_there_now image) [] leaf ((8 * suc n + 1) % 512 ∷ []) (inode_path-now image wf (suc n) 1 reached (omega arith))
+    leaf_there = there_prefix (is_there_now image) [] leaf ((8 * suc n + 1) % 512 ∷ []) (inode_path-now image wf (suc n) 1 reached (omega arith))
 
     pub across_covered : offset < size_of image (suc n) → size_of image (suc n) < offset + len → cover_now image (writes (suc n) offset len) ≡ leaf_path (heights_now image 0) (suc n)
     across_covered below past =
@@ -146,8 +146,8 @@ module _ (image : Image) (wf : IsWellFormed image) (n : ℕ) (reached : IsReache
         ((min (offset + len) (size_of image (suc n)) - 1) / 8 - offset / 8))
         ∙ existing-all (is_there_now image) [] leaf leaf_there
 
-    pub across_targets : offset < size_of image (suc n) → size_of image (suc n) < offset + len → targets image (writes (suc n) offset len) ≡ behind_cover (leaf_path (heights_now image 0) (suc n))
-    across_targets below past = past_targets past ∙ ap behind_cover (across_covered below past)
+    pub across_targets : offset < size_of image (suc n) → size_of image (suc n) < offset + len → targets image (writes (suc n) offset len) ≡ past_end_cover (leaf_path (heights_now image 0) (suc n))
+    across_targets below past = past_targets past ∙ ap past_end_cover (across_covered below past)
 
     -- ---- below it
 
@@ -168,7 +168,7 @@ module _ (image : Image) (wf : IsWellFormed image) (n : ℕ) (reached : IsReache
         go (inr past) =
             cover_way image wf (touched_at (heights_now image) image change) size_way
             (subst (λ s. Has (touched_by (nat_lt offset (size_of image (suc n))) s) size_way) (sym (lt-ltb (size_of image (suc n)) (offset + len) (omega (arith, past, some))))
-            (has-behind (map (content_path_at (heights_now image) (suc n)) (words (nat_lt offset (size_of image (suc n))))) (size_way ∷ []) size_way (inl refl)))
+            (has-after (map (content_path_at (heights_now image) (suc n)) (words (nat_lt offset (size_of image (suc n))))) (size_way ∷ []) size_way (inl refl)))
             (inode_way image wf (suc n) 2 reached (omega arith))
 
     pub write_ways : 1 ≤ len → (path : WordPath) → Has (targets image (writes (suc n) offset len)) path → IsWayIn image path
@@ -178,7 +178,7 @@ module _ (image : Image) (wf : IsWellFormed image) (n : ℕ) (reached : IsReache
         alone one = elim one [ inl e ↦ subst (IsWayIn image) e (covering_way some) | inr never ↦ absurd never ]
 
         go : (size_of image (suc n) < offset + len) ⊎ (offset + len ≤ size_of image (suc n)) → IsWayIn image path
-        go (inl past) = behind_ways (cover_now image (writes (suc n) offset len)) (covering_way some) path (subst (λ ps. Has ps path) (past_targets past) has)
+        go (inl past) = past_end_ways (cover_now image (writes (suc n) offset len)) (covering_way some) path (subst (λ ps. Has ps path) (past_targets past) has)
         go (inr within) = alone (subst (λ ps. Has ps path) (below_targets within) has)
 
 -- ---- paths as they are read
@@ -188,12 +188,12 @@ root_path_is image zero some = absurd (omega (arith, some))
 root_path_is image (suc n) some = sym (append-nil (inode_path (heights_now image 0) (suc n) 1))
 
 -- the word of the size stands in the leaf of the inode
-pub leaf_front : (height i : ℕ) → take (length (inode_path height i 2) - 1) (inode_path height i 2) ≡ leaf_path height i
-leaf_front height i =
-    let front : List ℕ = digits height ((8 * i + 2) / 512) in
-    let long : length (front ++ (8 * i + 2) % 512 ∷ []) - 1 ≡ length front = omega (arith, length-append front ((8 * i + 2) % 512 ∷ [])) in
+pub leaf_prefix : (height i : ℕ) → take (length (inode_path height i 2) - 1) (inode_path height i 2) ≡ leaf_path height i
+leaf_prefix height i =
+    let prefix : List ℕ = digits height ((8 * i + 2) / 512) in
+    let long : length (prefix ++ (8 * i + 2) % 512 ∷ []) - 1 ≡ length prefix = omega (arith, length-append prefix ((8 * i + 2) % 512 ∷ [])) in
     let same : (8 * i + 2) / 512 ≡ (8 * i + 1) / 512 = omega arith in
-    ap (λ n. take n (front ++ (8 * i + 2) % 512 ∷ [])) long ∙ take-append_seam front ((8 * i + 2) % 512 ∷ []) ∙ ap (digits height) same
+    ap (λ n. take n (prefix ++ (8 * i + 2) % 512 ∷ [])) long ∙ take-append_seam prefix ((8 * i + 2) % 512 ∷ []) ∙ ap (digits height) same
 
 -- ---- by the number of the inode
 
@@ -202,7 +202,7 @@ pub file_some : (image : Image) (i : ℕ) → kind_of image i ≡ 1 → 1 ≤ i
 file_some image zero kind = absurd (omega (arith, kind))
 file_some image (suc n) kind = omega arith
 
--- behind a cover come the ways to the end
+-- after a cover come the ways to the end
 abbrev pub with_end : Image → WordPath → ℕ → List WordPath
 with_end image cover i = cover ∷ root_path_now image i ∷ end_path_now image i ∷ []
 
@@ -215,9 +215,9 @@ module _ (image : Image) (wf : IsWellFormed image) where
   growing_ways_at zero size some reached longer = absurd (omega (arith, some))
   growing_ways_at (suc n) size some reached longer = growing_ways image wf n reached size longer
 
-  pub behind_at : (i offset len : ℕ) → 1 ≤ i → IsReached image i → size_of image i ≤ offset → 1 ≤ len → targets image (writes i offset len) ≡ with_end image (inode_path (heights_now image 0) i 2) i
-  behind_at zero offset len some reached behind more = absurd (omega (arith, some))
-  behind_at (suc n) offset len some reached behind more = behind_targets image wf n reached offset len behind (omega (arith, behind, more))
+  pub past_end_at : (i offset len : ℕ) → 1 ≤ i → IsReached image i → size_of image i ≤ offset → 1 ≤ len → targets image (writes i offset len) ≡ with_end image (inode_path (heights_now image 0) i 2) i
+  past_end_at zero offset len some reached past_end more = absurd (omega (arith, some))
+  past_end_at (suc n) offset len some reached past_end more = past_end_targets image wf n reached offset len past_end (omega (arith, past_end, more))
 
   pub across_at : (i offset len : ℕ) → 1 ≤ i → IsReached image i → offset < size_of image i → size_of image i < offset + len → targets image (writes i offset len) ≡ with_end image (leaf_path (heights_now image 0) i) i
   across_at zero offset len some reached below past = absurd (omega (arith, some))

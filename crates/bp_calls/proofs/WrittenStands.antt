@@ -12,26 +12,26 @@ use Rattle.bp_layout.specs.Paths.Node.{file}
 use Rattle.bp_layout.specs.Tree.{byte, content}
 use Rattle.bp_layout.specs.WellFormed.{IsWellFormed}
 use Rattle.bp_layout.specs.Words.{Image}
-use Rattle.bp_layout.proofs.NameBytes.{map-tells}
+use Rattle.bp_layout.proofs.NameBytes.{map-equal}
 use Rattle.bp_plain.specs.Plain.{bytes_at, bytes_in, with_content, written}
 use Rattle.bp_plain.specs.Stands.{Shows}
 use Rattle.bp_stands.proofs.FileStands.{content_shows}
-use Rattle.bp_stands.proofs.WrittenBytes.{in_bytes, in_front, in_front_had, in_rest, written_length, zeros}
-use Rattle.bp_calls.proofs.WriteBehind.{written_before, written_between, written_inside, written_past}
+use Rattle.bp_stands.proofs.WrittenBytes.{in_bytes, in_prefix, in_prefix_had, in_rest, written_length, zeros}
+use Rattle.bp_calls.proofs.WritePastEnd.{written_before, written_between, written_inside, written_past}
 
 -- the list with the new bytes, byte by byte
 module _ (had : List ℕ) (offset : ℕ) (bytes : List ℕ) where
   module _ (size : ℕ) (old : ℕ → ℕ) (had_length : length had ≡ size) (had_byte : (o : ℕ) → o < size → get_or had o 0 ≡ old o) where
-    pub written_tells : (o : ℕ) → o < max size (offset + length bytes) → written_byte offset bytes size old o ≡ get_or (written had offset bytes) o 0
-    written_tells o low = go (cases_lt o offset) (cases_lt o (offset + length bytes)) (cases_lt o size)
+    pub written_reports : (o : ℕ) → o < max size (offset + length bytes) → written_byte offset bytes size old o ≡ get_or (written had offset bytes) o 0
+    written_reports o low = go (cases_lt o offset) (cases_lt o (offset + length bytes)) (cases_lt o size)
       where
         go : (o < offset) ⊎ (offset ≤ o) → (o < offset + length bytes) ⊎ (offset + length bytes ≤ o) → (o < size) ⊎ (size ≤ o) → written_byte offset bytes size old o ≡ get_or (written had offset bytes) o 0
         go (inl before) _ (inl below) =
             written_before offset bytes size old o before below
-            ∙ sym (in_front_had had offset bytes o before (omega (arith, below, had_length)) ∙ had_byte o below)
+            ∙ sym (in_prefix_had had offset bytes o before (omega (arith, below, had_length)) ∙ had_byte o below)
         go (inl before) _ (inr above) =
             written_between offset bytes size old o before above
-            ∙ sym (in_front had offset bytes o before ∙ get_or-append_right had (zeros had offset bytes) size o 0 had_length above ∙ get_or-replicate (offset - length had) (o - size) 0 0 (omega (arith, before, above, had_length)))
+            ∙ sym (in_prefix had offset bytes o before ∙ get_or-append_right had (zeros had offset bytes) size o 0 had_length above ∙ get_or-replicate (offset - length had) (o - size) 0 0 (omega (arith, before, above, had_length)))
         go (inr from_here) (inl inside) _ = written_inside offset bytes size old o from_here inside ∙ sym (in_bytes had offset bytes o from_here inside)
         go (inr from_here) (inr past) (inl below) = written_past offset bytes size old o past below ∙ sym (in_rest had offset bytes o past ∙ had_byte o below)
         go (inr from_here) (inr past) (inr above) = absurd (omega (arith, low, past, above))
@@ -50,12 +50,12 @@ module _ (old new : Image) (wf : IsWellFormed old) (i offset : ℕ) (bytes : Lis
   whole = written_length had offset bytes ∙ ap (λ n. max n (offset + length bytes)) had_length ∙ sym is.size
 
   byte_is : (o : ℕ) → o < size_of new i → byte new (root_of new i) o ≡ get_or (written had offset bytes) o 0
-  byte_is o low = is.bytes_are o low ∙ written_tells had offset bytes (size_of old i) (byte old (root_of old i)) had_length had_byte o (omega (arith, low, is.size))
+  byte_is o low = is.bytes_are o low ∙ written_reports had offset bytes (size_of old i) (byte old (root_of old i)) had_length had_byte o (omega (arith, low, is.size))
 
   bytes_are : content new (root_of new i) (size_of new i) ≡ written had offset bytes
   bytes_are =
       ap (content new (root_of new i)) (sym whole)
-      ∙ map-tells (byte new (root_of new i)) (written had offset bytes) (λ o low. byte_is o (omega (arith, low, whole)))
+      ∙ map-equal (byte new (root_of new i)) (written had offset bytes) (λ o low. byte_is o (omega (arith, low, whole)))
 
   node_is : node_of old i ≡ file had
   node_is = rw is.changes.is_file refl

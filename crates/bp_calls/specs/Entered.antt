@@ -28,7 +28,7 @@ pub record IsReadyEntry (image : Image) (i s : ℕ) (name : Name) : Type 0 where
 
 -- After the last entry of directory `i` there is one with this name for inode `j`. Read with one more entry the
 -- directory's tree is sound and has no null pointer, and it shares no block with another tree.
-pub record IsReadyBehind (image : Image) (i j : ℕ) (name : Name) : Type 0 where
+pub record IsReadyPastEnd (image : Image) (i j : ℕ) (name : Name) : Type 0 where
   pub reached : IsReached image i
   pub directory : IsDirectory image i
   pub sound : IsSound image (root_of image i) (size_of image i + entry_size)

@@ -24,14 +24,14 @@ abbrev pub AreEntryBytes : ℕ → Name → List ℕ → Type 0
 AreEntryBytes inumber name bytes = (at : ℕ) → at < entry_size → slice_index bytes at ≡ entry_byte inumber name at
 
 -- Directory `i` is prepared for one more entry, which refers to inode `j`. The entry is not visible yet.
-pub record PutsBehind (in_snapshot : ℕ → Bool) (old new : Memory) (free_old free_new : List ℕ) (i j : ℕ) (name : Name) : Type 0 where
+pub record PutsPastEnd (in_snapshot : ℕ → Bool) (old new : Memory) (free_old free_new : List ℕ) (i j : ℕ) (name : Name) : Type 0 where
   pub bytes : List ℕ
   pub prepared : PreparesWith in_snapshot old new free_old free_new i (size_of (current_words old) i)
       (size_of (current_words old) i + entry_size) bytes
   pub inumber : inumber_in (current_words new) (root_of (current_words new) i) (entry_count (current_words old) i) ≡ j
   pub spelled : name_in (current_words new) (root_of (current_words new) i) (entry_count (current_words old) i) ≡ name
 
--- `PutsBehind` for the parts of a file system, with their free blocks.
+-- `PutsPastEnd` for the parts of a file system, with their free blocks.
 abbrev pub PutsEntry : {R : Type 0} → (R → Memory) → Parts R → Parts R → ℕ → ℕ → Name → Type 0
-PutsEntry memory old new i j name = PutsBehind (in_snapshot_of old) (memory old.region) (memory new.region) (members old.free_blocks)
+PutsEntry memory old new i j name = PutsPastEnd (in_snapshot_of old) (memory old.region) (memory new.region) (members old.free_blocks)
     (members new.free_blocks) i j name

@@ -60,8 +60,8 @@ growth_stores needed = block_words * (needed + 2)
 
 -- The greatest number of stores of the rest of a call that needs this number of blocks after a growth. With those of
 -- the growth they are within the bound for a call.
-abbrev pub stores_behind_growth : ℕ → ℕ
-stores_behind_growth needed = block_words * (needed + 4) + 64
+abbrev pub stores_after_growth : ℕ → ℕ
+stores_after_growth needed = block_words * (needed + 4) + 64
 
 -- The inode file grows, invisibly at every crash point. It takes as many blocks as it needs, and stores to each of
 -- them.

@@ -13,7 +13,7 @@ pub mod Resized
 pub mod CanGrow
 pub mod InPlace
 pub mod GivenBack
-pub mod GivenUp
+pub mod Truncated
 pub mod Space
 pub mod ThawsFor
 pub mod ThawedFor

@@ -18,8 +18,8 @@ AreTargetsAcross image i paths = (offset len : ℕ) → offset < size_of image i
     → paths ≡ targets image (writes i offset len)
 
 -- These are the targets of a write of bytes that begin at the size of inode `i` or past it.
-abbrev pub AreTargetsBehind : Image → ℕ → List WordPath → Type 0
-AreTargetsBehind image i paths = (offset len : ℕ) → size_of image i ≤ offset → 1 ≤ len
+abbrev pub AreTargetsPastEnd : Image → ℕ → List WordPath → Type 0
+AreTargetsPastEnd image i paths = (offset len : ℕ) → size_of image i ≤ offset → 1 ≤ len
     → paths ≡ targets image (writes i offset len)
 
 -- These are the targets of a change of the size of inode `i` to a greater one.

@@ -3,7 +3,7 @@
 use Rattle.std.specs.Prelude.{ℕ, ◌+◌, ◌*◌, Bool, Option}
 use Rattle.bp_calls.specs.Created.{EntersName, LinksEntry}
 use Rattle.bp_calls.specs.Entrant.{ForCreation, entrant_of}
-use Rattle.bp_calls.specs.Growth.{stores_behind_growth}
+use Rattle.bp_calls.specs.Growth.{stores_after_growth}
 use Rattle.bp_calls.specs.Steps.{HasLooseWord, name_need}
 use Rattle.bp_commit.specs.Performs.{PerformsThawed, PerformsWithin}
 use Rattle.bp_free.specs.Set.{Set, without}
@@ -22,7 +22,7 @@ use Rattle.pm_region.specs.Memory.{Memory, current_words}
 -- within the bound on stores after a growth of the inode file.
 abbrev pub PerformsEntry : (ℕ → Bool) → Memory → Memory → ℕ → Entrant → (Image → Image → Type 0) → Type 0
 PerformsEntry in_snapshot old new i entrant Effect = PerformsWithin in_snapshot (name_need (current_words old) i) 5
-    (stores_behind_growth (name_need (current_words old) i)) old new (enters i entrant) Effect
+    (stores_after_growth (name_need (current_words old) i)) old new (enters i entrant) Effect
 
 -- A new name in slot `s` for the free inode `j`. Any blocks may be those of the snapshot, except the blocks of the
 -- entry and of the inode.

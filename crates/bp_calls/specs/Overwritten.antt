@@ -14,7 +14,7 @@ use Rattle.bp_changes.specs.Overwrites.{Patch}
 use Rattle.bp_shapes.specs.Sets.{AreExact}
 use Rattle.bp_free.specs.Set.{Set}
 use Rattle.bp_cow.specs.declared.touched.Run.{Run}
-use Rattle.bp_calls.specs.declared.batching.Patch.{Patch as GivenPatch}
+use Rattle.bp_calls.specs.declared.batches.Patch.{Patch as GivenPatch}
 use Rattle.bp_calls.specs.Space.{HasRoomThawed}
 use Rattle.bp_calls.specs.TouchedBelow.{IsRunFor}
 use Rattle.pm_region.specs.Memory.{Memory, current_words}

@@ -12,7 +12,7 @@ use Rattle.bp_layout.specs.Need.Entrant.{linked}
 use Rattle.bp_layout.specs.Reached.{IsReached}
 use Rattle.bp_layout.specs.WellFormed.{IsWellFormed}
 use Rattle.bp_layout.specs.Words.{Image}
-use Rattle.bp_calls.specs.Growth.{stores_behind_growth}
+use Rattle.bp_calls.specs.Growth.{stores_after_growth}
 use Rattle.bp_calls.specs.ThawedFor.{IsThawedFor}
 use Rattle.bp_limits.specs.Limits.{block_words, entry_size, entry_words, inode_words}
 use Rattle.bp_shapes.specs.Sets.{AreExact}
@@ -40,7 +40,7 @@ pub record CanLink (image : Image) (i j : ℕ) (name : Name) : Type 0 where
 -- The room in the log for a name that needs this number of blocks, once its inode exists: for its stores, 5 barriers
 -- and its end-of-call marker.
 abbrev pub entering_room : ℕ → ℕ
-entering_room needed = stores_behind_growth needed + 5 + 1
+entering_room needed = stores_after_growth needed + 5 + 1
 
 -- The number of blocks that a name takes in directory `i` if its inode exists. It is the same for each inode.
 abbrev pub name_need : Image → ℕ → ℕ
@@ -58,12 +58,12 @@ HasLooseWord image in_snapshot t k = (place : ℕ) → ContentStandsAt image t k
 -- the end of the directory if no entry is empty.
 pub record HasLooseEntry (image : Image) (in_snapshot : ℕ → Bool) (i : ℕ) : Type 0 where
   pub slot : (s : ℕ) → empty_slot image i ≡ Some s → HasLooseWord image in_snapshot i (entry_words * s + 0)
-  pub behind : empty_slot image i ≡ None → HasLooseEnd image in_snapshot i
+  pub past_end : empty_slot image i ≡ None → HasLooseEnd image in_snapshot i
 
 -- Directory `i` does not have the name, no entry is empty, and as many blocks are free as the directory lacks for one
 -- more entry. The set of blocks is exact, with some set of inodes, and the blocks at the end of the directory are not
 -- in the snapshot.
-pub record CanPutBehind (in_snapshot : ℕ → Bool) (memory : Memory) (blocks : Set) (i : ℕ) (name : Name) : Type 0 where
+pub record CanPutPastEnd (in_snapshot : ℕ → Bool) (memory : Memory) (blocks : Set) (i : ℕ) (name : Name) : Type 0 where
   pub lacks : LacksName (current_words memory) i name
   pub none : empty_slot (current_words memory) i ≡ None
   pub inodes : Set
@@ -72,15 +72,15 @@ pub record CanPutBehind (in_snapshot : ℕ → Bool) (memory : Memory) (blocks :
   pub loose : HasLooseEnd (current_words memory) in_snapshot i
   pub room : entering_room (entry_need_for (current_words memory) i) ≤ room_in memory
 
--- `CanPutBehind`, and inode `j` is free for the name, in a block that is not in the snapshot.
-pub record CanEnterBehind (in_snapshot : ℕ → Bool) (memory : Memory) (blocks : Set) (i j : ℕ) (name : Name) : Type 0 where
-  pub can : CanPutBehind in_snapshot memory blocks i name
+-- `CanPutPastEnd`, and inode `j` is free for the name, in a block that is not in the snapshot.
+pub record CanEnterPastEnd (in_snapshot : ℕ → Bool) (memory : Memory) (blocks : Set) (i j : ℕ) (name : Name) : Type 0 where
+  pub can : CanPutPastEnd in_snapshot memory blocks i name
   pub free : IsFreeInode (current_words memory) j
   pub loose : HasLooseWord (current_words memory) in_snapshot 0 (inode_words * j + 0)
 
--- `CanPutBehind`, and inode `j` is a file that has a link.
-pub record CanLinkBehind (in_snapshot : ℕ → Bool) (memory : Memory) (blocks : Set) (i j : ℕ) (name : Name) : Type 0 where
-  pub can : CanPutBehind in_snapshot memory blocks i name
+-- `CanPutPastEnd`, and inode `j` is a file that has a link.
+pub record CanLinkPastEnd (in_snapshot : ℕ → Bool) (memory : Memory) (blocks : Set) (i j : ℕ) (name : Name) : Type 0 where
+  pub can : CanPutPastEnd in_snapshot memory blocks i name
   pub there : IsReached (current_words memory) j
   pub file : IsFile (current_words memory) j
 

@@ -15,7 +15,7 @@ use Rattle.bp_layout.specs.Words.{Image, height_of}
 use Rattle.bp_limits.specs.Limits.{root_field, size_field}
 use Rattle.bp_shapes.specs.Sets.{in_snapshot_of}
 use Rattle.bp_calls.specs.CanWrite.{CanWriteInto}
-use Rattle.bp_calls.specs.declared.writing.across.Plan.{Plan}
+use Rattle.bp_calls.specs.declared.writes.across.Plan.{Plan}
 use Rattle.pm_region.specs.Memory.{Memory, current_words}
 
 -- The only word is that of the size of inode `i`, with its new value `end`.

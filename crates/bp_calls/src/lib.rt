@@ -1,32 +1,32 @@
 //! The calls of a file system on inodes: the part of a call after its path is resolved.
 #![tactic(auto)]
 
-mod batching;
-mod committing;
-mod creating;
-mod entering;
-mod giving;
-mod growing;
+mod batches;
+mod commit;
+mod creation;
+mod growth;
+mod hard_links;
 pub mod laws;
-mod linking;
 mod listing;
-mod reading;
-mod removing;
-mod resizing;
+mod new_entry;
+mod queries;
+mod release;
+mod removal;
+mod resize;
 mod targets;
-mod thawing;
-mod writing;
+mod thaw;
+mod writes;
 
-pub use batching::{Patch, batch};
-pub use committing::touched_by;
-pub use creating::{create, create_in};
-pub use entering::append_entry;
-pub use giving::free_tree;
-pub use linking::link_in;
+pub use batches::{Patch, batch};
+pub use commit::touched_by;
+pub use creation::{create, create_in};
+pub use hard_links::link_in;
 pub use listing::list;
-pub use reading::{links, read, stat};
-pub use removing::remove;
-pub use resizing::truncate;
+pub use new_entry::append_entry;
+pub use queries::{links, read, stat};
+pub use release::free_tree;
+pub use removal::remove;
+pub use resize::truncate;
 pub use targets::{Targets, entry_path, push_end};
-pub use thawing::thaw_before;
-pub use writing::write;
+pub use thaw::thaw_before;
+pub use writes::write;

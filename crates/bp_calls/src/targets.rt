@@ -3,7 +3,7 @@
 ghost use Rattle.std.specs.Prelude.{◌≡◌, ◌+◌, ◌/◌, ◌<◌, ◌≤◌, [], ◌∷◌, ◌++◌, length};
 ghost use Rattle.bp_calls.specs.CanWrite.{CanWrite};
 ghost use Rattle.bp_calls.specs.Mounted.{image_in, IsMountedIn};
-ghost use Rattle.bp_calls.specs.NearEnd.{AreTargetsAcross, AreTargetsBehind, AreTargetsLonger, AreTargetsShorter, ForTree};
+ghost use Rattle.bp_calls.specs.NearEnd.{AreTargetsAcross, AreTargetsPastEnd, AreTargetsLonger, AreTargetsShorter, ForTree};
 ghost use Rattle.bp_changes.specs.Effects.{CanUnlink};
 ghost use Rattle.bp_layout.specs.Directory.{entry_count, inumber_at};
 ghost use Rattle.bp_layout.specs.Inode.{root_of, size_of};
@@ -17,7 +17,7 @@ ghost use Rattle.bp_limits.specs.Limits.{max_height};
 ghost use Rattle.bp_thaw.specs.Thaws.{paths_in};
 ghost use Rattle.pm_region.specs.Memory.{words_in};
 
-use crate::committing::{run_for, touched_by};
+use crate::commit::{run_for, touched_by};
 use arrayvec::ArrayVec;
 use bp_cow::cover;
 use bp_free::Parts;
@@ -113,7 +113,7 @@ pub(crate) fn lengthening<R: Region>(region: &R, ino: u32) -> Targets
     requires reached { IsReached (words_in R.memory region.now) ino }
     requires some { 1 ≤ ino }
     ensures resizes { AreTargetsLonger (words_in R.memory region.now) ino (paths_in result) }
-    ensures writes { AreTargetsBehind (words_in R.memory region.now) ino (paths_in result) }
+    ensures writes { AreTargetsPastEnd (words_in R.memory region.now) ino (paths_in result) }
 {
     with_end(region, ino, size_path(region, ino))
 }

@@ -1,4 +1,4 @@
--- What a commit makes of an image: a name moved, a name spelled anew, the bytes of one file or of several. It may give any values to words that nobody reads.
+-- What a commit makes of an image: a name moved, a name spelled again, the bytes of one file or of several. It may give any values to words that nobody reads.
 use Rattle.std.proofs.Common.{◌≡◌, ◌≢◌, ◌⊎◌, ℕ, zero, suc, ◌+◌, ◌*◌, ◌/◌, ◌%◌, ◌<◌, ◌≤◌, List, refl, sym, ◌∙◌, ap, ap₂, subst, arith, inl, inr}
 use Rattle.std.proofs.lemmas.Bool.{cases_eq}
 use Rattle.bp_layout.specs.Words.{Image, byte_of}
@@ -76,7 +76,7 @@ commit_moves old new changes i s k r j can only emptied entered = record {
     no_file : (u d : ℕ) → kind_of old u ≡ 1 → kind_of old d ≡ 2 → u ≡ d → ⊥
     no_file u d kind directory e = let two : kind_of old u ≡ 2 = subst (λ x. kind_of old x ≡ 2) (sym e) directory in omega (arith, kind, two)
 
--- ---- a name carried behind the last entry of a directory
+-- ---- a name carried after the last entry of a directory
 
 -- Behind the last entry of directory k stands one for j, with a name that no entry has.
 module _ (old new : Image) (changes : Changes) (i s k j : ℕ) (wf : IsWellFormed old) (reached : IsReached old i) (names : EntryNames old i s j)
@@ -84,7 +84,7 @@ module _ (old new : Image) (changes : Changes) (i s k j : ℕ) (wf : IsWellForme
     (new_name : (x l : ℕ) → EntryNames old k x l → name_at old k x ≢ name_at old k (entry_count old k))
     (only : CommitsOnly old new changes (λ t l. ((t ≡ i) × (l ≡ 32 * s + 0)) ⊎ ((t ≡ 0) × (l ≡ 8 * k + 2))))
     (emptied : changed_word changes old i (32 * s + 0) ≡ 0) (grown : changed_word changes old 0 (8 * k + 2) ≡ size_of old k + 256)
-    (behind : (f : ℕ) → f < 32 → changed_word changes old k (32 * entry_count old k + f) ≡ word_in old (root_of old k) (entry_count old k) f) where
+    (beyond : (f : ℕ) → f < 32 → changed_word changes old k (32 * entry_count old k + f) ≡ word_in old (root_of old k) (entry_count old k) f) where
   in_inodes : (t : ℕ) → IsReached old t → t < inode_count old
   in_inodes = reached-in_file old wf
 
@@ -128,7 +128,7 @@ module _ (old new : Image) (changes : Changes) (i s k j : ℕ) (wf : IsWellForme
   words_here f few =
       only.commits.words k (32 * entry_count old k + f) target (inr directory)
       (let room : 8 * (32 * entry_count old k + f) + 8 ≤ size_of new k = omega (arith, few, size_here, whole_entries) in omega (arith, room)) (λ e. absurd (no_directory old k directory e))
-      ∙ behind f few
+      ∙ beyond f few
 
   name_here : name_at new k (entry_count old k) ≡ name_at old k (entry_count old k)
   name_here = name_by_words old new k (entry_count old k) name.short (λ f some few. words_here f few)
@@ -226,7 +226,7 @@ module _ (old new : Image) (changes : Changes) (i s k j : ℕ) (wf : IsWellForme
         ]);
   }
 
--- ---- a name spelled anew
+-- ---- a name spelled again
 
 pub commit_respells : (old new : Image) (changes : Changes) (i s j : ℕ) → IsWellFormed old → IsReached old i → EntryNames old i s j →
     CommitsOnly old new changes (λ t l. (t ≡ i) × (32 * s + 1 ≤ l) × (l < 32 * s + 32)) →
@@ -288,7 +288,7 @@ commit_writes old new changes x wf reached is_file only = record {
 
 -- ---- the bytes of files, below their sizes
 
--- where no word but those of files is given anew
+-- where no word but those of files is given again
 pub commit_overwrites : (old new : Image) (changes : Changes) (patches : List Patch) → IsWellFormed old → CommitsOnly old new changes (λ t l. kind_of old t ≡ 1) →
     ((i o : ℕ) → IsReached old i → kind_of old i ≡ 1 → o < size_of old i → byte new (root_of new i) o ≡ patched patches i o (byte old (root_of old i) o)) → OverwritesFiles patches old new
 commit_overwrites old new changes patches wf only bytes = record {

@@ -1,4 +1,4 @@
--- One more entry in a directory: what is told of it whichever inode it names, and what more where that inode was free or is
+-- One more entry in a directory: what is stated of it whichever inode it names, and what more where that inode was free or is
 -- a file that has a name.
 use Rattle.std.proofs.Common.{◌≡◌, ◌≢◌, ◌⊎◌, ℕ, ◌%◌, ◌<◌, ◌≤◌, ◌∙◌, arith}
 use Rattle.bp_limits.specs.Limits.{block_size, entry_size}
@@ -59,7 +59,7 @@ takes_inode old new j wf can same_file same_kind same_size = record {
 }
 
 module _ (old new : Image) (i s j : ℕ) where
-  -- ---- what is told of each entry
+  -- ---- what is stated of each entry
 
   pub adds_gain : AddsNames old new i s j → GainsEntry old new i s j
   adds_gain adds = record {

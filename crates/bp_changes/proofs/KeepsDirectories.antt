@@ -1,4 +1,4 @@
--- Two images that differ in the bytes of files: the theorem behind every write, truncate and batch.
+-- Two images that differ in the bytes of files: the theorem after every write, truncate and batch.
 use Rattle.std.proofs.Common.{◌≡◌, ℕ, ◌/◌, ap, arith}
 use Rattle.bp_layout.specs.Words.{Image}
 use Rattle.bp_layout.specs.Directory.{EntryNames, name_at}

@@ -1,4 +1,4 @@
--- A name moves from one directory to another, or is spelled anew: what a rename makes of the plain tree.
+-- A name moves from one directory to another, or is spelled again: what a rename makes of the plain tree.
 use Rattle.std.proofs.Common.{◌≡◌, ◌⊎◌, ℕ, [], ◌∷◌, ◌++◌, length, Option, None, Some, option_and_then, refl, sym, ◌∙◌, ap, arith, inl, inr, length-append}
 use Rattle.std.specs.Option.{option_map}
 use Rattle.std.proofs.lemmas.Bool.{cases_eq}
@@ -223,10 +223,10 @@ module _ (old new : Image) (i : ℕ) (was : Name) (k : ℕ) (now : Name) (j : �
                 let found : Some i ≡ Some k = sym from_is ∙ ap (lookup old) (sym both.0) ∙ to_is in
                 let one : i ≡ k = cc in
                 moves.apart one (sym both.1)
-            by_end _ (more {path = front} b last) equal =
-                let both : (to ≡ (from ++ was ∷ []) ++ front) × (now ≡ last) =
-                same_from_push to ((from ++ was ∷ []) ++ front) now last (equal ∙ sym (append_assoc (from ++ was ∷ []) front (last ∷ []))) in
-                clash to (from ++ was ∷ []) front (ap (rest_below (from ++ was ∷ [])) both.0 ∙ rest_below-append (from ++ was ∷ []) front) outside
+            by_end _ (more {path = prefix} b last) equal =
+                let both : (to ≡ (from ++ was ∷ []) ++ prefix) × (now ≡ last) =
+                same_from_push to ((from ++ was ∷ []) ++ prefix) now last (equal ∙ sym (append_assoc (from ++ was ∷ []) prefix (last ∷ []))) in
+                clash to (from ++ was ∷ []) prefix (ap (rest_below (from ++ was ∷ [])) both.0 ∙ rest_below-append (from ++ was ∷ []) prefix) outside
 
     pub lookup_empty : (n : Name) (rest : Path) → lookup old ((to ++ now ∷ []) ++ n ∷ rest) ≡ None
     lookup_empty n rest = lookup_from-join old 1 (to ++ now ∷ []) (n ∷ rest) ∙ go (lookup old (to ++ now ∷ [])) refl

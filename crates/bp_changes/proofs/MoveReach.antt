@@ -56,7 +56,7 @@ outside_by_paths image wf i s j k reached names from to from_is to_is directory 
 
 -- ---- what is reached
 
--- Entry (k, r) of the new image names j, which entry (i, s) of the old one named. All other entries stay, but for one that names what is gone,
+-- Entry (k, r) of the new image names j, which entry (i, s) of the old one named. All other entries stay, except for one that names what is gone,
 -- which has no names.
 module _ (old new : Image) (i s k r j : ℕ) (Gone : ℕ → Type 0) (reached : IsReached old i) (names : EntryNames old i s j) (target : IsReached old k) (entry : EntryNames new k r j)
     (alone : (u x l : ℕ) → Gone u → EntryNames old u x l → ⊥) (here : Gone k → ⊥)
@@ -150,6 +150,6 @@ module _ (old new : Image) (wf : IsWellFormed old) (i s k r j : ℕ) (can : CanM
           let was : IsReached old u = move.reached_back old new wf i s k r j can moves u from in
           by_entry u x l was (move.entry_of old new wf i s k r j can moves u x l was n) e
 
--- an entry is spelled anew
+-- an entry is spelled again
 pub respelled_on : (old new : Image) → IsWellFormed old → (i s j : ℕ) → RespellsEntry old new i s j → (t : ℕ) → IsReached old t → IsReached new t
 respelled_on old new wf i s j spells = reached_on old new (respell.same_inumbers old new wf i s j spells)

@@ -260,7 +260,7 @@ module _ (old new : Image) (wf : IsWellFormed old) (i s j : ℕ) (can : CanUnlin
 
 -- ---- a name moves
 
--- to an entry that named nothing, which an entry behind the last is too
+-- to an entry that named nothing, which an entry after the last is too
 module _ (old new : Image) (wf : IsWellFormed old) (i s k r j : ℕ) (carries : CarriesEntry old new i s k r j) (outside : IsAtOrBelow old j k → ⊥) (counts : List ℕ) (are : AreCounts old counts) where
   carried_back : (l : ℕ) (e : ℕ × ℕ) → IsNamed new l e → ((l ≡ j) × (e ≡ (k, r))) ⊎ (IsNamed old l e × (e ≢ (i, s)))
   carried_back l e n = go (carries.back e.0 e.1 l was n.names)
@@ -393,7 +393,7 @@ inumbers_counts old new same counts are = counts_same old new counts are
     record { reached = was; names = names_back old new same e.0 e.1 k was n.names })
     (λ k e n. record { reached = reached_on old new same e.0 n.reached; names = names_on old new same e.0 e.1 k n.reached n.names })
 
--- where an entry is spelled anew
+-- where an entry is spelled again
 pub respelled_counts : (old new : Image) (wf : IsWellFormed old) (i s j : ℕ) (spells : RespellsEntry old new i s j) (counts : List ℕ) → AreCounts old counts → AreCounts new counts
 respelled_counts old new wf i s j spells = inumbers_counts old new (respell.same_inumbers old new wf i s j spells)
 

@@ -19,7 +19,7 @@ use Rattle.bp_changes.specs.KeepsDirectories.{KeepsDirectories}
 use Rattle.bp_changes.specs.Overwrites.{OverwritesFiles, Patch, patched}
 use Rattle.bp_changes.proofs.KeepsDirectories.{lookup-same}
 
--- what stands at an inode of an image, where its bytes are told by inode and number
+-- what stands at an inode of an image, where its bytes are stated by inode and number
 abbrev pub node_with : Image → (ℕ → ℕ → ℕ) → ℕ → Node
 node_with image bytes i =
     if kind_of image i == 1 then file (map (bytes i) (range_with_len 0 (size_of image i))) else dir

@@ -1,4 +1,4 @@
--- An entry is spelled anew in place: what a rename within one directory makes of an image.
+-- An entry is spelled again in place: what a rename within one directory makes of an image.
 use Rattle.std.proofs.Common.{◌≡◌, ◌⊎◌, ℕ, suc, ◌/◌, ◌<◌, None, Some, refl, sym, ◌∙◌, ap, ap₂, subst, inl, inr}
 use Rattle.std.proofs.lemmas.Bool.{cases_eq}
 use Rattle.bp_layout.specs.Words.{Image}

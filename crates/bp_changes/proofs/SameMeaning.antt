@@ -1,4 +1,4 @@
--- Two images with the same meaning: the theorem behind every step that a reader of the tree does not see.
+-- Two images with the same meaning: the theorem after every step that a reader of the tree does not see.
 use Rattle.std.proofs.Common.{◌≡◌, ℕ, zero, suc, ◌/◌, sym, ap, suc-ne-zero, arith}
 use Rattle.bp_layout.specs.Words.{Image}
 use Rattle.bp_layout.specs.Inode.{kind_of, size_of}

@@ -41,32 +41,32 @@ each-map : {A B : Type 0} (P : B → Type 0) (f : A → B) → ((x : A) → P (f
 each-map P f all [] = tt
 each-map P f all (x ∷ xs) = (all x, each-map P f all xs)
 
--- ---- fronts of paths
+-- ---- prefixes of paths
 
--- tests that answer alike at each proper front of a path let as much of it exist
-existing-same : (p q : WordPath → Bool) (here path : WordPath) → ((front : WordPath) (slot : ℕ) (rest : WordPath) → here ++ path ≡ front ++ slot ∷ rest → p front ≡ q front) → existing_from p here path ≡ existing_from q here path
+-- tests that answer alike at each proper prefix of a path let as much of it exist
+existing-same : (p q : WordPath → Bool) (here path : WordPath) → ((prefix : WordPath) (slot : ℕ) (rest : WordPath) → here ++ path ≡ prefix ++ slot ∷ rest → p prefix ≡ q prefix) → existing_from p here path ≡ existing_from q here path
 existing-same p q here [] alike = refl
 existing-same p q here (slot ∷ path) alike =
     let rest : existing_from p (here ++ slot ∷ []) path ≡ existing_from q (here ++ slot ∷ []) path =
-    existing-same p q (here ++ slot ∷ []) path (λ front next more e. alike front next more (sym (append_assoc here (slot ∷ []) path) ∙ e)) in
+    existing-same p q (here ++ slot ∷ []) path (λ prefix next more e. alike prefix next more (sym (append_assoc here (slot ∷ []) path) ∙ e)) in
     rw (alike here slot path refl, rest) refl
 
--- what two paths begin with is a front of the first
-common-front : (p q : WordPath) → (rest : WordPath) × (p ≡ common p q ++ rest)
-common-front [] q = ([], refl)
-common-front (slot ∷ p) [] = (slot ∷ p, refl)
-common-front (slot ∷ p) (also ∷ q) = go (slot == also) (common-front p q)
+-- what two paths begin with is a prefix of the first
+common-prefix : (p q : WordPath) → (rest : WordPath) × (p ≡ common p q ++ rest)
+common-prefix [] q = ([], refl)
+common-prefix (slot ∷ p) [] = (slot ∷ p, refl)
+common-prefix (slot ∷ p) (also ∷ q) = go (slot == also) (common-prefix p q)
   where
     go : (b : Bool) → ((rest : WordPath) × (p ≡ common p q ++ rest)) → (rest : WordPath) × (slot ∷ p ≡ (if b then slot ∷ common p q else []) ++ rest)
     go true inner = (inner.0, ap (λ (ds : WordPath). slot ∷ ds) inner.1)
     go false inner = (slot ∷ p, refl)
 
 -- so is what several begin with
-all-front : (paths : List WordPath) (p : WordPath) → (rest : WordPath) × (p ≡ fold common p paths ++ rest)
-all-front [] p = ([], sym (append-nil p))
-all-front (q ∷ paths) p =
-    let one = common-front p q in
-    let more = all-front paths (common p q) in
+all-prefix : (paths : List WordPath) (p : WordPath) → (rest : WordPath) × (p ≡ fold common p paths ++ rest)
+all-prefix [] p = ([], sym (append-nil p))
+all-prefix (q ∷ paths) p =
+    let one = common-prefix p q in
+    let more = all-prefix paths (common p q) in
     (more.0 ++ one.0, one.1 ∙ ap (λ (ds : WordPath). ds ++ one.0) more.1 ∙ append_assoc (fold common (common p q) paths) more.0 one.0)
 
 -- ---- digits
@@ -107,7 +107,7 @@ nodes-same old new r q s heights present from to =
     ∙ ap (λ w. filter (λ n. not (is_present old r s n)) (flat_map (nodes_over from to) (range_with_len 0 (suc w)))) tall in
     ap₂ (λ (xs ys : List TreeNode). if nat_lt from to then xs ++ filter (λ n. nat_le (span n.level) from) ys else ys) made above
 
--- ---- heights behind a preparation
+-- ---- heights after a preparation
 
 abbrev height_by : ℕ → ℕ → ℕ → ℕ → List Beyond → ℕ
 height_by low size t h bs = fold (λ h b. if b.tree == t then (if size == 0 then height_for b.to else max low (height_for b.to)) else h) h bs
@@ -265,21 +265,21 @@ module _ (old new : Image) (shape : SameShape old new) where
     touched-same (respells i s len) of = map_pointwise (entry_path_at g i s) (entry_path_at h i s) (entry_path-same i of s) (range_with_len 1 (suc ((len + 7) / 8)))
     touched-same (overwrites stretches) of = stretches-same stretches of
 
-  -- ---- each proper front of a touched path leads to a node of the inode file, or of a tree that is reached
+  -- ---- each proper prefix of a touched path leads to a node of the inode file, or of a tree that is reached
 
   module _ (h : ℕ → ℕ) (small : (t : ℕ) → IsReached old t → 8 * t + 1 < 512 ^ suc (h 0)) where
     abbrev OnTrees : WordPath → Type 0
-    OnTrees path = (front : WordPath) (slot : ℕ) (rest : WordPath) → path ≡ front ++ slot ∷ rest → (length front ≤ h 0) ⊎ IsReached old (path_number (take (suc (h 0)) front) / 8)
+    OnTrees path = (prefix : WordPath) (slot : ℕ) (rest : WordPath) → path ≡ prefix ++ slot ∷ rest → (length prefix ≤ h 0) ⊎ IsReached old (path_number (take (suc (h 0)) prefix) / 8)
 
     digits-on : (index : ℕ) → OnTrees (digits (suc (h 0)) index)
-    digits-on index front slot rest e =
+    digits-on index prefix slot rest e =
         let long : length (digits (suc (h 0)) index) ≡ suc (h 0) = length_digits (suc (h 0)) index in
-        let whole : length (digits (suc (h 0)) index) ≡ length front + suc (length rest) = ap length e ∙ length-append front (slot ∷ rest) in
+        let whole : length (digits (suc (h 0)) index) ≡ length prefix + suc (length rest) = ap length e ∙ length-append prefix (slot ∷ rest) in
         inl (omega (arith, long, whole))
 
     content-on : (t : ℕ) → IsReached old t → (index : ℕ) → OnTrees (content_path_at h t index)
-    content-on zero reached index front slot rest e = digits-on index front slot rest e
-    content-on (suc i) reached index front slot rest e = go (cases_lt (h 0) (length front))
+    content-on zero reached index prefix slot rest e = digits-on index prefix slot rest e
+    content-on (suc i) reached index prefix slot rest e = go (cases_lt (h 0) (length prefix))
       where
         long : length (inode_path (h 0) (suc i) 1) ≡ suc (h 0)
         long = length_digits (suc (h 0)) (8 * suc i + 1)
@@ -287,13 +287,13 @@ module _ (old new : Image) (shape : SameShape old new) where
         begins : take (suc (h 0)) (inode_path (h 0) (suc i) 1 ++ digits (suc (h (suc i))) index) ≡ inode_path (h 0) (suc i) 1
         begins = ap (λ n. take n (inode_path (h 0) (suc i) 1 ++ digits (suc (h (suc i))) index)) (sym long) ∙ take-append_seam (inode_path (h 0) (suc i) 1) (digits (suc (h (suc i))) index)
 
-        tree : h 0 < length front → path_number (take (suc (h 0)) front) / 8 ≡ suc i
+        tree : h 0 < length prefix → path_number (take (suc (h 0)) prefix) / 8 ≡ suc i
         tree high =
-            let same : take (suc (h 0)) front ≡ inode_path (h 0) (suc i) 1 = sym (take-append-le (suc (h 0)) front (slot ∷ rest) high) ∙ ap (take (suc (h 0))) (sym e) ∙ begins in
-            let number : path_number (take (suc (h 0)) front) ≡ 8 * suc i + 1 = ap path_number same ∙ number_digits (suc (h 0)) (8 * suc i + 1) (small (suc i) reached) in
+            let same : take (suc (h 0)) prefix ≡ inode_path (h 0) (suc i) 1 = sym (take-append-le (suc (h 0)) prefix (slot ∷ rest) high) ∙ ap (take (suc (h 0))) (sym e) ∙ begins in
+            let number : path_number (take (suc (h 0)) prefix) ≡ 8 * suc i + 1 = ap path_number same ∙ number_digits (suc (h 0)) (8 * suc i + 1) (small (suc i) reached) in
             omega (arith, number)
 
-        go : (h 0 < length front) ⊎ (length front ≤ h 0) → (length front ≤ h 0) ⊎ IsReached old (path_number (take (suc (h 0)) front) / 8)
+        go : (h 0 < length prefix) ⊎ (length prefix ≤ h 0) → (length prefix ≤ h 0) ⊎ IsReached old (path_number (take (suc (h 0)) prefix) / 8)
         go (inl high) = inr (subst (IsReached old) (sym (tree high)) reached)
         go (inr low) = inl low
 
@@ -321,19 +321,19 @@ module _ (old new : Image) (shape : SameShape old new) where
     touched-on (respells i s len) of = each-map OnTrees (entry_path_at h i s) (λ f. content-on i of (32 * s + f)) (range_with_len 1 (suc ((len + 7) / 8)))
     touched-on (overwrites stretches) of = stretches-on stretches of
 
-    -- so does each proper front of what they begin with
+    -- so does each proper prefix of what they begin with
     common-on : (paths : List WordPath) → Each OnTrees paths → OnTrees (common_all paths)
-    common-on [] all front slot rest e = absurd (no_front front e)
+    common-on [] all prefix slot rest e = absurd (no_prefix prefix e)
       where
-        no_front : (front : WordPath) → [] ≡ front ++ slot ∷ rest → ⊥
-        no_front front e = let whole : 0 ≡ length front + suc (length rest) = ap length e ∙ length-append front (slot ∷ rest) in omega (arith, whole)
-    common-on (path ∷ paths) all front slot rest e =
-        let more = all-front paths path in
-        all.0 front slot (rest ++ more.0) (more.1 ∙ ap (λ (p : WordPath). p ++ more.0) e ∙ append_assoc front (slot ∷ rest) more.0)
+        no_prefix : (prefix : WordPath) → [] ≡ prefix ++ slot ∷ rest → ⊥
+        no_prefix prefix e = let whole : 0 ≡ length prefix + suc (length rest) = ap length e ∙ length-append prefix (slot ∷ rest) in omega (arith, whole)
+    common-on (path ∷ paths) all prefix slot rest e =
+        let more = all-prefix paths path in
+        all.0 prefix slot (rest ++ more.0) (more.1 ∙ ap (λ (p : WordPath). p ++ more.0) e ∙ append_assoc prefix (slot ∷ rest) more.0)
 
   -- ---- where a path leads
 
-  -- the node, where it is told whether it is one of the inode file
+  -- the node, where it is reported whether it is one of the inode file
   abbrev node_by : (ℕ → ℕ) → ℕ → WordPath → Bool → ℕ × TreeNode
   node_by h top path in_inodes =
       if in_inodes then (0, record { level = top - length path; index = path_number path })
@@ -381,8 +381,8 @@ module _ (old new : Image) (wf : IsWellFormed old) (shape : SameShape old new) (
       ap (λ b. b || list_any (same_node n) (preparation new change) || list_any (same_node n) (growth new change)) (shape.present n.0 reached n.1)
       ∙ ap₂ (λ (xs ys : List (ℕ × TreeNode)). is_present old (root_of old n.0) (size_of old n.0) n.1 || list_any (same_node n) xs || list_any (same_node n) ys) (preparation-same old new shape change of) (growth-same old new shape change)
 
-  front-same : (path : WordPath) → (length path ≤ height_after old change 0) ⊎ IsReached old (path_number (take (suc (height_after old change 0)) path) / 8) → is_there_after new change path ≡ is_there_after old change path
-  front-same path on =
+  prefix-same : (path : WordPath) → (length path ≤ height_after old change 0) ⊎ IsReached old (path_number (take (suc (height_after old change 0)) path) / 8) → is_there_after new change path ≡ is_there_after old change path
+  prefix-same path on =
       ap (is_there new change) (pointed-same old new shape (height_after new change) (height_after old change) path (heights 0 inode_file) (alike on))
       ∙ there-same (pointed (height_after old change) path) (pointed-reached old new shape (height_after old change) path on)
     where
@@ -398,7 +398,7 @@ module _ (old new : Image) (wf : IsWellFormed old) (shape : SameShape old new) (
   cover-shape =
       ap (cover_of (is_there_after new change)) touched-shape
       ∙ existing-same (is_there_after new change) (is_there_after old change) [] (common_all (touched old change))
-      (λ front slot rest e. front-same front (common-on old new shape (height_after old change) small (touched old change) (touched-on old new shape (height_after old change) small change of) front slot rest e))
+      (λ prefix slot rest e. prefix-same prefix (common-on old new shape (height_after old change) small (touched old change) (touched-on old new shape (height_after old change) small change of) prefix slot rest e))
 
   pub copied-shape : copied new change ≡ copied old change
   copied-shape = ap₂ (λ (c : WordPath) (paths : List WordPath). prefixes_of (length c) [] paths) cover-shape touched-shape
@@ -419,8 +419,8 @@ module _ (old new : Image) (wf : IsWellFormed old) (shape : SameShape old new) (
       let fits : size_of old 0 ≤ 8 * 512 ^ suc (height_of (root_of old 0)) = (wf.sound 0 inode_file).fits in
       omega (arith, inside, fits)
 
-  front_now-same : (path : WordPath) → (length path ≤ heights_now old 0) ⊎ IsReached old (path_number (take (suc (heights_now old 0)) path) / 8) → is_there_now new path ≡ is_there_now old path
-  front_now-same path on =
+  prefix_now-same : (path : WordPath) → (length path ≤ heights_now old 0) ⊎ IsReached old (path_number (take (suc (heights_now old 0)) path) / 8) → is_there_now new path ≡ is_there_now old path
+  prefix_now-same path on =
       ap (λ (n : ℕ × TreeNode). is_present new (root_of new n.0) (size_of new n.0) n.1) (pointed-same old new shape (heights_now new) (heights_now old) path (shape.heights 0 inode_file) (alike on))
       ∙ shape.present (pointed (heights_now old) path).0 (pointed-reached old new shape (heights_now old) path on) (pointed (heights_now old) path).1
     where
@@ -433,7 +433,7 @@ module _ (old new : Image) (wf : IsWellFormed old) (shape : SameShape old new) (
   cover_now-shape =
       ap (cover_of (is_there_now new)) (touched-same old new shape (heights_now new) (heights_now old) shape.heights change of)
       ∙ existing-same (is_there_now new) (is_there_now old) [] (common_all (touched_at (heights_now old) old change))
-      (λ front slot rest e. front_now-same front (common-on old new shape (heights_now old) small_now (touched_at (heights_now old) old change) (touched-on old new shape (heights_now old) small_now change of) front slot rest e))
+      (λ prefix slot rest e. prefix_now-same prefix (common-on old new shape (heights_now old) small_now (touched_at (heights_now old) old change) (touched-on old new shape (heights_now old) small_now change of) prefix slot rest e))
 
   end-same : (b : Beyond) → IsReached old b.tree → end_targets new b ≡ end_targets old b
   end-same b reached = rw (shape.sizes b.tree reached, shape.heights b.tree reached, shape.heights 0 inode_file) refl

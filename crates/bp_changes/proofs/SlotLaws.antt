@@ -1,4 +1,4 @@
--- Names keep their slots through each change, but those that leave, move or are spelled anew.
+-- Names keep their slots through each change, but those that leave, move or are spelled again.
 use Rattle.std.proofs.Common.{◌≡◌, ◌≢◌, ℕ, sym, ◌∙◌, ap₂, subst}
 use Rattle.bp_layout.specs.Directory.{EntryNames, inumber_at, name_at}
 use Rattle.bp_layout.specs.Hints.{NameIn, IsSlotOf}
@@ -65,7 +65,7 @@ moves_keeps old new wf i s k r j can moves outside name slot differs also of =
     (move.names_stay old new wf i s k r j can moves name.0 slot (inumber_at old name.0 slot) of.reached was.entry (other_entry old name slot i s was differs) (other_entry old name slot k r was also))
     (move.name_of_old old new wf i s k r j can moves name.0 slot (inumber_at old name.0 slot) of.reached was.entry)
 
--- a name that is spelled anew
+-- a name that is spelled again
 pub respells_keeps : (old new : Image) → IsWellFormed old → (i s j : ℕ) → RespellsEntry old new i s j → KeepsOther old new (i, name_at old i s)
 respells_keeps old new wf i s j spells name slot differs of =
     let was : IsEntryFor old name slot = entry_of_slot old name slot of in

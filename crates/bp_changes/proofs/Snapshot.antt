@@ -16,7 +16,7 @@ use Rattle.bp_changes.proofs.SameMeaning.{reached-back}
 use Rattle.bp_changes.proofs.Separation.{free-harmless}
 use Rattle.bp_changes.proofs.Stores.{harmless_here}
 
--- the words of the superblock but for those of the first tree, and the words of blocks of the snapshot
+-- the words of the superblock except for those of the first tree, and the words of blocks of the snapshot
 pub record Keeps (old new : Image) (in_snapshot : ℕ → Bool) : Type 0 where
   pub whole : length new ≡ length old
   pub superblock : (place : ℕ) → place < 512 → place ≢ 2 → place ≢ 3 → word new place ≡ word old place

@@ -7,7 +7,7 @@ use Rattle.clap.specs.Words.{App, AddsSubcommand, FailsBy, HasMatchesOf, IsAmong
 use Rattle.clap.specs.declared.error.kind.ErrorKind.TheVariants as kind
 use Rattle.clap.specs.declared.parser.matches.ArgMatches.{ArgMatches}
 use Rattle.bp_command.specs.Commands.{HasMet, IsCommand, IsRefusedBy, IsRight, IsTaken, bpfs_app}
-use Rattle.bp_command.specs.declared.reading.WordsFault.TheVariants.{Usage}
+use Rattle.bp_command.specs.declared.arguments.WordsFault.TheVariants.{Usage}
 
 pub add_command : (a b : App) (old sub new : Command) → IsCommand a old → IsCommand b sub → AddsSubcommand old sub new → IsCommand (with_subcommand a b.top) new
 add_command a b old sub new p q s = record {

@@ -10,29 +10,29 @@ use Rattle.clap.proofs.OnLiterals.{clap_on_literals}
 use Rattle.bp_command.specs.Commands.{IsTaken, subcommand_named, format_app}
 use Rattle.bp_command.proofs.Chains.{joined}
 use Rattle.bp_command.proofs.Taken.{blocks_arg, built_of, file_arg}
-use Rattle.bp_command.proofs.Walking.{Goes, Numbers, Turn, behind, faults_behind, goes_on, no_fault, parts, row, some_name, stays}
+use Rattle.bp_command.proofs.Walking.{Goes, Numbers, Turn, following, faults_after, goes_on, no_fault, parts, row, some_name, stays}
 
 abbrev format : Shape
 format = built_of format_app.top
 
-file_turn : (x : ℕ) (xs : Text) → nat_eq x 45 ≡ false → Turn format (walk_from nothing_held) (x ∷ xs) (behind [] (codes "FILE") ((x ∷ xs) ∷ []) idle)
+file_turn : (x : ℕ) (xs : Text) → nat_eq x 45 ≡ false → Turn format (walk_from nothing_held) (x ∷ xs) (following [] (codes "FILE") ((x ∷ xs) ∷ []) idle)
 unfolding clap_on_literals
 file_turn x xs h = record { passes = simp h refl; goes = simp h refl }
 
-blocks_turn : (x : ℕ) (xs : Text) → Turn format (behind [] (codes "FILE") ((x ∷ xs) ∷ []) idle) (codes "--blocks") (behind (row file_arg (x ∷ xs) ∷ []) (codes "blocks") [] (option (codes "blocks")))
+blocks_turn : (x : ℕ) (xs : Text) → Turn format (following [] (codes "FILE") ((x ∷ xs) ∷ []) idle) (codes "--blocks") (following (row file_arg (x ∷ xs) ∷ []) (codes "blocks") [] (option (codes "blocks")))
 unfolding clap_on_literals
 blocks_turn x xs = let n = some_name x xs in record { passes = simp n refl; goes = refl }
 
-blocks_value : (rows : List Row) (d : ℕ) (ds : Text) → nat_eq d 45 ≡ false → Turn format (behind rows (codes "blocks") [] (option (codes "blocks"))) (d ∷ ds) (behind rows (codes "blocks") ((d ∷ ds) ∷ []) idle)
+blocks_value : (rows : List Row) (d : ℕ) (ds : Text) → nat_eq d 45 ≡ false → Turn format (following rows (codes "blocks") [] (option (codes "blocks"))) (d ∷ ds) (following rows (codes "blocks") ((d ∷ ds) ∷ []) idle)
 unfolding clap_on_literals
 blocks_value rows d ds k = record { passes = simp k refl; goes = simp k refl }
 
 version_turn : (name blocks : Text) → accepts false (vp.Unsigned 8 65536) blocks ≡ true →
-    Turn format (behind (row file_arg name ∷ []) (codes "blocks") (blocks ∷ []) idle) (codes "--version") (behind (row file_arg name ∷ row blocks_arg blocks ∷ []) (codes "version") [] (option (codes "version")))
+    Turn format (following (row file_arg name ∷ []) (codes "blocks") (blocks ∷ []) idle) (codes "--version") (following (row file_arg name ∷ row blocks_arg blocks ∷ []) (codes "version") [] (option (codes "version")))
 unfolding clap_on_literals
 version_turn name blocks a = record { passes = simp a refl; goes = refl }
 
-version_value : (rows : List Row) (v : ℕ) → nat_eq v 45 ≡ false → Turn format (behind rows (codes "version") [] (option (codes "version"))) (v ∷ []) (behind rows (codes "version") ((v ∷ []) ∷ []) idle)
+version_value : (rows : List Row) (v : ℕ) → nat_eq v 45 ≡ false → Turn format (following rows (codes "version") [] (option (codes "version"))) (v ∷ []) (following rows (codes "version") ((v ∷ []) ∷ []) idle)
 unfolding clap_on_literals
 version_value rows v l = record { passes = simp l refl; goes = simp l refl }
 
@@ -49,20 +49,20 @@ module _ (x d : ℕ) (xs ds : Text) (h : nat_eq x 45 ≡ false) (k : nat_eq d 45
   short = (x ∷ xs) ∷ codes "--blocks" ∷ (d ∷ ds) ∷ []
 
   abbrev short_last : Walk
-  short_last = behind (row file_arg (x ∷ xs) ∷ []) (codes "blocks") ((d ∷ ds) ∷ []) idle
+  short_last = following (row file_arg (x ∷ xs) ∷ []) (codes "blocks") ((d ∷ ds) ∷ []) idle
 
   goes_over_short : Goes format (walk_from nothing_held) short short_last
   goes_over_short =
       goes_on format _ _ short_last (x ∷ xs) _ (file_turn x xs h)
       (goes_on format _ _ short_last (codes "--blocks") _ (blocks_turn x xs) (goes_on format _ _ short_last (d ∷ ds) [] (blocks_value _ d ds k) (stays format short_last)))
 
-  none_behind_short : faults_behind format short_last ≡ []
+  none_after_short : faults_after format short_last ≡ []
   unfolding clap_on_literals
-  none_behind_short = simp a refl
+  none_after_short = simp a refl
 
   pub taken_short : (called : Text) → IsTaken (called ∷ codes "format" ∷ short)
   unfolding IsTaken clap_on_literals
-  taken_short called = joined _ _ refl (joined _ _ (no_fault format short short_last goes_over_short none_behind_short) (joined _ _ refl (joined _ _ refl refl)))
+  taken_short called = joined _ _ refl (joined _ _ (no_fault format short short_last goes_over_short none_after_short) (joined _ _ refl (joined _ _ refl refl)))
 
   pub met_short : (called : Text) → parts (subcommand_named (called ∷ codes "format" ∷ short)) ≡ Some (codes "format", Some (x ∷ xs), (Some (d ∷ ds), Some (codes "1"), None, None))
   unfolding subcommand_named clap_on_literals
@@ -77,7 +77,7 @@ module _ (x d : ℕ) (xs ds : Text) (h : nat_eq x 45 ≡ false) (k : nat_eq d 45
     given = (x ∷ xs) ∷ codes "--blocks" ∷ (d ∷ ds) ∷ codes "--version" ∷ (v ∷ []) ∷ []
 
     abbrev last : Walk
-    last = behind (row file_arg (x ∷ xs) ∷ row blocks_arg (d ∷ ds) ∷ []) (codes "version") ((v ∷ []) ∷ []) idle
+    last = following (row file_arg (x ∷ xs) ∷ row blocks_arg (d ∷ ds) ∷ []) (codes "version") ((v ∷ []) ∷ []) idle
 
     goes_over : Goes format (walk_from nothing_held) given last
     goes_over =
@@ -90,13 +90,13 @@ module _ (x d : ℕ) (xs ds : Text) (h : nat_eq x 45 ≡ false) (k : nat_eq d 45
         )
         )
 
-    none_behind : faults_behind format last ≡ []
+    none_after : faults_after format last ≡ []
     unfolding clap_on_literals
-    none_behind = simp b refl
+    none_after = simp b refl
 
     pub taken_format : (called : Text) → IsTaken (called ∷ codes "format" ∷ given)
     unfolding IsTaken clap_on_literals
-    taken_format called = joined _ _ refl (joined _ _ (no_fault format given last goes_over none_behind) (joined _ _ refl (joined _ _ refl refl)))
+    taken_format called = joined _ _ refl (joined _ _ (no_fault format given last goes_over none_after) (joined _ _ refl (joined _ _ refl refl)))
 
     pub met_format : (called : Text) → parts (subcommand_named (called ∷ codes "format" ∷ given)) ≡ Some (codes "format", Some (x ∷ xs), (Some (d ∷ ds), Some (v ∷ []), None, None))
     unfolding subcommand_named clap_on_literals

@@ -10,29 +10,29 @@ use Rattle.clap.proofs.OnLiterals.{clap_on_literals}
 use Rattle.bp_command.specs.Commands.{IsTaken, subcommand_named, play_app}
 use Rattle.bp_command.proofs.Chains.{joined}
 use Rattle.bp_command.proofs.Taken.{built_of, file_arg, seed_arg}
-use Rattle.bp_command.proofs.Walking.{Goes, Numbers, Turn, behind, faults_behind, goes_on, no_fault, parts, row, some_name, stays}
+use Rattle.bp_command.proofs.Walking.{Goes, Numbers, Turn, following, faults_after, goes_on, no_fault, parts, row, some_name, stays}
 
 abbrev play : Shape
 play = built_of play_app.top
 
-file_turn : (x : ℕ) (xs : Text) → nat_eq x 45 ≡ false → Turn play (walk_from nothing_held) (x ∷ xs) (behind [] (codes "FILE") ((x ∷ xs) ∷ []) idle)
+file_turn : (x : ℕ) (xs : Text) → nat_eq x 45 ≡ false → Turn play (walk_from nothing_held) (x ∷ xs) (following [] (codes "FILE") ((x ∷ xs) ∷ []) idle)
 unfolding clap_on_literals
 file_turn x xs h = record { passes = simp h refl; goes = simp h refl }
 
-seed_turn : (x : ℕ) (xs : Text) → Turn play (behind [] (codes "FILE") ((x ∷ xs) ∷ []) idle) (codes "--seed") (behind (row file_arg (x ∷ xs) ∷ []) (codes "seed") [] (option (codes "seed")))
+seed_turn : (x : ℕ) (xs : Text) → Turn play (following [] (codes "FILE") ((x ∷ xs) ∷ []) idle) (codes "--seed") (following (row file_arg (x ∷ xs) ∷ []) (codes "seed") [] (option (codes "seed")))
 unfolding clap_on_literals
 seed_turn x xs = let n = some_name x xs in record { passes = simp n refl; goes = refl }
 
-seed_value : (rows : List Row) (d : ℕ) (ds : Text) → nat_eq d 45 ≡ false → Turn play (behind rows (codes "seed") [] (option (codes "seed"))) (d ∷ ds) (behind rows (codes "seed") ((d ∷ ds) ∷ []) idle)
+seed_value : (rows : List Row) (d : ℕ) (ds : Text) → nat_eq d 45 ≡ false → Turn play (following rows (codes "seed") [] (option (codes "seed"))) (d ∷ ds) (following rows (codes "seed") ((d ∷ ds) ∷ []) idle)
 unfolding clap_on_literals
 seed_value rows d ds k = record { passes = simp k refl; goes = simp k refl }
 
 count_turn : (name seed : Text) → accepts false (vp.Unsigned 0 18446744073709551615) seed ≡ true →
-    Turn play (behind (row file_arg name ∷ []) (codes "seed") (seed ∷ []) idle) (codes "--count") (behind (row file_arg name ∷ row seed_arg seed ∷ []) (codes "count") [] (option (codes "count")))
+    Turn play (following (row file_arg name ∷ []) (codes "seed") (seed ∷ []) idle) (codes "--count") (following (row file_arg name ∷ row seed_arg seed ∷ []) (codes "count") [] (option (codes "count")))
 unfolding clap_on_literals
 count_turn name seed a = record { passes = simp a refl; goes = refl }
 
-count_value : (rows : List Row) (e : ℕ) (es : Text) → nat_eq e 45 ≡ false → Turn play (behind rows (codes "count") [] (option (codes "count"))) (e ∷ es) (behind rows (codes "count") ((e ∷ es) ∷ []) idle)
+count_value : (rows : List Row) (e : ℕ) (es : Text) → nat_eq e 45 ≡ false → Turn play (following rows (codes "count") [] (option (codes "count"))) (e ∷ es) (following rows (codes "count") ((e ∷ es) ∷ []) idle)
 unfolding clap_on_literals
 count_value rows e es l = record { passes = simp l refl; goes = simp l refl }
 
@@ -43,7 +43,7 @@ module _ (x d e : ℕ) (xs ds es : Text) (h : nat_eq x 45 ≡ false) (k : nat_eq
   given = (x ∷ xs) ∷ codes "--seed" ∷ (d ∷ ds) ∷ codes "--count" ∷ (e ∷ es) ∷ []
 
   abbrev last : Walk
-  last = behind (row file_arg (x ∷ xs) ∷ row seed_arg (d ∷ ds) ∷ []) (codes "count") ((e ∷ es) ∷ []) idle
+  last = following (row file_arg (x ∷ xs) ∷ row seed_arg (d ∷ ds) ∷ []) (codes "count") ((e ∷ es) ∷ []) idle
 
   module _ (a : accepts false (vp.Unsigned 0 18446744073709551615) (d ∷ ds) ≡ true) where
     goes_over : Goes play (walk_from nothing_held) given last
@@ -57,13 +57,13 @@ module _ (x d e : ℕ) (xs ds es : Text) (h : nat_eq x 45 ≡ false) (k : nat_eq
         )
         )
 
-    none_behind : accepts false (vp.Unsigned 0 1000000) (e ∷ es) ≡ true → faults_behind play last ≡ []
+    none_after : accepts false (vp.Unsigned 0 1000000) (e ∷ es) ≡ true → faults_after play last ≡ []
     unfolding clap_on_literals
-    none_behind b = simp b refl
+    none_after b = simp b refl
 
     pub taken_play : (called : Text) → accepts false (vp.Unsigned 0 1000000) (e ∷ es) ≡ true → IsTaken (called ∷ codes "play" ∷ given)
     unfolding IsTaken clap_on_literals
-    taken_play called b = joined _ _ refl (joined _ _ (no_fault play given last goes_over (none_behind b)) (joined _ _ refl (joined _ _ refl refl)))
+    taken_play called b = joined _ _ refl (joined _ _ (no_fault play given last goes_over (none_after b)) (joined _ _ refl (joined _ _ refl refl)))
 
     -- what the words give where the walk over them stands here
     abbrev parts_at : Walk → Option (Text × Option Text × Numbers)

@@ -221,7 +221,7 @@ record HasMet (met : Option (Text × List Row)) : Type 0 where
 abbrev answers : Text × List Text → Shape → Bool
 answers p s = answers_to p.0 (label_of s)
 
--- what is found wrong with the words behind that
+-- what is found wrong with the words after that
 abbrev faults_of : Text × List Text → Option Shape → Kinds
 faults_of p o = option_map_or (λ s. level_fault s [] nothing_held p.1 false []) o []
 

@@ -1,4 +1,4 @@
--- The plain words of a program, word by word: where the walk of its subcommand stands behind each.
+-- The plain words of a program, word by word: where the walk of its subcommand stands after each.
 use Rattle.std.proofs.Common.{◌≡◌, ℕ, List, [], ◌∷◌, length, true, false, refl, sym, subst, arith, lt-ltb}
 use Rattle.std.specs.Prelude.{Option, None, Some, fold, option_map, codes}
 use Rattle.clap.specs.Faults.{check_fault, defaults_fault, level_fault, settle_fault, turn_fault, walk_fault}
@@ -25,9 +25,9 @@ parts = option_map (λ p. (p.0, first_of (codes "FILE") p.1, numbers_of p.1))
 pub some_name : (x : ℕ) (xs : Text) → accepts false vp.NonEmptyString (x ∷ xs) ≡ true
 some_name x xs = lt-ltb 0 (length (x ∷ xs)) (omega arith)
 
--- where the walk stands behind the file's name
-abbrev pub behind : List Row → Text → List Text → Waiting → Walk
-behind rows id values waiting = record {
+-- where the walk stands after the file's name
+abbrev pub following : List Row → Text → List Text → Waiting → Walk
+following rows id values waiting = record {
   held = record { rows = rows; pending = Some (id, values); skip = 0 };
   waiting = waiting;
   position = 2;
@@ -60,10 +60,10 @@ module _ (s : Shape) where
     goes = subst (λ (w : Walk). fold (walked s.rules []) w words ≡ new) (sym turn.goes) rest.goes;
   }
 
-  -- what the command finds wrong behind a walk that stands here
-  abbrev pub faults_behind : Walk → Kinds
-  faults_behind w = or_else (settle_fault s.rules s.args_override_self w.held) (or_else (defaults_fault (settled s.rules w.held).rows s.rules) (check_fault s (finished s.rules w.held) false))
+  -- what the command finds wrong after a walk that stands here
+  abbrev pub faults_after : Walk → Kinds
+  faults_after w = or_else (settle_fault s.rules s.args_override_self w.held) (or_else (defaults_fault (settled s.rules w.held).rows s.rules) (check_fault s (finished s.rules w.held) false))
 
   -- a walk that goes over the words, and stands where nothing is wrong
-  pub no_fault : (words : List Text) (last : Walk) → Goes (walk_from nothing_held) words last → faults_behind last ≡ [] → level_fault s [] nothing_held words false [] ≡ []
-  no_fault words last over none = joined _ _ over.passes (joined _ _ refl (subst (λ (w : Walk). faults_behind w ≡ []) (sym over.goes) none))
+  pub no_fault : (words : List Text) (last : Walk) → Goes (walk_from nothing_held) words last → faults_after last ≡ [] → level_fault s [] nothing_held words false [] ≡ []
+  no_fault words last over none = joined _ _ over.passes (joined _ _ refl (subst (λ (w : Walk). faults_after w ≡ []) (sym over.goes) none))

@@ -7,8 +7,8 @@ use Rattle.clap.specs.declared.parser.matches.ArgMatches.{ArgMatches}
 use Rattle.clap.specs.declared.error.Error.{Error}
 use Rattle.clap.specs.Words.{Row, IsAmong, fault_of, kind_of, subcommand_of, HasMatchesOf, app_of, rule_of, App, Rule, Text, new_app, new_rule, with_rule, with_subcommand}
 use Rattle.clap.specs.declared.builder.value_parser.ValueParser.TheVariants as vp
-use Rattle.bp_command.specs.declared.reading.WordsFault.{WordsFault}
-use Rattle.bp_command.specs.declared.reading.WordsFault.TheVariants.{Usage, Memory}
+use Rattle.bp_command.specs.declared.arguments.WordsFault.{WordsFault}
+use Rattle.bp_command.specs.declared.arguments.WordsFault.TheVariants.{Usage, Memory}
 
 abbrev pub file_rule : Rule
 file_rule = record (new_rule (codes "FILE")) { required = true; parser = Some vp.NonEmptyString }

@@ -9,8 +9,8 @@ use Rattle.bp_limits.specs.Numbers.{version_numbered}
 use Rattle.bp_limits.specs.declared.version.Version.{Version}
 use Rattle.bp_limits.specs.declared.version.Version.TheVariants.{One, Two}
 use Rattle.bp_command.specs.Commands.{IsTaken, subcommand_named}
-use Rattle.bp_command.specs.declared.reading.Program.{Program as Asked}
-use Rattle.bp_command.specs.declared.reading.Program.TheVariants.{Format, Run, Check, Play, Export}
+use Rattle.bp_command.specs.declared.arguments.Program.{Program as Asked}
+use Rattle.bp_command.specs.declared.arguments.Program.TheVariants.{Format, Run, Check, Play, Export}
 
 pub data Program : Type 0 where
   -- The name of a file, its number of blocks, and its version.

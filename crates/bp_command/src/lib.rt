@@ -1,10 +1,10 @@
 //! The arguments of a command line, as `clap` reads them.
 #![tactic(auto)]
 
-mod building;
+mod arguments;
 pub mod laws;
-mod reading;
-mod telling;
+mod subcommands;
+mod usage;
 
-pub use reading::{Program, WordsFault, read_words};
-pub use telling::mistake_line;
+pub use arguments::{Program, WordsFault, read_words};
+pub use usage::mistake_line;

@@ -2,7 +2,7 @@
 use Rattle.std.proofs.Common.{◌≡◌, ◌≢◌, ◌⊎◌, ℕ, ◌+◌, ◌/◌, ◌<◌, ◌≤◌, List, [], ◌∷◌, ◌++◌, length, drop, Bool, true, false, ◌*◌, sym, ◌∙◌, ap, subst, arith, inl, inr}
 use Rattle.std.proofs.Math.Seq.{drop-append_seam}
 use Rattle.std.specs.List.{range_with_len}
-use Rattle.bp_layout.proofs.MemberLaws.{apart-append, apart-within, each-append, each-as, each-has, each-of, has-behind, has-filter, has-front, has-range}
+use Rattle.bp_layout.proofs.MemberLaws.{apart-append, apart-within, each-append, each-as, each-has, each-of, has-after, has-filter, has-prefix, has-range}
 use Rattle.bp_layout.specs.Free.{HasFree, numbers_below}
 use Rattle.std.proofs.lemmas.List.{append_assoc, length-append}
 use Rattle.pm_epochs.specs.declared.event.Event.{Event}
@@ -12,7 +12,7 @@ use Rattle.pm_epochs.specs.May.{AnyAt, EachMay, StoresMay}
 use Rattle.pm_epochs.specs.Crash.{IsPartialEquivalence, commit}
 use Rattle.pm_epochs.proofs.MayLaws.{quiet_may, StoresMay-weaker, StoresMay-append}
 use Rattle.pm_epochs.proofs.CrashLaws.{IsClosed-append, quiet-append}
-use Rattle.pm_epochs.proofs.PieceLaws.{IsPiece-append, IsPiece-more, IsPiece-commit, last_stored-commit, StoresTo-append, StoresTo-front, StoresTo-behind}
+use Rattle.pm_epochs.proofs.PieceLaws.{IsPiece-append, IsPiece-more, IsPiece-commit, last_stored-commit, StoresTo-append, StoresTo-prefix, StoresTo-after}
 use Rattle.pm_region.specs.Memory.{Memory, current_words, events_between, Adds}
 use Rattle.pm_region.specs.Safe.{IsSafe, AddsCommit, AddsMay}
 use Rattle.pm_region.proofs.MemoryLaws.{adds_both, current_words-adds, length-current_words}
@@ -58,30 +58,30 @@ pub takes_none : (image : Image) (in_snapshot : ℕ → Bool) → TakesBlocks im
 takes_none image in_snapshot = record { once = tt; free = tt; stored = tt; only = tt }
 
 -- The live blocks of the second image were live in the first, or the first part took them. What the second part takes was free then, and the first part did not take it: a block that is
--- prepared behind a size is not live yet, so that of the second image alone this does not follow.
+-- prepared after a size is not live yet, so that of the second image alone this does not follow.
 module _ (in_snapshot : ℕ → Bool) (old mid : Image) (first second : List ℕ) (one two : List Event) (live : (b : ℕ) → IsLiveBlock mid b → IsLiveBlock old b ⊎ Has first b) where
   open_before : (word : ℕ) → IsOpen mid in_snapshot second word → IsOpen old in_snapshot (first ++ second) word
-  open_before word (in_taken has) = in_taken (has-behind first second (word / 512) has)
-  open_before word (in_live is loose) = elim (live (word / 512) is) [ inl before ↦ in_live before loose | inr took ↦ in_taken (has-front first second (word / 512) took) ]
+  open_before word (in_taken has) = in_taken (has-after first second (word / 512) has)
+  open_before word (in_live is loose) = elim (live (word / 512) is) [ inl before ↦ in_live before loose | inr took ↦ in_taken (has-prefix first second (word / 512) took) ]
   open_before word (at_root e) = at_root e
   open_before word (at_size e) = at_size e
 
   open_more : (word : ℕ) → IsOpen old in_snapshot first word → IsOpen old in_snapshot (first ++ second) word
-  open_more word (in_taken has) = in_taken (has-front first second (word / 512) has)
+  open_more word (in_taken has) = in_taken (has-prefix first second (word / 512) has)
   open_more word (in_live is loose) = in_live is loose
   open_more word (at_root e) = at_root e
   open_more word (at_size e) = at_size e
 
   -- one part after another
   pub takes_twice : ((b : ℕ) → Has second b → IsFreeBlock old in_snapshot b × (Has first b → ⊥)) → TakesBlocks old in_snapshot first one → TakesBlocks mid in_snapshot second two → TakesBlocks old in_snapshot (first ++ second) (one ++ two)
-  takes_twice free front rest = record {
-    once = apart-append first second front.once rest.once (λ b early late. (free b late).1 early);
-    free = each-append (IsFreeBlock old in_snapshot) first second front.free (each-of (IsFreeBlock old in_snapshot) second (λ b has. (free b has).0));
+  takes_twice free prefix rest = record {
+    once = apart-append first second prefix.once rest.once (λ b early late. (free b late).1 early);
+    free = each-append (IsFreeBlock old in_snapshot) first second prefix.free (each-of (IsFreeBlock old in_snapshot) second (λ b has. (free b has).0));
     stored = each-append (λ b. StoresTo (InBlock b) (one ++ two)) first second
-        (each-as (λ b. StoresTo (InBlock b) one) (λ b. StoresTo (InBlock b) (one ++ two)) (λ b. StoresTo-front (InBlock b) one two) first front.stored)
-        (each-as (λ b. StoresTo (InBlock b) two) (λ b. StoresTo (InBlock b) (one ++ two)) (λ b. StoresTo-behind (InBlock b) one two) second rest.stored);
+        (each-as (λ b. StoresTo (InBlock b) one) (λ b. StoresTo (InBlock b) (one ++ two)) (λ b. StoresTo-prefix (InBlock b) one two) first prefix.stored)
+        (each-as (λ b. StoresTo (InBlock b) two) (λ b. StoresTo (InBlock b) (one ++ two)) (λ b. StoresTo-after (InBlock b) one two) second rest.stored);
     only = StoresMay-append (AnyAt (IsOpen old in_snapshot (first ++ second))) one two
-        (StoresMay-weaker (AnyAt (IsOpen old in_snapshot first)) (AnyAt (IsOpen old in_snapshot (first ++ second))) (λ word value. open_more word) one front.only)
+        (StoresMay-weaker (AnyAt (IsOpen old in_snapshot first)) (AnyAt (IsOpen old in_snapshot (first ++ second))) (λ word value. open_more word) one prefix.only)
         (StoresMay-weaker (AnyAt (IsOpen mid in_snapshot second)) (AnyAt (IsOpen old in_snapshot (first ++ second))) (λ word value. open_before word) two rest.only);
   }
 
@@ -128,7 +128,7 @@ module _ (in_snapshot : ℕ → Bool) (old new : Memory) (change : Change) (Effe
   abbrev needed : ℕ
   needed = need (current_words old) change
 
-  -- a commit whose stores are told
+  -- a commit whose stores are reported
   pub within_committed : (word value most_barriers most amount : ℕ) (taken : List ℕ) (done : AddsCommit Same word value most_barriers most old new) → TakesBlocks (current_words old) in_snapshot taken done.prepared → word ≡ covered →
       length taken ≡ amount → IsOpen (current_words old) in_snapshot taken word → IsWellFormed (current_words new) → Effect (current_words old) (current_words new) →
       PerformsWithin in_snapshot amount most_barriers most old new change Effect
@@ -228,7 +228,7 @@ module _ (in_snapshot : ℕ → Bool) (old new : Memory) (change : Change) (Effe
       (subst (λ n. PerformsWithin in_snapshot n 8 (most_stores_thawed needed) old new change Effect) (sym full) done)
       10 (most_stores (full_need (current_words old) in_snapshot change)) (omega arith) (omega (arith, full))
 
--- ---- behind a thaw
+-- ---- after a thaw
 
 -- Blocks that are in the snapshot were copied. What is live then was live or is a copy, the copies are, and what is not
 -- live any more is in the snapshot.
@@ -241,8 +241,8 @@ module _ (in_snapshot : ℕ → Bool) (old middle : Memory) (first : List ℕ) (
       ap (λ n. n / 512) (length-current_words middle ∙ base ∙ sym (length-current_words old))
 
   -- so what is free then was free, and is none of the copies
-  pub free_behind_thaw : (b : ℕ) → IsFreeBlock (current_words middle) in_snapshot b → IsFreeBlock (current_words old) in_snapshot b × (Has first b → ⊥)
-  free_behind_thaw b free = (record { low = free.low; high = rw same_count at free.high; free = not_live; loose = free.loose }, λ took. free.free (used b took))
+  pub free_after_thaw : (b : ℕ) → IsFreeBlock (current_words middle) in_snapshot b → IsFreeBlock (current_words old) in_snapshot b × (Has first b → ⊥)
+  free_after_thaw b free = (record { low = free.low; high = rw same_count at free.high; free = not_live; loose = free.loose }, λ took. free.free (used b took))
     where
       clash : (is : Bool) → is ≡ true → is ≡ false → ⊥
       clash is one two = absurd (cc)
@@ -252,14 +252,14 @@ module _ (in_snapshot : ℕ → Bool) (old middle : Memory) (first : List ℕ) (
 
   module _ (new : Memory) (change : Change) (Rest Effect : Image → Image → Type 0) (rest : PerformsThawed in_snapshot middle new change Rest) where
     -- the call goes on as where nothing has to be thawed
-    pub performs_behind_thaw : length first ≡ length (thawed (current_words old) in_snapshot change) → cover (current_words middle) change ≡ cover (current_words old) change →
+    pub performs_after_thaw : length first ≡ length (thawed (current_words old) in_snapshot change) → cover (current_words middle) change ≡ cover (current_words old) change →
         need (current_words middle) change ≡ need (current_words old) change → (Rest (current_words middle) (current_words new) → Effect (current_words old) (current_words new)) → Performs in_snapshot old new change Effect
-    performs_behind_thaw number same_cover same_need effect =
+    performs_after_thaw number same_cover same_need effect =
         let n : ℕ = length first in
         let m : ℕ = need (current_words middle) change in
         let all : length first + need (current_words middle) change ≡ full_need (current_words old) in_snapshot change = omega (arith, number, same_need) in
         let free : (b : ℕ) → Has rest.taken b → IsFreeBlock (current_words old) in_snapshot b × (Has first b → ⊥) =
-        (λ b took. free_behind_thaw b (each-has (IsFreeBlock (current_words middle) in_snapshot) rest.taken b rest.takes.free took)) in
+        (λ b took. free_after_thaw b (each-has (IsFreeBlock (current_words middle) in_snapshot) rest.taken b rest.takes.free took)) in
         within_more in_snapshot (full_need (current_words old) in_snapshot change) (2 + 8) ((512 + 1) * n + most_stores_thawed m) old new change Effect
         (within_twice in_snapshot old new change Effect middle (address (current_words new) (cover (current_words middle) change)) rest.value 2 ((512 + 1) * n) 8 (most_stores_thawed m) (full_need (current_words old) in_snapshot change) first
         rest.taken thaw rest.commit rest.takes live free (ap (address (current_words new)) same_cover) (ap (λ x. n + x) rest.number ∙ all) rest.in_open rest.well_formed (effect rest.effect))
@@ -269,7 +269,7 @@ module _ (in_snapshot : ℕ → Bool) (old middle : Memory) (first : List ℕ) (
   pub performs_thawed : IsWellFormed (current_words old) → SameShape (current_words old) (current_words middle) → (new : Memory) (change : Change) (Effect : Image → Image → Type 0) → IsOfReached (current_words old) change →
       length first ≡ length (thawed (current_words old) in_snapshot change) → PerformsThawed in_snapshot middle new change Effect → Performs in_snapshot old new change (AfterThaw Effect)
   performs_thawed well shape new change Effect of number rest =
-      performs_behind_thaw new change Effect (AfterThaw Effect) rest number (cover-shape (current_words old) (current_words middle) well shape change of) (need-shape (current_words old) (current_words middle) well shape change of)
+      performs_after_thaw new change Effect (AfterThaw Effect) rest number (cover-shape (current_words old) (current_words middle) well shape change of) (need-shape (current_words old) (current_words middle) well shape change of)
       (λ effect. record { middle = current_words middle; thawed = shape; effect = effect })
 
 -- ---- what follows
@@ -298,7 +298,7 @@ module _ (in_snapshot : ℕ → Bool) (old new : Memory) (change : Change) (Effe
   pub all_open : StoresMay (AnyAt (IsOpen (current_words old) in_snapshot done.taken)) performed
   all_open = StoresMay-append (AnyAt (IsOpen (current_words old) in_snapshot done.taken)) done.commit.prepared (commit place done.value) done.takes.only (done.in_open, tt)
 
-  -- no word of the superblock is stored to but the two that tell of the inode file
+  -- no word of the superblock is stored to but the two that describe the inode file
   pub no_idle_word : (word : ℕ) → word < 512 → word ≢ super_root → word ≢ super_size → StoresTo (λ place. place ≡ word) performed → ⊥
   no_idle_word word high not_root not_size found = go performed all_open found
     where
@@ -345,7 +345,7 @@ module _ (in_snapshot : ℕ → Bool) (old new : Memory) (change : Change) (Effe
       once = done.takes.once;
       some = λ b has. (
         each-has (IsFreeBlock (current_words old) in_snapshot) done.taken b done.takes.free has,
-        StoresTo-front (InBlock b) done.commit.prepared (commit place done.value) (each-has (λ x. StoresTo (InBlock x) done.commit.prepared) done.taken b done.takes.stored has),
+        StoresTo-prefix (InBlock b) done.commit.prepared (commit place done.value) (each-has (λ x. StoresTo (InBlock x) done.commit.prepared) done.taken b done.takes.stored has),
       );
       all = take_all;
     };
@@ -362,7 +362,7 @@ module _ (in_snapshot : ℕ → Bool) (old new : Memory) (change : Change) (Effe
   pub performs_no_call_end : call_ends performed ≡ 0
   performs_no_call_end = done.commit.piece.no_call_end
 
-  -- with its marker it keeps the memory safe: crashes are right, and each store has a barrier behind it
+  -- with its marker it keeps the memory safe: crashes are right, and each store has a barrier after it
   pub performs_safe : (ended : Memory) → IsSafe Same old → Adds new ended (CallEnd ∷ []) → IsSafe Same ended
   performs_safe ended safe ends =
       safe_committed Same same_equivalence place done.value 10 (most_stores (full_need (current_words old) in_snapshot change)) old new ended safe done.commit ends

@@ -1,4 +1,4 @@
--- With how many slots the paths that tell begin alike.
+-- With how many slots the paths that report begin alike.
 use Rattle.std.proofs.Common.{◌≡◌, ◌≢◌, ◌⊎◌, ℕ, zero, suc, ◌+◌, ◌-◌, ◌*◌, ◌/◌, ◌^◌, ◌<◌, ◌≤◌, List, ◌∷◌, length, min, sym, ◌∙◌, ap, subst, arith, inl, inr, pow-suc}
 use Rattle.std.specs.Prelude.{◌↔◌}
 use Rattle.std.specs.List.{slice_index}
@@ -8,23 +8,23 @@ use Rattle.bp_layout.specs.WordPaths.{WordPath}
 use Rattle.bp_shapes.specs.Forest.{along}
 use Rattle.bp_shapes.specs.Trail.{Trail, trail_of}
 use Rattle.bp_shapes.proofs.ForestLaws.{HasFewDigits, same_along}
-use Rattle.bp_shapes.proofs.PathTrails.{front-trail_of, slot-trail_of, trail_of-next}
+use Rattle.bp_shapes.proofs.PathTrails.{prefix-trail_of, slot-trail_of, trail_of-next}
 use Rattle.bp_cow.specs.declared.touched.Run.{Run}
 use Rattle.bp_cow.specs.declared.touched.Touched.{Touched}
 use Rattle.bp_cow.specs.Cover.{end_path, ends, BeginAlike, BothBegin}
 use Rattle.bp_cow.specs.Touched.{IsRun, run_end, run_path}
-use Rattle.bp_cow.proofs.RunFronts.{front-digits, short-over, short-power}
+use Rattle.bp_cow.proofs.RunPrefixes.{prefix-digits, short-over, short-power}
 use Rattle.bp_cow.proofs.RunLaws.{length-run_path}
 
--- a shorter front is alike too
+-- a shorter prefix is alike too
 pub begin-less : (path other : WordPath) (n m : ℕ) → m ≤ n → BothBegin path other n → BothBegin path other m
 begin-less path other n m low both = record {
   here = omega (arith, low, both.here);
   there = omega (arith, low, both.there);
-  same = front-trail_of path other n m both.same low;
+  same = prefix-trail_of path other n m both.same low;
 }
 
--- so many slots, where these are alike and no more
+-- as many slots, where these are alike and no more
 pub begin-upto : (path other : WordPath) (n : ℕ) → BothBegin path other n → ¬ BothBegin path other (suc n) → (m : ℕ) → (m ≤ n) ↔ BothBegin path other m
 begin-upto path other n both not m = (λ low. begin-less path other n m low both, λ more. go more (cases_lt n m))
   where
@@ -44,14 +44,14 @@ module _ (run : Run) (a b : ℕ) (a_low : a < 512 ^ suc run.height) (b_low : b <
   trail-at : (k l : ℕ) → l ≤ top → trail_of (run_path run k) (length root + (top - l)) ≡ along (trail_of root (length root)) (top - l) (k / 512 ^ l)
   trail-at k l low =
       let back : top - (top - l) ≡ l = omega (arith, low) in
-      front-digits root top k (top - l) (omega arith) ∙ ap (λ c. along (trail_of root (length root)) (top - l) (k / 512 ^ c)) back
+      prefix-digits root top k (top - l) (omega arith) ∙ ap (λ c. along (trail_of root (length root)) (top - l) (k / 512 ^ c)) back
 
   few-digits : (k l : ℕ) → l ≤ top → k < 512 ^ top → HasFewDigits (top - l) (k / 512 ^ l)
   few-digits k l low small =
       let whole : (top - l) + l ≡ top = omega (arith, low) in
       short-over (top - l) l k (subst (λ n. HasFewDigits n k) (sym whole) (short-power top k small))
 
-  -- the same number above a level is the same front
+  -- the same number above a level is the same prefix
   level-alike : (l : ℕ) → l ≤ top → a / 512 ^ l ≡ b / 512 ^ l → BothBegin (run_path run a) (run_path run b) (length root + (top - l))
   level-alike l low same = record {
     here = omega (arith, length-run_path run a);
@@ -64,7 +64,7 @@ module _ (run : Run) (a b : ℕ) (a_low : a < 512 ^ suc run.height) (b_low : b <
       (same_along (trail_of root (length root)) (trail_of root (length root)) (top - l) (a / 512 ^ l) (b / 512 ^ l) (few-digits a l low a_low) (few-digits b l low b_low)
       (sym (trail-at a l low) ∙ both.same ∙ trail-at b l low)).1
 
-  -- the lowest level above which the numbers are the same tells how many slots are alike
+  -- the lowest level above which the numbers are the same reports how many slots are alike
   pub level-upto : (l : ℕ) → l ≤ top → a / 512 ^ l ≡ b / 512 ^ l → ((k : ℕ) → k < l → a / 512 ^ k ≢ b / 512 ^ k) → (n : ℕ) → (n ≤ length root + (top - l)) ↔ BothBegin (run_path run a) (run_path run b) n
   level-upto zero low same lower = begin-upto (run_path run a) (run_path run b) _ (level-alike zero low same) (λ more. let here = more.here in omega (arith, here, length-run_path run a))
   level-upto (suc l) low same lower =
@@ -85,7 +85,7 @@ ends-low run is = rw pow-suc (low (512 ^ run.height) is.covered)
 
 -- ---- all of them
 
--- the first of them begin with the same slots, so many
+-- the first of them begin with the same slots, as many
 abbrev pub FirstAlike : Touched → ℕ → ℕ → Type 0
 FirstAlike touched count n = (k : ℕ) → k < count → BothBegin (end_path touched k) (end_path touched 0) n
 
@@ -122,7 +122,7 @@ begin-through first middle last most own before alike least low greatest n = (to
         let here = begin-less middle first most n both.0 before in
         greatest n both.0 ((alike n).1 (record { here = here.here; there = both.1.here; same = here.same ∙ sym both.1.same }))
 
--- of so many at most
+-- of as many at most
 pub begin-least : (path other : WordPath) (most own least n : ℕ) → (n ≤ own) ↔ BothBegin path other n → least ≡ min most own → (n ≤ least) ↔ (n ≤ most) × BothBegin path other n
 begin-least path other most own least n alike is = (
   λ few. (omega (arith, few, is), alike.0 (omega (arith, few, is))),

@@ -1,4 +1,4 @@
--- What holds between two steps of the making of copies: what the next call asks, and how the steps are told by the words.
+-- What holds between two steps of the making of copies: what the next call asks, and how the steps are stated by the words.
 use Rattle.std.proofs.Common.{◌≡◌, ◌≢◌, ◌⊎◌, ℕ, zero, suc, ◌+◌, ◌*◌, ◌/◌, ◌<◌, ◌≤◌, set, ◌∷◌, length, Bool, true, false, Option, None, Some, refl, sym, ◌∙◌, ap, subst, arith, inl, inr, get_or-set_same}
 use Rattle.std.proofs.lemmas.Bool.{cases_eq}
 use Rattle.std.proofs.lemmas.List.{length-set}
@@ -8,14 +8,14 @@ use Rattle.bp_layout.specs.Words.{Image, word, block_count, block_of}
 use Rattle.bp_shapes.specs.Trail.{Trail, word_on, block_on, place_on, ArePointers}
 use Rattle.bp_shapes.proofs.PathTrails.{word-placed, low-placed, length-trail_of}
 use Rattle.bp_cow.specs.Stage.{IsBuilding}
-use Rattle.bp_cow.specs.Job.{Job, front, end_of, word_trail, value_upto, laid_upto, laid_on, IsBegun, IsAnew}
-use Rattle.bp_cow.specs.Job.IsAnew.{is_cover, is_begun, is_front}
+use Rattle.bp_cow.specs.Job.{Job, prefix, end_of, word_trail, value_upto, laid_upto, laid_on, IsBegun, IsRenewed}
+use Rattle.bp_cow.specs.Job.IsRenewed.{is_cover, is_begun, is_proper_prefix}
 use Rattle.bp_cow.proofs.BuildingLaws.{word-loaded}
 
 -- the same pointers under another name
-pub building_same : {in_snapshot : ℕ → Bool} {old words : Image} {place pointer : ℕ} {cover : Trail} {Pointer Counts anew other : Trail → Type 0} {value : Trail → Option ℕ} {laid : Trail → ℕ} {free : ℕ → Bool} →
-    ((q : Trail) → anew q → other q) → ((q : Trail) → other q → anew q) →
-    IsBuilding old words place pointer cover Pointer Counts anew value laid in_snapshot free → IsBuilding old words place pointer cover Pointer Counts other value laid in_snapshot free
+pub building_same : {in_snapshot : ℕ → Bool} {old words : Image} {place pointer : ℕ} {cover : Trail} {Pointer Counts renewed other : Trail → Type 0} {value : Trail → Option ℕ} {laid : Trail → ℕ} {free : ℕ → Bool} →
+    ((q : Trail) → renewed q → other q) → ((q : Trail) → other q → renewed q) →
+    IsBuilding old words place pointer cover Pointer Counts renewed value laid in_snapshot free → IsBuilding old words place pointer cover Pointer Counts other value laid in_snapshot free
 building_same to from building =
     let stage = building.stage in
     record {
@@ -42,8 +42,8 @@ building_same to from building =
       below = λ p n. building.below p (from p n);
     }
 
-module _ {in_snapshot : ℕ → Bool} {old words : Image} {place pointer : ℕ} {cover : Trail} {Pointer Counts anew : Trail → Type 0} {value : Trail → Option ℕ} {laid : Trail → ℕ} {free : ℕ → Bool} (pointers : ArePointers Pointer)
-    (building : IsBuilding old words place pointer cover Pointer Counts anew value laid in_snapshot free) where
+module _ {in_snapshot : ℕ → Bool} {old words : Image} {place pointer : ℕ} {cover : Trail} {Pointer Counts renewed : Trail → Type 0} {value : Trail → Option ℕ} {laid : Trail → ℕ} {free : ℕ → Bool} (pointers : ArePointers Pointer)
+    (building : IsBuilding old words place pointer cover Pointer Counts renewed value laid in_snapshot free) where
   same_count : block_count (set words place pointer) ≡ block_count old
   same_count = ap (λ n. n / 512) building.stage.whole
 
@@ -82,7 +82,7 @@ module _ {in_snapshot : ℕ → Bool} {old words : Image} {place pointer : ℕ} 
       go (inl null) = ap free null ∙ null_used
       go (inr some) = building.stage.taken _ (inr (record { trail = q; pointer = live; named = refl; not_null = some }))
 
-  module _ (p : Trail) (slot : ℕ) (live : Pointer p) (made : anew p) (low : slot < 512) where
+  module _ (p : Trail) (slot : ℕ) (live : Pointer p) (made : renewed p) (low : slot < 512) where
     pub at_low : 512 * block_on (set words place pointer) p + slot < length words
     at_low = let range : 512 * block_on (set words place pointer) p + 512 ≤ length words = in_image _ (building.stage.skeleton.in_range p live) in omega (arith, range, low)
 
@@ -100,62 +100,62 @@ module _ {in_snapshot : ℕ → Bool} {old words : Image} {place pointer : ℕ} 
       pub from_low : 512 * block_of (word words (512 * block_on (set words place pointer) p + slot)) + 512 ≤ length words
       from_low = in_image _ (rw from_is (building.stage.skeleton.in_range (slot ∷ p) pointed))
 
--- ---- the pointers that were turned, told by the words
+-- ---- the pointers that were turned, stated by the words
 
 module _ (job : Job) (from i : ℕ) where
-  pub anew_start : (q : Trail) → (⊥ ⊎ (q ≡ front job 0 from)) → IsAnew job from 0 from q
-  anew_start q (inl none) = absurd none
-  anew_start q (inr e) = is_cover e
+  pub renewed_start : (q : Trail) → (⊥ ⊎ (q ≡ prefix job 0 from)) → IsRenewed job from 0 from q
+  renewed_start q (inl none) = absurd none
+  renewed_start q (inr e) = is_cover e
 
-  pub anew_start_back : (q : Trail) → IsAnew job from 0 from q → ⊥ ⊎ (q ≡ front job 0 from)
-  anew_start_back q (is_cover e) = inr e
-  anew_start_back q (is_begun b) = absurd (omega (arith, b.early))
-  anew_start_back q (is_front count low high e) = absurd (omega (arith, low, high))
+  pub renewed_start_back : (q : Trail) → IsRenewed job from 0 from q → ⊥ ⊎ (q ≡ prefix job 0 from)
+  renewed_start_back q (is_cover e) = inr e
+  renewed_start_back q (is_begun b) = absurd (omega (arith, b.early))
+  renewed_start_back q (is_proper_prefix count low high e) = absurd (omega (arith, low, high))
 
   module _ (depth : ℕ) where
-    pub anew_more : (q : Trail) → IsAnew job from i depth q ⊎ (q ≡ front job i (depth + 1)) → from ≤ depth → IsAnew job from i (depth + 1) q
-    anew_more q (inl (is_cover e)) low = is_cover e
-    anew_more q (inl (is_begun b)) low = is_begun b
-    anew_more q (inl (is_front count small high e)) low = is_front count small (omega (arith, high)) e
-    anew_more q (inr e) low = is_front (depth + 1) (omega (arith, low)) (omega arith) e
+    pub renewed_more : (q : Trail) → IsRenewed job from i depth q ⊎ (q ≡ prefix job i (depth + 1)) → from ≤ depth → IsRenewed job from i (depth + 1) q
+    renewed_more q (inl (is_cover e)) low = is_cover e
+    renewed_more q (inl (is_begun b)) low = is_begun b
+    renewed_more q (inl (is_proper_prefix count small high e)) low = is_proper_prefix count small (omega (arith, high)) e
+    renewed_more q (inr e) low = is_proper_prefix (depth + 1) (omega (arith, low)) (omega arith) e
 
-    pub anew_more_back : (q : Trail) → IsAnew job from i (depth + 1) q → IsAnew job from i depth q ⊎ (q ≡ front job i (depth + 1))
-    anew_more_back q (is_cover e) = inl (is_cover e)
-    anew_more_back q (is_begun b) = inl (is_begun b)
-    anew_more_back q (is_front count small high e) = go (cases_eq count (depth + 1))
+    pub renewed_more_back : (q : Trail) → IsRenewed job from i (depth + 1) q → IsRenewed job from i depth q ⊎ (q ≡ prefix job i (depth + 1))
+    renewed_more_back q (is_cover e) = inl (is_cover e)
+    renewed_more_back q (is_begun b) = inl (is_begun b)
+    renewed_more_back q (is_proper_prefix count small high e) = go (cases_eq count (depth + 1))
       where
-        go : (count ≡ depth + 1) ⊎ (count ≡ depth + 1 → ⊥) → IsAnew job from i depth q ⊎ (q ≡ front job i (depth + 1))
-        go (inl same) = inr (e ∙ ap (front job i) same)
-        go (inr other) = inl (is_front count small (omega (arith, high, other)) e)
+        go : (count ≡ depth + 1) ⊎ (count ≡ depth + 1 → ⊥) → IsRenewed job from i depth q ⊎ (q ≡ prefix job i (depth + 1))
+        go (inl same) = inr (e ∙ ap (prefix job i) same)
+        go (inr other) = inl (is_proper_prefix count small (omega (arith, high, other)) e)
 
     -- the next pointer on the way is not yet turned, where no earlier word begins with it
-    pub not_anew : from ≤ depth → (IsBegun job from i (front job i (depth + 1)) → ⊥) → IsAnew job from i depth (front job i (depth + 1)) → ⊥
-    not_anew low none (is_cover e) = absurd (omega (arith, low, length-trail_of (job.way i) (depth + 1), length-trail_of (job.way 0) from, ap (λ (x : Trail). length x) e))
-    not_anew low none (is_begun b) = none b
-    not_anew low none (is_front count small high e) =
+    pub not_renewed : from ≤ depth → (IsBegun job from i (prefix job i (depth + 1)) → ⊥) → IsRenewed job from i depth (prefix job i (depth + 1)) → ⊥
+    not_renewed low none (is_cover e) = absurd (omega (arith, low, length-trail_of (job.way i) (depth + 1), length-trail_of (job.way 0) from, ap (λ (x : Trail). length x) e))
+    not_renewed low none (is_begun b) = none b
+    not_renewed low none (is_proper_prefix count small high e) =
         absurd (omega (arith, high, length-trail_of (job.way i) (depth + 1), length-trail_of (job.way i) count, ap (λ (x : Trail). length x) e))
 
   -- a word is done
-  module _ (last : ℕ) (len : last ≡ length (job.way i)) (low : from ≤ last) (cover : front job i from ≡ front job 0 from) where
-    pub anew_next : (q : Trail) → IsAnew job from i last q → IsAnew job from (i + 1) from q
-    anew_next q (is_cover e) = is_cover e
-    anew_next q (is_begun b) = is_begun (record { which = b.which; depth = b.depth; early = omega (arith, b.early); low = b.low; high = b.high; same = b.same })
-    anew_next q (is_front count small high e) = is_begun (record { which = i; depth = count; early = omega arith; low = omega (arith, small); high = omega (arith, high, len); same = e })
+  module _ (last : ℕ) (len : last ≡ length (job.way i)) (low : from ≤ last) (cover : prefix job i from ≡ prefix job 0 from) where
+    pub renewed_next : (q : Trail) → IsRenewed job from i last q → IsRenewed job from (i + 1) from q
+    renewed_next q (is_cover e) = is_cover e
+    renewed_next q (is_begun b) = is_begun (record { which = b.which; depth = b.depth; early = omega (arith, b.early); low = b.low; high = b.high; same = b.same })
+    renewed_next q (is_proper_prefix count small high e) = is_begun (record { which = i; depth = count; early = omega arith; low = omega (arith, small); high = omega (arith, high, len); same = e })
 
-    pub anew_next_back : (q : Trail) → IsAnew job from (i + 1) from q → IsAnew job from i last q
-    anew_next_back q (is_cover e) = is_cover e
-    anew_next_back q (is_front count small high e) = absurd (omega (arith, small, high))
-    anew_next_back q (is_begun b) = go (cases_eq b.which i) (cases_eq b.depth from)
+    pub renewed_next_back : (q : Trail) → IsRenewed job from (i + 1) from q → IsRenewed job from i last q
+    renewed_next_back q (is_cover e) = is_cover e
+    renewed_next_back q (is_proper_prefix count small high e) = absurd (omega (arith, small, high))
+    renewed_next_back q (is_begun b) = go (cases_eq b.which i) (cases_eq b.depth from)
       where
-        at : b.which ≡ i → q ≡ front job i b.depth
-        at e = b.same ∙ ap (λ j. front job j b.depth) e
+        at : b.which ≡ i → q ≡ prefix job i b.depth
+        at e = b.same ∙ ap (λ j. prefix job j b.depth) e
 
-        go : (b.which ≡ i) ⊎ (b.which ≡ i → ⊥) → (b.depth ≡ from) ⊎ (b.depth ≡ from → ⊥) → IsAnew job from i last q
+        go : (b.which ≡ i) ⊎ (b.which ≡ i → ⊥) → (b.depth ≡ from) ⊎ (b.depth ≡ from → ⊥) → IsRenewed job from i last q
         go (inr other) any = is_begun (record { which = b.which; depth = b.depth; early = omega (arith, b.early, other); low = b.low; high = b.high; same = b.same })
-        go (inl e) (inl top) = is_cover (at e ∙ ap (front job i) top ∙ cover)
+        go (inl e) (inl top) = is_cover (at e ∙ ap (prefix job i) top ∙ cover)
         go (inl e) (inr deep) =
             let proper : b.depth ≤ length (job.way i) = subst (λ j. b.depth ≤ length (job.way j)) e b.high in
-            is_front b.depth (omega (arith, b.low, deep)) (omega (arith, proper, len)) (at e)
+            is_proper_prefix b.depth (omega (arith, b.low, deep)) (omega (arith, proper, len)) (at e)
 
 -- ---- the values of the words
 

@@ -1,4 +1,4 @@
--- A pointer is turned, or a word given anew, while the last store is still to come.
+-- A pointer is turned, or a word given again, while the last store is still to come.
 use Rattle.std.proofs.Common.{◌≡◌, ◌≢◌, ◌⊎◌, ℕ, ◌+◌, ◌*◌, ◌/◌, ◌<◌, ◌≤◌, set, ◌∷◌, length, Bool, true, false, Option, None, Some, refl, sym, ◌∙◌, ap, subst, arith, inl, inr, get_or-set_other, get_or-set_same}
 use Rattle.std.proofs.lemmas.Bool.{cases_eq}
 use Rattle.std.proofs.lemmas.List.{length-set, set_comm}
@@ -34,8 +34,8 @@ placed-turned old new Pointer pointers here value turns _ long (in_block slot p 
     let same : block_on new p ≡ block_on old p = ap block_of (pointer-turned old new Pointer pointers here value turns p live other) in
     (in_block slot p live (λ null. present (sym same ∙ null)) low, ap (λ b. 512 * b + slot) same)
 
-module _ {in_snapshot : ℕ → Bool} {old words : Image} {place pointer : ℕ} {cover : Trail} {Pointer Counts anew : Trail → Type 0} {value : Trail → Option ℕ} {laid : Trail → ℕ} {free : ℕ → Bool} (pointers : ArePointers Pointer)
-    (building : IsBuilding old words place pointer cover Pointer Counts anew value laid in_snapshot free) where
+module _ {in_snapshot : ℕ → Bool} {old words : Image} {place pointer : ℕ} {cover : Trail} {Pointer Counts renewed : Trail → Type 0} {value : Trail → Option ℕ} {laid : Trail → ℕ} {free : ℕ → Bool} (pointers : ArePointers Pointer)
+    (building : IsBuilding old words place pointer cover Pointer Counts renewed value laid in_snapshot free) where
   -- the image as it would be after the last store
   abbrev seen : Image
   seen = set words place pointer
@@ -51,7 +51,7 @@ module _ {in_snapshot : ℕ → Bool} {old words : Image} {place pointer : ℕ} 
   apart : (q : Trail) (slot : ℕ) → Pointer q → length cover ≤ length q → block_on seen q ≢ 0 → slot < 512 → 512 * block_on seen q + slot ≢ place
   apart q slot live long present low same = apart-placed seen Pointer cover building.stage.skeleton building.placed q slot live long present low (same ∙ sym building.at)
 
-  module _ (p : Trail) (slot : ℕ) (live : Pointer p) (made : anew p) (low : slot < 512) where
+  module _ (p : Trail) (slot : ℕ) (live : Pointer p) (made : renewed p) (low : slot < 512) where
     -- where the word stands
     abbrev spot : ℕ
     spot = 512 * block_on seen p + slot
@@ -68,12 +68,12 @@ module _ {in_snapshot : ℕ → Bool} {old words : Image} {place pointer : ℕ} 
         sym (get_or-set_other words place spot pointer 0 other_place)
         ∙ word-placed seen Pointer (slot ∷ p) (in_block slot p live present low)
 
-    module _ {after : Image} {copy count : ℕ} {free_after : ℕ → Bool} {patch : WordPatch} (pointed : Pointer (slot ∷ p)) (first : anew (slot ∷ p) → ⊥)
+    module _ {after : Image} {copy count : ℕ} {free_after : ℕ → Bool} {patch : WordPatch} (pointed : Pointer (slot ∷ p)) (first : renewed (slot ∷ p) → ⊥)
         (counts : (s : ℕ) → s < 512 → Pointer (s ∷ slot ∷ p) ⊎ Counts (s ∷ slot ∷ p) → s < count)
         (plain : (s w : ℕ) → Pointer (s ∷ slot ∷ p) → patch s w ≡ w)
         (lays : (s : ℕ) → s < 512 → patch s (word_on old (s ∷ slot ∷ p)) ≡ laid (s ∷ slot ∷ p))
         (turned : TurnsTo patch count words after spot copy) (takes : TakesNumber free free_after copy) where
-      -- the pointer to the copy, and what is seen before and behind the store of it
+      -- the pointer to the copy, and what is seen before and after the store of it
       abbrev to_copy : ℕ
       to_copy = pointing_to (word_on seen (slot ∷ p)) copy
 
@@ -157,7 +157,7 @@ module _ {in_snapshot : ℕ → Bool} {old words : Image} {place pointer : ℕ} 
       pub building_block : block_on next (slot ∷ p) ≡ copy
       building_block = ap block_of turns_after.turned ∙ leads
 
-      pub building_turn : IsBuilding old after place pointer cover Pointer Counts (λ q. anew q ⊎ (q ≡ slot ∷ p)) value laid in_snapshot free_after
+      pub building_turn : IsBuilding old after place pointer cover Pointer Counts (λ q. renewed q ⊎ (q ≡ slot ∷ p)) value laid in_snapshot free_after
       building_turn =
           let longer : length cover ≤ length (slot ∷ p) = omega (arith, building.below p made) in
           let still = placed-turned seen next Pointer pointers (slot ∷ p) to_copy turns_after cover longer building.placed in
@@ -171,12 +171,12 @@ module _ {in_snapshot : ℕ → Bool} {old words : Image} {place pointer : ℕ} 
             below = λ q n. below q n;
           }
         where
-          below : (q : Trail) → anew q ⊎ (q ≡ slot ∷ p) → length cover ≤ length q
+          below : (q : Trail) → renewed q ⊎ (q ≡ slot ∷ p) → length cover ≤ length q
           below q (inl n) = building.below q n
           below q (inr e) = omega (arith, building.below p made, ap (λ (x : Trail). length x) e)
 
     module _ (given : ℕ) (value_after : Trail → Option ℕ) (content : Pointer (slot ∷ p) → ⊥) (here : value_after (slot ∷ p) ≡ Some given) (values : (q : Trail) → q ≢ slot ∷ p → value_after q ≡ value q) where
-      -- what is seen behind the store of the word
+      -- what is seen after the store of the word
       abbrev next_word : Image
       next_word = set (set words spot given) place pointer
 
@@ -192,7 +192,7 @@ module _ {in_snapshot : ℕ → Bool} {old words : Image} {place pointer : ℕ} 
           (store_turns seen seen Pointer pointers building.stage.skeleton some_seen (block_count seen)
           (record { whole = refl; others = λ at other. refl }) (λ e. absurd (omega (arith, some_seen, e))) none_past (slot ∷ p) given (in_block slot p live present low) (λ l. absurd (content l)))
 
-      pub building_store : IsBuilding old (set words spot given) place pointer cover Pointer Counts anew value_after laid in_snapshot free
+      pub building_store : IsBuilding old (set words spot given) place pointer cover Pointer Counts renewed value_after laid in_snapshot free
       building_store =
           let longer : length cover ≤ length (slot ∷ p) = omega (arith, building.below p made) in
           let still = placed-turned seen next_word Pointer pointers (slot ∷ p) given turns_store cover longer building.placed in

@@ -8,7 +8,7 @@ use Rattle.bp_layout.specs.Reached.{IsReached}
 use Rattle.bp_layout.specs.WellFormed.{IsWellFormed}
 use Rattle.bp_shapes.specs.Forest.{tree_trail, IsForest, IsTreePointer}
 use Rattle.bp_shapes.specs.Trail.{trail_of}
-use Rattle.bp_shapes.proofs.FreeSets.{wf_forest, content_fronts, content_no_pointer}
+use Rattle.bp_shapes.proofs.FreeSets.{wf_forest, content_prefixes, content_no_pointer}
 use Rattle.bp_cow.specs.declared.touched.Run.{Run}
 use Rattle.bp_cow.specs.declared.touched.Touched.{Touched}
 use Rattle.bp_cow.specs.declared.touched.TreeSize.{TreeSize}
@@ -59,7 +59,7 @@ module _ {in_snapshot : ℕ → Bool} (old : Image) (wf : IsWellFormed old) (tou
         pointers i d e low =
             let less : d < length (path_of (word_paths touched) 0) = subst (λ n. d < length (path_of (word_paths touched) n)) e low in
             subst (λ n. IsTreePointer old (size_of old) (trail_of (path_of (word_paths touched) n) d)) (sym e)
-            (content_fronts old (size_of old) forest (path_of (word_paths touched) 0) (length (path_of (word_paths touched) 0) - 1) t k reached below at d (omega (arith, less)))
+            (content_prefixes old (size_of old) forest (path_of (word_paths touched) 0) (length (path_of (word_paths touched) 0) - 1) t k reached below at d (omega (arith, less)))
 
         contents : (i : ℕ) → i ≡ 0 → IsTreePointer old (size_of old) (trail_of (path_of (word_paths touched) i) (length (path_of (word_paths touched) i))) → ⊥
         contents i e pointer =

@@ -18,9 +18,9 @@ use Rattle.bp_layout.proofs.SameLaws.{same_self}
 use Rattle.bp_shapes.proofs.ExactSets.{unheld_exact}
 use Rattle.bp_cow.specs.Counting.{IsTreeWord}
 use Rattle.bp_cow.specs.declared.touched.Touched.{Touched}
-use Rattle.bp_cow.specs.declared.covering.FoundCover.{FoundCover}
+use Rattle.bp_cow.specs.declared.covers.FoundCover.{FoundCover}
 use Rattle.bp_cow.specs.Adds.{AddsCopyCommit}
-use Rattle.bp_cow.specs.Job.{Job, ways, copies, copies_at, IsAnew, IsTurned}
+use Rattle.bp_cow.specs.Job.{Job, ways, copies, copies_at, IsRenewed, IsTurned}
 use Rattle.bp_cow.specs.Plan.{Plan}
 use Rattle.bp_cow.specs.Turned.{HasTurned}
 use Rattle.bp_cow.specs.Committed.{IsCommitted, after_commit}
@@ -34,7 +34,7 @@ use Rattle.bp_cow.proofs.OnlyWord.{IsOnePath}
 use Rattle.bp_cow.proofs.InPlace.{in_place}
 use Rattle.bp_cow.proofs.StageEnd.{stage_committed}
 
--- What a commit does, told by the code's numbers: the slots of the cover, and the set of the blocks that are free after the last store.
+-- What a commit does, stated by the code's numbers: the slots of the cover, and the set of the blocks that are free after the last store.
 pub record CommitsCopies (bound : ℕ → ℕ) (in_snapshot : ℕ → Bool) (touched : Touched) (old new : Memory) (blocks blocks_after : Set) : Type 0 where
   pub cover : ℕ
   pub has_cover : CoverHas (current_words old) touched cover
@@ -188,8 +188,8 @@ module _ {in_snapshot : ℕ → Bool} {bound : ℕ → ℕ} {touched : Touched} 
         size = done.size;
         commit = subst (λ p. AddsCopyCommit (has blocks) (has taken) p (513 * copies_at (job_of touched) found.len + length touched.words.now + 1) first last) (sym at.place)
             (looser (has blocks) (has taken) found.place _ _ first last (omega (arith, same)) done.commit);
-        words = committed_same (current_words first) (current_words last) (IsTreePointer (current_words first) bound) (IsTreeWord (current_words first) bound) (IsAnew (job_of touched) found.len (ways (job_of touched)) found.len) (IsTurned (job_of touched) found.len) _
-            (λ q n. record { copies = short; anew = n }) (λ q t. t.anew)
+        words = committed_same (current_words first) (current_words last) (IsTreePointer (current_words first) bound) (IsTreeWord (current_words first) bound) (IsRenewed (job_of touched) found.len (ways (job_of touched)) found.len) (IsTurned (job_of touched) found.len) _
+            (λ q n. record { copies = short; renewed = n }) (λ q t. t.renewed)
             (stage_committed (plan_of bound in_snapshot touched first blocks found.place top free) found.len (current_words last) (has taken) (can_build can found.len at.alike short wf found.place at.exists at.place) done.stage);
         exact = exact;
       }

@@ -1,4 +1,4 @@
--- What a copy on write has made, told on content words: a commit.
+-- What a copy on write has made, reported on content words: a commit.
 use Rattle.std.proofs.Common.{◌≡◌, ◌≢◌, ◌⊎◌, ℕ, zero, suc, ◌+◌, ◌*◌, ◌/◌, ◌%◌, ◌<◌, ◌≤◌, max, [], refl, sym, ◌∙◌, ap, subst, arith, inl, inr, lt_of_lt_of_le, le_trans, zero-mul}
 use Rattle.std.proofs.lemmas.Bool.{cases_eq}
 use Rattle.bp_limits.specs.Limits.{greatest_height}
@@ -178,7 +178,7 @@ module _ (old now : Image) (bound : ℕ → ℕ) (forest : IsForest old bound) (
         content_word now (root_of now t) k ≡ after_commit old job (tree_trail (height_of (word old 2)) t (suc (height_of (root_of old t))) k)
     content_now t k r below no_root = content_after t k r (omega (arith, below, sizes_before t r, sizes t r)) no_root
 
-    -- told on content words
+    -- reported on content words
     pub committed_commits : IsFull old (root_of old 0) (bound 0) → ((i : ℕ) → IsReached old i → kind_of old i ≡ 2 → IsFull old (root_of old i) (bound i)) → Commits old now (changes_of old job)
     committed_commits file directories = record {
       trees = record {

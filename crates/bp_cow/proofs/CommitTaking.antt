@@ -31,14 +31,14 @@ use Rattle.bp_cow.specs.CanCommit.{CanCommit}
 use Rattle.bp_cow.specs.Commit.{CommitsTouched, HasLooseCover, commit_stores, cover_word}
 use Rattle.bp_cow.specs.Committed.{IsCommitted, after_commit}
 use Rattle.bp_cow.specs.Cover.{end_path, CoverHas, commit_cover, copied_count}
-use Rattle.bp_cow.specs.Job.{Job, front, ways, begins, copies_at, turned_for, turned_upto, IsAnew, IsTurned}
-use Rattle.bp_cow.specs.Job.IsAnew.{is_cover, is_begun, is_front}
+use Rattle.bp_cow.specs.Job.{Job, prefix, ways, begins, copies_at, turned_for, turned_upto, IsRenewed, IsTurned}
+use Rattle.bp_cow.specs.Job.IsRenewed.{is_cover, is_begun, is_proper_prefix}
 use Rattle.bp_cow.specs.Touched.{IsTouched, all_paths, job_of}
 use Rattle.bp_cow.proofs.CommitEnd.{CommitsCopies}
 use Rattle.bp_cow.proofs.CommitLaws.{led_has, has_led}
 use Rattle.bp_cow.proofs.CopiesNeed.{alike-all, none-begins}
 use Rattle.bp_cow.proofs.CoverLaws.{some-ends, end-slots}
-use Rattle.bp_cow.proofs.CoverOf.{alike_front, nodes_of, cover_has, cover_length, cover_front, cover_address, count_is}
+use Rattle.bp_cow.proofs.CoverOf.{alike_prefix, nodes_of, cover_has, cover_length, cover_prefix, cover_address, count_is}
 use Rattle.bp_cow.proofs.WayPointers.{ways-short}
 use Rattle.bp_cow.proofs.WaysAlike.{first-length, first-pointer}
 use Rattle.bp_cow.proofs.PerformsLaws.{copies, of_copy, copies_taken, copies_counted}
@@ -56,15 +56,15 @@ count_past p a (suc n) (suc m) low none = go (p a) refl (count_past p (a + 1) n 
 
 -- a pointer above the cover is not turned
 above_not_turned : (touched : Touched) (path : WordPath) (from d : ℕ) → d < from → IsTurned (job_of touched) from (trail_of path d) → ⊥
-above_not_turned touched path from d low turned = go turned.anew
+above_not_turned touched path from d low turned = go turned.renewed
   where
     size : (q : Trail) → trail_of path d ≡ q → length q ≡ d
     size q e = ap (λ (t : Trail). length t) (sym e) ∙ length-trail_of path d
 
-    go : IsAnew (job_of touched) from (ways (job_of touched)) from (trail_of path d) → ⊥
-    go (is_cover e) = omega (arith, low, size (front (job_of touched) 0 from) e, length-trail_of ((job_of touched).way 0) from)
-    go (is_begun b) = omega (arith, low, b.low, size (front (job_of touched) b.which b.depth) b.same, length-trail_of ((job_of touched).way b.which) b.depth)
-    go (is_front count past high e) = omega (arith, low, past, size (front (job_of touched) (ways (job_of touched)) count) e, length-trail_of ((job_of touched).way (ways (job_of touched))) count)
+    go : IsRenewed (job_of touched) from (ways (job_of touched)) from (trail_of path d) → ⊥
+    go (is_cover e) = omega (arith, low, size (prefix (job_of touched) 0 from) e, length-trail_of ((job_of touched).way 0) from)
+    go (is_begun b) = omega (arith, low, b.low, size (prefix (job_of touched) b.which b.depth) b.same, length-trail_of ((job_of touched).way b.which) b.depth)
+    go (is_proper_prefix count past high e) = omega (arith, low, past, size (prefix (job_of touched) (ways (job_of touched)) count) e, length-trail_of ((job_of touched).way (ways (job_of touched))) count)
 
 module _ {in_snapshot : ℕ → Bool} {bound : ℕ → ℕ} {touched : Touched} {old new : Memory} {blocks after : Set} (wf : IsWellFormed (current_words old))
     (can : CanCommit (current_words old) bound in_snapshot touched (has blocks)) (loose : HasLooseCover (current_words old) in_snapshot touched) (fits : block_count (current_words old) ≤ length blocks)
@@ -103,9 +103,9 @@ module _ {in_snapshot : ℕ → Bool} {bound : ℕ → ℕ} {touched : Touched} 
   abbrev taken : List ℕ
   taken = copies done.commit was_free
 
-  -- the sets are told up to the number of blocks
-  told : (set : Set) → length set ≡ length blocks → ((b : ℕ) → has set b ≡ true → has blocks b ≡ true) → length (members set) ≡ length (numbers_below (block_count image) (has set))
-  told set size inside = count_past (has set) 0 (block_count image) (length set) (omega (arith, fits, size)) (λ k past. none k past (has set k) refl)
+  -- the sets are reported up to the number of blocks
+  reported : (set : Set) → length set ≡ length blocks → ((b : ℕ) → has set b ≡ true → has blocks b ≡ true) → length (members set) ≡ length (numbers_below (block_count image) (has set))
+  reported set size inside = count_past (has set) 0 (block_count image) (length set) (omega (arith, fits, size)) (λ k past. none k past (has set k) refl)
     where
       none : (k : ℕ) → 0 + block_count image ≤ k → (b : Bool) → has set k ≡ b → has set k ≡ false
       none k past false e = e
@@ -113,7 +113,7 @@ module _ {in_snapshot : ℕ → Bool} {bound : ℕ → ℕ} {touched : Touched} 
 
   number-is : length taken ≡ copied_count image touched
   number-is =
-      copies_counted done.commit was_free (told blocks refl (λ b is. is)) (told done.taken done.size done.commit.fewer) done.count
+      copies_counted done.commit was_free (reported blocks refl (λ b is. is)) (reported done.taken done.size done.commit.fewer) done.count
       ∙ copied-is
 
   -- ---- the word of the cover
@@ -131,7 +131,7 @@ module _ {in_snapshot : ℕ → Bool} {bound : ℕ → ℕ} {touched : Touched} 
   same_block d low =
       let short : d ≤ length ((job_of touched).way 0) = omega (arith, low, long, first-length can) in
       ap block_of (done.words.kept (trail_of first d)
-      (first-pointer can d (alike_front touched n d (omega (arith, low)) has_cover.alike) short d short)
+      (first-pointer can d (alike_prefix touched n d (omega (arith, low)) has_cover.alike) short d short)
       (above_not_turned touched first done.cover d (omega (arith, low, cover-is))))
 
   same_place : (k : ℕ) → k ≤ n → place_on (current_words new) (trail_of first k) ≡ place_on image (trail_of first k)
@@ -140,7 +140,7 @@ module _ {in_snapshot : ℕ → Bool} {bound : ℕ → ℕ} {touched : Touched} 
 
   stays-is : address (current_words new) (commit_cover image touched) ≡ cover_word image touched
   stays-is =
-      ap (address (current_words new)) (sym (cover_front touched can.shape image n has_cover))
+      ap (address (current_words new)) (sym (cover_prefix touched can.shape image n has_cover))
       ∙ address-on (current_words new) first n long (nodes_of (current_words new) first n (λ d low null. has_cover.exists d low (sym (same_block d low) ∙ null)))
       ∙ same_place n (omega arith)
       ∙ sym (cover_address touched can.shape image)
@@ -180,11 +180,11 @@ module _ {in_snapshot : ℕ → Bool} {bound : ℕ → ℕ} {touched : Touched} 
 module _ (in_snapshot : ℕ → Bool) (image : Image) (wf : IsWellFormed image) (touched : Touched) (shape : IsTouched touched) (path : WordPath) (in_paths : Has (all_paths touched) path)
     (live : (d : ℕ) → d < length path → IsTreePointer image (size_of image) (trail_of path d)) (loose : HasLooseCover image in_snapshot touched) (taken : List ℕ) where
   -- the first slots of the first path, and the place of its word there
-  abbrev first_front : ℕ → Trail
-  first_front k = trail_of (end_path touched 0) k
+  abbrev first_prefix : ℕ → Trail
+  first_prefix k = trail_of (end_path touched 0) k
 
-  abbrev front_place : ℕ → ℕ
-  front_place k = place_on image (first_front k)
+  abbrev prefix_place : ℕ → ℕ
+  prefix_place k = place_on image (first_prefix k)
 
   abbrev IsLoosePlace : ℕ → Type 0
   IsLoosePlace place = 512 ≤ place → in_snapshot (place / 512) ≡ false
@@ -194,18 +194,18 @@ module _ (in_snapshot : ℕ → Bool) (image : Image) (wf : IsWellFormed image) 
       subst (IsOpen image in_snapshot taken) (sym (cover_address touched shape image))
       (go (length (commit_cover image touched)) (cover_has touched shape image) (subst IsLoosePlace (cover_address touched shape image) loose))
     where
-      go : (k : ℕ) → CoverHas image touched k → IsLoosePlace (front_place k) → IsOpen image in_snapshot taken (front_place k)
+      go : (k : ℕ) → CoverHas image touched k → IsLoosePlace (prefix_place k) → IsOpen image in_snapshot taken (prefix_place k)
       go zero covers outside_snapshot = at_root refl
       go (suc k) covers outside_snapshot =
           let some : 0 < _ = some-ends touched shape in
           let alike = alike-all touched shape (suc k) covers.alike path in_paths in
           let slot : ℕ = slice_index (end_path touched 0) k in
           let low : slot < 512 = end-slots touched shape 0 k some (omega (arith, covers.alike.long 0 some)) in
-          let block : (512 * block_on image (first_front k) + slot) / 512 ≡ block_on image (first_front k) = omega (arith, low) in
-          let same : trail_of path k ≡ first_front k = cc in
-          let present : block_on image (first_front k) ≢ 0 = covers.exists k (omega arith) in
+          let block : (512 * block_on image (first_prefix k) + slot) / 512 ≡ block_on image (first_prefix k) = omega (arith, low) in
+          let same : trail_of path k ≡ first_prefix k = cc in
+          let present : block_on image (first_prefix k) ≢ 0 = covers.exists k (omega arith) in
           in_live (subst (IsLiveBlock image) (sym block)
-          (led_held image (size_of image) (wf_forest image wf) (block_on image (first_front k))
+          (led_held image (size_of image) (wf_forest image wf) (block_on image (first_prefix k))
           (record { trail = trail_of path k; pointer = live k (omega (arith, alike.0)); named = ap (block_on image) same; not_null = present }))) (outside_snapshot (omega (arith, present)))
 
 -- A commit alone performs a change whose cover and copies are those of the touched words.
@@ -235,9 +235,9 @@ module _ {in_snapshot : ℕ → Bool} (old middle new : Memory) (change : Change
 
 pub turned_few : (job : Job) (from i depth : ℕ) → turned_for job from i depth ≤ depth
 turned_few job from i zero = omega arith
-turned_few job from i (suc depth) = go (nat_le from depth) refl (begins job from i (front job i (suc depth))) refl (turned_few job from i depth)
+turned_few job from i (suc depth) = go (nat_le from depth) refl (begins job from i (prefix job i (suc depth))) refl (turned_few job from i depth)
   where
-    go : (x : Bool) → nat_le from depth ≡ x → (y : Bool) → begins job from i (front job i (suc depth)) ≡ y → turned_for job from i depth ≤ depth → turned_for job from i (suc depth) ≤ suc depth
+    go : (x : Bool) → nat_le from depth ≡ x → (y : Bool) → begins job from i (prefix job i (suc depth)) ≡ y → turned_for job from i depth ≤ depth → turned_for job from i (suc depth) ≤ suc depth
     go false e y f rest = rw e (omega (arith, rest))
     go true e true f rest = rw (e, f) (omega (arith, rest))
     go true e false f rest = rw (e, f) (omega (arith, rest))

@@ -9,9 +9,9 @@ use Rattle.bp_layout.specs.Need.{existing_from, common, common_all}
 use Rattle.bp_layout.specs.WordPaths.{WordPath}
 
 -- the other path begins with this one
-pub record Begins (front path : WordPath) : Type 0 where
-  pub long : length front ≤ length path
-  pub same : take (length front) path ≡ front
+pub record Begins (prefix path : WordPath) : Type 0 where
+  pub long : length prefix ≤ length path
+  pub same : take (length prefix) path ≡ prefix
 
 pub begins-self : (p : WordPath) → Begins p p
 begins-self [] = record { long = omega arith; same = refl }
@@ -88,18 +88,18 @@ all-most (q ∷ paths) r p has all = fold-most r q paths (all q (inl refl)) (λ 
 
 -- ---- how far it exists
 
--- so many slots of a path behind a part: each proper front is there, and where the path is longer the whole of them is not
+-- as many slots of a path after a part: each proper prefix is there, and where the path is longer the whole of them is not
 pub record IsFarAs (there : WordPath → Bool) (here path : WordPath) (count : ℕ) : Type 0 where
   pub low : count ≤ length path
   pub exists : (d : ℕ) → d < count → there (here ++ take d path) ≡ true
   pub ends : count < length path → there (here ++ take count path) ≡ false
 
-pub record HasExistingFront (there : WordPath → Bool) (here path : WordPath) : Type 0 where
+pub record HasExistingPrefix (there : WordPath → Bool) (here path : WordPath) : Type 0 where
   pub count : ℕ
   pub far : IsFarAs there here path count
   pub is : existing_from there here path ≡ here ++ take count path
 
-pub existing : (there : WordPath → Bool) (here path : WordPath) → HasExistingFront there here path
+pub existing : (there : WordPath → Bool) (here path : WordPath) → HasExistingPrefix there here path
 existing there here [] = record {
   count = 0;
   far = record { low = omega arith; exists = λ d low. absurd (omega (arith, low)); ends = λ low. absurd (omega (arith, low)) };
@@ -110,7 +110,7 @@ existing there here (slot ∷ path) = go (there here) refl (existing there (here
     part : (d : ℕ) → (here ++ slot ∷ []) ++ take d path ≡ here ++ take (suc d) (slot ∷ path)
     part d = append_assoc here (slot ∷ []) (take d path)
 
-    go : (b : Bool) → there here ≡ b → HasExistingFront there (here ++ slot ∷ []) path → HasExistingFront there here (slot ∷ path)
+    go : (b : Bool) → there here ≡ b → HasExistingPrefix there (here ++ slot ∷ []) path → HasExistingPrefix there here (slot ∷ path)
     go true e rest = record {
       count = suc rest.count;
       far = record {

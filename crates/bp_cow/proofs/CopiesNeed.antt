@@ -1,9 +1,9 @@
--- As many blocks are copied as there are proper fronts of touched paths, each once, from the cover on.
+-- As many blocks are copied as there are proper prefixes of touched paths, each once, from the cover on.
 use Rattle.std.proofs.Common.{◌≡◌, ◌⊎◌, ℕ, zero, suc, ◌+◌, ◌-◌, ◌*◌, ◌/◌, ◌%◌, ◌<◌, ◌≤◌, List, [], ◌∷◌, ◌++◌, length, take, map, Bool, refl, sym, ◌∙◌, ap, subst, arith, inl, inr, append_assoc, max, ◌^◌, pow-suc}
 use Rattle.std.specs.List.{range_with_len}
 use Rattle.std.proofs.lemmas.Bool.{cases_eq, cases_lt}
 use Rattle.std.proofs.lemmas.List.{length-take, length-map, take-take}
-use Rattle.bp_layout.proofs.MemberLaws.{apart-more, apart-within, has-behind, has-either, has-flat_map, has-front}
+use Rattle.bp_layout.proofs.MemberLaws.{apart-more, apart-within, has-after, has-either, has-flat_map, has-prefix}
 use Rattle.bp_layout.specs.Words.{Image}
 use Rattle.bp_layout.specs.Members.{AreApart, Has}
 use Rattle.bp_layout.specs.Need.{prefixes_of}
@@ -20,17 +20,17 @@ use Rattle.bp_cow.specs.CanCommit.{CanCommit}
 use Rattle.bp_cow.specs.Leaves.{IsLeaf}
 use Rattle.bp_cow.proofs.RunLaws.{length-run_path, length-run_way}
 use Rattle.bp_cow.proofs.RunsLaws.{end-first, end-last, end-of-word, ends-count, leaf-of, length-above, way-to}
-use Rattle.bp_cow.proofs.RunFronts.{trail_of-take, between-run, run-trail}
+use Rattle.bp_cow.proofs.RunPrefixes.{trail_of-take, between-run, run-trail}
 use Rattle.bp_cow.proofs.RunPointers.{leaf-plain}
-use Rattle.bp_cow.proofs.WayPointers.{word-way, ways-fronts}
+use Rattle.bp_cow.proofs.WayPointers.{word-way, ways-prefixes}
 use Rattle.bp_cow.proofs.CommonPaths.{begins-self}
 use Rattle.bp_cow.proofs.CommitEnd.{copied-some, copied-none}
-use Rattle.bp_cow.proofs.Distinct.{same-take, fronts_sound, fronts_distinct, fronts_complete}
-use Rattle.bp_cow.proofs.JobFronts.{fronts_upto, length-upto, upto-sound, upto-complete, distinct-upto}
+use Rattle.bp_cow.proofs.Distinct.{same-take, prefixes_sound, prefixes_distinct, prefixes_complete}
+use Rattle.bp_cow.proofs.JobPrefixes.{prefixes_upto, length-upto, upto-sound, upto-complete, distinct-upto}
 
-take-front : (p q : List ℕ) → take (length p) (p ++ q) ≡ p
-take-front [] q = refl
-take-front (x ∷ p) q = ap (λ r. x ∷ r) (take-front p q)
+take-prefix : (p q : List ℕ) → take (length p) (p ++ q) ≡ p
+take-prefix [] q = refl
+take-prefix (x ∷ p) q = ap (λ r. x ∷ r) (take-prefix p q)
 
 -- the members of a list by their numbers
 index-of : (xs : List (List ℕ)) (q : List ℕ) → Has xs q → (i : ℕ) × (i < length xs) × (path_of xs i ≡ q)
@@ -82,9 +82,9 @@ run-paths (run ∷ runs) are path has = go (has-either (paths_of_run run) (run_p
 run-whole : (run : Run) (k j : ℕ) → k / 512 ≡ run.offset / 4096 + j → take (length (run_way run j)) (run_path run k) ≡ run_way run j
 run-whole run k j leaf =
     ap (take (length (run_way run j))) (ap (λ n. run.root.items ++ (digits run.height n ++ k % 512 ∷ [])) leaf ∙ sym (append_assoc run.root.items (digits run.height (run.offset / 4096 + j)) (k % 512 ∷ [])))
-    ∙ take-front (run_way run j) (k % 512 ∷ [])
+    ∙ take-prefix (run_way run j) (k % 512 ∷ [])
 
--- with what the paths that tell begin, all touched paths begin
+-- with what the paths that report begin, all touched paths begin
 pub alike-all : (touched : Touched) → IsTouched touched → (n : ℕ) → BeginAlike touched n → (path : List ℕ) → Has (all_paths touched) path → (n ≤ length path) × (trail_of path n ≡ trail_of (end_path touched 0) n)
 alike-all touched shape n alike path has = go (has-either (run_paths touched.runs.now) (word_paths touched) path has)
   where
@@ -176,11 +176,11 @@ module _ (touched : Touched) (shape : IsTouched touched) where
       go (inr two) = let at = index-of (word_paths touched) path two in subst P at.2 (of_word at.0 (omega (arith, at.1, words-count)))
 
   pub has-word : (i : ℕ) → i < length touched.words.now → Has (all_paths touched) (path_of (word_paths touched) i)
-  has-word i here = has-behind (run_paths touched.runs.now) (word_paths touched) _ (has-index (word_paths touched) i (omega (arith, here, words-count)))
+  has-word i here = has-after (run_paths touched.runs.now) (word_paths touched) _ (has-index (word_paths touched) i (omega (arith, here, words-count)))
 
   pub has-of-run : (run : Run) (k : ℕ) → Has touched.runs.now run → run.offset / 8 ≤ k → k ≤ (run_end run - 1) / 8 → Has (all_paths touched) (run_path run k)
   has-of-run run k has low high =
-      has-front (run_paths touched.runs.now) (word_paths touched) (run_path run k)
+      has-prefix (run_paths touched.runs.now) (word_paths touched) (run_path run k)
       (has-flat_map paths_of_run touched.runs.now run (run_path run k) has (has-run run (run.offset / 8) (suc ((run_end run - 1) / 8 - run.offset / 8)) k low (omega (arith, low, high))))
 
   way-of : (path : List ℕ) → Has (all_paths touched) path → HasWay path
@@ -227,19 +227,19 @@ module _ (touched : Touched) (shape : IsTouched touched) where
         (one.0, same-take path first.path n one.0 two.0 (one.1 ∙ sym two.1))
 
     some-copies : n ≤ length (job.way 0) → length (prefixes_of n [] (all_paths touched)) ≡ copies_at job n
-    some-copies short = omega (arith, apart-within P F (fronts_distinct n [] (all_paths touched)) to, apart-within F P distinct back, length-upto job n (ways job), copied-some job n short)
+    some-copies short = omega (arith, apart-within P F (prefixes_distinct n [] (all_paths touched)) to, apart-within F P distinct back, length-upto job n (ways job), copied-some job n short)
       where
         P : List (List ℕ)
         P = prefixes_of n [] (all_paths touched)
 
         F : List (List ℕ)
-        F = take n (job.way 0) ∷ fronts_upto job n (ways job)
+        F = take n (job.way 0) ∷ prefixes_upto job n (ways job)
 
-        front-way : (i : ℕ) (path : List ℕ) → IsWayOf i path → n ≤ length (job.way i) → take n (job.way i) ≡ take n path
-        front-way i path is low = ap (take n) (sym is.same) ∙ take-take n (length (job.way i)) path low
+        prefix-way : (i : ℕ) (path : List ℕ) → IsWayOf i path → n ≤ length (job.way i) → take n (job.way i) ≡ take n path
+        prefix-way i path is low = ap (take n) (sym is.same) ∙ take-take n (length (job.way i)) path low
 
         begin : (i : ℕ) → i < ways job → take n (job.way i) ≡ take n (job.way 0)
-        begin i here = front-way i one.path one.is proper ∙ like.1 ∙ sym (front-way 0 first.path first.is short)
+        begin i here = prefix-way i one.path one.is proper ∙ like.1 ∙ sym (prefix-way 0 first.path first.is short)
           where
             one : HasPath i
             one = path-of i here
@@ -257,7 +257,7 @@ module _ (touched : Touched) (shape : IsTouched touched) where
 
         to : (q : List ℕ) → Has P q → Has F q
         to q has =
-            let f = (fronts_sound n [] (all_paths touched) q has).0 in
+            let f = (prefixes_sound n [] (all_paths touched) q has).0 in
             let way = way-of f.path f.has in
             let low : f.count ≤ length (job.way way.which) = omega (arith, f.high, way.is.long) in
             let at : q ≡ take f.count (job.way way.which) = f.same ∙ sym (take-take f.count (length (job.way way.which)) f.path low) ∙ ap (take f.count) way.is.same in
@@ -265,22 +265,22 @@ module _ (touched : Touched) (shape : IsTouched touched) where
           where
             go : (c i : ℕ) → i < ways job → n ≤ c → c ≤ length (job.way i) → q ≡ take c (job.way i) → (c ≡ n) ⊎ (c ≡ n → ⊥) → Has F q
             go c i here low high at (inl e) = inl (sym (at ∙ ap (λ d. take d (job.way i)) e ∙ begin i here))
-            go c i here low high at (inr more) = inr (subst (Has (fronts_upto job n (ways job))) (sym at) (upto-complete job n (ways job) i c here (omega (arith, low, more)) high))
+            go c i here low high at (inr more) = inr (subst (Has (prefixes_upto job n (ways job))) (sym at) (upto-complete job n (ways job) i c here (omega (arith, low, more)) high))
 
-        front-of : (c i : ℕ) → i < ways job → n ≤ c → c ≤ length (job.way i) → Has P (take c (job.way i))
-        front-of c i here low high =
+        prefix-of : (c i : ℕ) → i < ways job → n ≤ c → c ≤ length (job.way i) → Has P (take c (job.way i))
+        prefix-of c i here low high =
             let one = path-of i here in
-            fronts_complete n [] (all_paths touched) (take c (job.way i)) apart
+            prefixes_complete n [] (all_paths touched) (take c (job.way i)) apart
             (record { path = one.path; has = one.has; count = c; low = low; high = omega (arith, high, one.is.long); same = ap (take c) (sym one.is.same) ∙ take-take c (length (job.way i)) one.path high }) refl
 
         back : (q : List ℕ) → Has F q → Has P q
-        back q (inl e) = subst (Has P) e (front-of n 0 shape.some (omega arith) short)
+        back q (inl e) = subst (Has P) e (prefix-of n 0 shape.some (omega arith) short)
         back q (inr more) =
             let f = upto-sound job n (ways job) q more in
-            subst (Has P) (sym f.same) (front-of f.depth f.which f.early (omega (arith, f.low)) f.high)
+            subst (Has P) (sym f.same) (prefix-of f.depth f.which f.early (omega (arith, f.low)) f.high)
 
         distinct : AreApart F
-        distinct = apart-more (take n (job.way 0)) (fronts_upto job n (ways job))
+        distinct = apart-more (take n (job.way 0)) (prefixes_upto job n (ways job))
             (λ has.
             let f = upto-sound job n (ways job) (take n (job.way 0)) has in
             omega (arith, short, f.low, f.high, length-take n (job.way 0), length-take f.depth (job.way f.which), ap (λ (p : List ℕ). length p) f.same))
@@ -288,7 +288,7 @@ module _ (touched : Touched) (shape : IsTouched touched) where
 
     -- the cover is the only touched word
     no-copies : length (job.way 0) < n → length (prefixes_of n [] (all_paths touched)) ≡ copies_at job n
-    no-copies past = omega (arith, apart-within (prefixes_of n [] (all_paths touched)) [] (fronts_distinct n [] (all_paths touched)) none, copied-none job n past)
+    no-copies past = omega (arith, apart-within (prefixes_of n [] (all_paths touched)) [] (prefixes_distinct n [] (all_paths touched)) none, copied-none job n past)
       where
         whole : n ≡ length first.path
         whole = omega (arith, past, (like_first first.path first.has).0, first.is.long)
@@ -302,7 +302,7 @@ module _ (touched : Touched) (shape : IsTouched touched) where
 
         none : (q : List ℕ) → Has (prefixes_of n [] (all_paths touched)) q → ⊥
         none q has =
-            let f = (fronts_sound n [] (all_paths touched) q has).0 in
+            let f = (prefixes_sound n [] (all_paths touched) q has).0 in
             omega (arith, f.low, f.high, short f.path f.has)
 
     pub copied-need : length (prefixes_of n [] (all_paths touched)) ≡ copies_at job n
@@ -315,13 +315,13 @@ module _ (touched : Touched) (shape : IsTouched touched) where
 -- ---- of touched words that can be committed
 
 module _ {in_snapshot : ℕ → Bool} (old : Image) (bound : ℕ → ℕ) (touched : Touched) (free : ℕ → Bool) (wf : IsWellFormed old) (can : CanCommit old bound in_snapshot touched free) where
-  front-pointer : (other : List ℕ) → Has (all_paths touched) other → (m : ℕ) → m < length other → IsTreePointer old bound (trail_of other m)
-  front-pointer other has m low =
+  prefix-pointer : (other : List ℕ) → Has (all_paths touched) other → (m : ℕ) → m < length other → IsTreePointer old bound (trail_of other m)
+  prefix-pointer other has m low =
       let way = way-of touched can.shape other has in
       let short : m ≤ length ((job_of touched).way way.which) = omega (arith, low, way.is.long) in
       subst (IsTreePointer old bound)
       (ap (λ p. trail_of p m) (sym way.is.same) ∙ trail_of-take other (length ((job_of touched).way way.which)) m short)
-      (ways-fronts can way.which way.is.here m short)
+      (ways-prefixes can way.which way.is.here m short)
 
   no-pointer : (path : List ℕ) → Has (all_paths touched) path → IsTreePointer old bound (trail_of path (length path)) → ⊥
   no-pointer = paths-by touched can.shape (λ path. IsTreePointer old bound (trail_of path (length path)) → ⊥)
@@ -329,9 +329,9 @@ module _ {in_snapshot : ℕ → Bool} (old : Image) (bound : ℕ → ℕ) (touch
       (subst (IsTreePointer old bound) (run-trail run k low) one))
       (λ i here one. can.contents i here one)
 
-  -- no touched path is a proper front of another
+  -- no touched path is a proper prefix of another
   pub none-begins : NoneBegins (all_paths touched)
   none-begins path other has also m low same =
       let size : length path ≡ m = ap (λ (p : List ℕ). length p) (sym same) ∙ length-take m other ∙ omega (arith, low) in
       no-pointer path has
-      (subst (IsTreePointer old bound) (sym (ap (trail_of path) size ∙ ap (λ p. trail_of p m) (sym same) ∙ trail_of-take other m m (omega arith))) (front-pointer other also m low))
+      (subst (IsTreePointer old bound) (sym (ap (trail_of path) size ∙ ap (λ p. trail_of p m) (sym same) ∙ trail_of-take other m m (omega arith))) (prefix-pointer other also m low))

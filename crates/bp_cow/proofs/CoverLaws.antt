@@ -10,7 +10,7 @@ use Rattle.bp_layout.specs.WordPaths.{digits}
 use Rattle.bp_shapes.proofs.PathTrails.{trail_of-next, word-placed}
 use Rattle.bp_cow.specs.declared.touched.Run.{Run}
 use Rattle.bp_cow.specs.declared.touched.Touched.{Touched}
-use Rattle.bp_cow.specs.declared.covering.FoundCover.{FoundCover}
+use Rattle.bp_cow.specs.declared.covers.FoundCover.{FoundCover}
 use Rattle.bp_cow.specs.Touched.{IsRun, IsTouched, run_path, run_end, word_paths}
 use Rattle.bp_cow.specs.Cover.{end_path, ends, BeginAlike}
 use Rattle.bp_cow.specs.Found.{IsAt}
@@ -52,7 +52,7 @@ at-start image touched some = record {
   low = omega (arith, some);
 }
 
--- the pointer at the end of the front
+-- the pointer at the end of the prefix
 pub at-word : (image : Image) (touched : Touched) (found : FoundCover) → IsAt image touched found → word image found.place ≡ word_on image (trail_of (end_path touched 0) found.len)
 at-word image touched found at =
     ap (word image) (sym at.place) ∙ word-placed image (λ q. Unit {0}) (trail_of (end_path touched 0) found.len) at.placed

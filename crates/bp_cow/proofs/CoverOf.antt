@@ -10,24 +10,24 @@ use Rattle.bp_layout.specs.WordPaths.{WordPath, address, is_pointed}
 use Rattle.bp_layout.specs.Words.{Image, word, block_of}
 use Rattle.bp_layout.proofs.TreeLaws.{slot_word-at}
 use Rattle.bp_shapes.specs.Trail.{block_on, word_on, place_on, trail_of}
-use Rattle.bp_shapes.proofs.PathTrails.{AreNodes, address-on, front-trail_of}
+use Rattle.bp_shapes.proofs.PathTrails.{AreNodes, address-on, prefix-trail_of}
 use Rattle.bp_shapes.proofs.TrailLaws.{word_on-top, word_on-slot}
 use Rattle.bp_cow.specs.declared.touched.Touched.{Touched}
 use Rattle.bp_cow.specs.Cover.{end_path, ends, BeginAlike, CoverHas, IsCover, commit_cover, copied_count}
 use Rattle.bp_cow.specs.Job.{copies_at}
 use Rattle.bp_cow.specs.Touched.{IsTouched, NoneBegins, all_paths, run_end, word_paths, job_of}
-use Rattle.bp_cow.proofs.CommonPaths.{Begins, HasExistingFront, all-begin, all-most, existing}
+use Rattle.bp_cow.proofs.CommonPaths.{Begins, HasExistingPrefix, all-begin, all-most, existing}
 use Rattle.bp_cow.proofs.CopiesNeed.{alike-all, has-word, has-of-run, copied-need}
 use Rattle.bp_cow.proofs.CoverLaws.{some-ends}
 use Rattle.bp_cow.proofs.Distinct.{same-take}
-use Rattle.bp_cow.proofs.RunFronts.{trail_of-take}
+use Rattle.bp_cow.proofs.RunPrefixes.{trail_of-take}
 use Rattle.bp_cow.proofs.RunsLaws.{ends-by}
 
--- what begins alike begins alike as far as any shorter front
-pub alike_front : (touched : Touched) (n m : ℕ) → m ≤ n → BeginAlike touched n → BeginAlike touched m
-alike_front touched n m low alike = record {
+-- what begins alike begins alike as far as any shorter prefix
+pub alike_prefix : (touched : Touched) (n m : ℕ) → m ≤ n → BeginAlike touched n → BeginAlike touched m
+alike_prefix touched n m low alike = record {
   long = λ i here. omega (arith, low, alike.long i here);
-  same = λ i here. front-trail_of (end_path touched i) (end_path touched 0) n m (alike.same i here) low;
+  same = λ i here. prefix-trail_of (end_path touched i) (end_path touched 0) n m (alike.same i here) low;
 }
 
 -- the cover is the longest
@@ -37,7 +37,7 @@ cover_once image touched n m one two = go (cases_eq n m) (cases_lt n m)
     less : (a b : ℕ) → a < b → CoverHas image touched a → CoverHas image touched b → ⊥
     less a b low first second =
         second.exists a low
-        (first.longest (alike_front touched b (a + 1) (omega (arith, low)) second.alike))
+        (first.longest (alike_prefix touched b (a + 1) (omega (arith, low)) second.alike))
 
     go : (n ≡ m) ⊎ (n ≡ m → ⊥) → (n < m) ⊎ (m ≤ n) → n ≡ m
     go (inl e) any = e
@@ -83,7 +83,7 @@ module _ (image : Image) (path : WordPath) where
 -- ---- with what touched paths begin
 
 module _ (touched : Touched) (shape : IsTouched touched) where
-  -- the paths that tell are touched
+  -- the paths that report are touched
   end-touched : (i : ℕ) → i < ends touched → Has (all_paths touched) (end_path touched i)
   end-touched = ends-by touched.runs.now (word_paths touched) (length touched.words.now) (Has (all_paths touched))
       (λ run has. let some : 0 < length run.bytes.now = (shape.runs run has).some in has-of-run touched shape run (run.offset / 8) has (omega arith) (omega (arith, some)))
@@ -119,7 +119,7 @@ module _ (touched : Touched) (shape : IsTouched touched) where
   -- ---- the cover
 
   module _ (image : Image) where
-    abbrev found : HasExistingFront (is_pointed image) [] shared
+    abbrev found : HasExistingPrefix (is_pointed image) [] shared
     found = existing (is_pointed image) [] shared
 
     length-found : length (take found.count shared) ≡ found.count
@@ -150,8 +150,8 @@ module _ (touched : Touched) (shape : IsTouched touched) where
     pub cover_length : (n : ℕ) → CoverHas image touched n → n ≡ length (commit_cover image touched)
     cover_length n has = cover_once image touched n (length (commit_cover image touched)) has cover_has
 
-    pub cover_front : (n : ℕ) → CoverHas image touched n → take n (end_path touched 0) ≡ commit_cover image touched
-    cover_front n has =
+    pub cover_prefix : (n : ℕ) → CoverHas image touched n → take n (end_path touched 0) ≡ commit_cover image touched
+    cover_prefix n has =
         let size : n ≡ found.count = cover_length n has ∙ length-cover in
         let some : 0 < ends touched = some-ends touched shape in
         let low : found.count ≤ length shared = found.far.low in
@@ -161,16 +161,16 @@ module _ (touched : Touched) (shape : IsTouched touched) where
         ∙ sym found.is
 
     pub cover_determined : (path : WordPath) → IsCover image touched path → path ≡ commit_cover image touched
-    cover_determined path is = is.front ∙ cover_front (length path) is.has
+    cover_determined path is = is.prefix ∙ cover_prefix (length path) is.has
 
     pub is_cover : IsCover image touched (commit_cover image touched)
-    is_cover = record { front = sym (cover_front (length (commit_cover image touched)) cover_has); has = cover_has }
+    is_cover = record { prefix = sym (cover_prefix (length (commit_cover image touched)) cover_has); has = cover_has }
 
     -- where its word stands
     pub cover_address : address image (commit_cover image touched) ≡ place_on image (trail_of (end_path touched 0) (length (commit_cover image touched)))
     cover_address =
         let n : ℕ = length (commit_cover image touched) in
-        ap (address image) (sym (cover_front n cover_has))
+        ap (address image) (sym (cover_prefix n cover_has))
         ∙ address-on image (end_path touched 0) n (cover_has.alike.long 0 (some-ends touched shape)) (nodes_of image (end_path touched 0) n cover_has.exists)
 
     -- how many blocks are copied

@@ -13,26 +13,26 @@ use Rattle.bp_shapes.specs.Trail.{trail_of}
 use Rattle.bp_shapes.proofs.PathTrails.{length-trail_of}
 use Rattle.bp_cow.specs.CanCommit.{CanCommit}
 use Rattle.bp_cow.specs.Cover.{commit_cover, copied_count}
-use Rattle.bp_cow.specs.Job.{Job, front, ways, begins, copies_at, turned_for, turned_upto}
+use Rattle.bp_cow.specs.Job.{Job, prefix, ways, begins, copies_at, turned_for, turned_upto}
 use Rattle.bp_cow.specs.Touched.{IsRun, IsTouched, NoneBegins, all_paths, run_leaves, run_way, leaves_of, way_of, word_paths, job_of}
 use Rattle.bp_cow.specs.declared.touched.Run.{Run}
 use Rattle.bp_cow.specs.declared.touched.Touched.{Touched}
 use Rattle.bp_cow.proofs.CopiesNeed.{none-begins}
 use Rattle.bp_cow.proofs.CoverOf.{cover_has, count_is}
-use Rattle.bp_cow.proofs.RunFronts.{trail_of-append}
+use Rattle.bp_cow.proofs.RunPrefixes.{trail_of-append}
 use Rattle.bp_cow.proofs.RunLaws.{length-run_way}
-use Rattle.bp_cow.proofs.RunsLaws.{way-behind, way-leaf, way-short}
+use Rattle.bp_cow.proofs.RunsLaws.{way-after, way-leaf, way-short}
 use Rattle.bp_cow.proofs.CommitTaking.{turned_few}
 
 -- a way that begins as the ways before it do has no more pointers of its own than its other slots
-turned_rest : (job : Job) (from i keep : ℕ) → ((d : ℕ) → from ≤ d → d ≤ keep → begins job from i (front job i d) ≡ true) → (depth : ℕ) → turned_for job from i depth ≤ depth - keep
+turned_rest : (job : Job) (from i keep : ℕ) → ((d : ℕ) → from ≤ d → d ≤ keep → begins job from i (prefix job i d) ≡ true) → (depth : ℕ) → turned_for job from i depth ≤ depth - keep
 turned_rest job from i keep before zero = omega arith
-turned_rest job from i keep before (suc depth) = go (nat_le from depth) refl (begins job from i (front job i (suc depth))) refl (turned_rest job from i keep before depth) (cases_lt depth keep)
+turned_rest job from i keep before (suc depth) = go (nat_le from depth) refl (begins job from i (prefix job i (suc depth))) refl (turned_rest job from i keep before depth) (cases_lt depth keep)
   where
-    clash : begins job from i (front job i (suc depth)) ≡ true → begins job from i (front job i (suc depth)) ≡ false → ⊥
+    clash : begins job from i (prefix job i (suc depth)) ≡ true → begins job from i (prefix job i (suc depth)) ≡ false → ⊥
     clash one two = absurd (cc)
 
-    go : (x : Bool) → nat_le from depth ≡ x → (y : Bool) → begins job from i (front job i (suc depth)) ≡ y → turned_for job from i depth ≤ depth - keep → (depth < keep) ⊎ (keep ≤ depth) →
+    go : (x : Bool) → nat_le from depth ≡ x → (y : Bool) → begins job from i (prefix job i (suc depth)) ≡ y → turned_for job from i depth ≤ depth - keep → (depth < keep) ⊎ (keep ≤ depth) →
         turned_for job from i (suc depth) ≤ suc depth - keep
     go false e y f rest where_is = rw e (omega (arith, rest))
     go true e true f rest where_is = rw (e, f) (omega (arith, rest))
@@ -40,17 +40,17 @@ turned_rest job from i keep before (suc depth) = go (nat_le from depth) refl (be
     go true e false f rest (inr past) = rw (e, f) (omega (arith, rest, past))
 
 -- the way before begins with what both ways begin with
-begins_before : (job : Job) (from i d : ℕ) → from ≤ d → d ≤ length (job.way i) → front job (suc i) d ≡ front job i d → begins job from (suc i) (front job (suc i) d) ≡ true
-begins_before job from i d low high same = or_right (begins job from i (front job (suc i) d)) _ here
+begins_before : (job : Job) (from i d : ℕ) → from ≤ d → d ≤ length (job.way i) → prefix job (suc i) d ≡ prefix job i d → begins job from (suc i) (prefix job (suc i) d) ≡ true
+begins_before job from i d low high same = or_right (begins job from i (prefix job (suc i) d)) _ here
   where
-    size : length (front job (suc i) d) ≡ d
+    size : length (prefix job (suc i) d) ≡ d
     size = length-trail_of (job.way (suc i)) d
 
-    equal : bytes_eq (front job (suc i) d) (front job i (length (front job (suc i) d))) ≡ true
-    equal = ap (bytes_eq (front job (suc i) d)) (ap (front job i) size ∙ sym same) ∙ bytes_eq_self (front job (suc i) d)
+    equal : bytes_eq (prefix job (suc i) d) (prefix job i (length (prefix job (suc i) d))) ≡ true
+    equal = ap (bytes_eq (prefix job (suc i) d)) (ap (prefix job i) size ∙ sym same) ∙ bytes_eq_self (prefix job (suc i) d)
 
-    here : (nat_le from (length (front job (suc i) d)) && nat_le (length (front job (suc i) d)) (length (job.way i)) && bytes_eq (front job (suc i) d) (front job i (length (front job (suc i) d)))) ≡ true
-    here = rw (le-leb from (length (front job (suc i) d)) (omega (arith, size, low)), le-leb (length (front job (suc i) d)) (length (job.way i)) (omega (arith, size, high)), equal) refl
+    here : (nat_le from (length (prefix job (suc i) d)) && nat_le (length (prefix job (suc i) d)) (length (job.way i)) && bytes_eq (prefix job (suc i) d) (prefix job i (length (prefix job (suc i) d)))) ≡ true
+    here = rw (le-leb from (length (prefix job (suc i) d)) (omega (arith, size, low)), le-leb (length (prefix job (suc i) d)) (length (job.way i)) (omega (arith, size, high)), equal) refl
 
 -- neighbours with one parent differ in their last digit
 near_digits : (root : List ℕ) (height k d : ℕ) → d ≤ length root + height - 1 → (suc k % 512 ≡ 0 → ⊥) → trail_of (root ++ digits height (suc k)) d ≡ trail_of (root ++ digits height k) d
@@ -68,7 +68,7 @@ module _ (touched : Touched) (shape : IsTouched touched) (from : ℕ) where
   abbrev job : Job
   job = job_of touched
 
-  -- the ways of one run, behind those of the runs before it
+  -- the ways of one run, after those of the runs before it
   module _ (run : Run) (start : ℕ) (is : IsRun run) (ways_are : (i : ℕ) → i < run_leaves run → (start + i < ways (job_of touched)) × ((job_of touched).way (start + i) ≡ run_way run i)) where
     abbrev first : ℕ
     first = run.offset / 4096
@@ -137,24 +137,24 @@ module _ (touched : Touched) (shape : IsTouched touched) (from : ℕ) where
         let near : (first + (run_leaves run - 1)) / 512 - first / 512 ≤ 1 = omega (arith, few) in
         subst (λ n. turned_upto (job_of touched) from n ≤ turned_upto (job_of touched) from start + run_leaves run + 21) count (omega (arith, all, near))
 
-  -- the ways of some runs, behind those of the runs before them
+  -- the ways of some runs, after those of the runs before them
   runs-few : (runs : List Run) (start : ℕ) → ((run : Run) → Has runs run → IsRun run) →
       ((i : ℕ) → i < leaves_of runs → (start + i < ways (job_of touched)) × ((job_of touched).way (start + i) ≡ way_of runs (word_paths touched) i)) →
       turned_upto (job_of touched) from (start + leaves_of runs) ≤ turned_upto (job_of touched) from start + leaves_of runs + 21 * length runs
   runs-few [] start are ways_are = let none : start + 0 ≡ start = omega arith in rw none (omega arith)
   runs-few (run ∷ runs) start are ways_are =
       let one = run-few run start (are run (inl refl)) (λ i low. let way = ways_are i (omega (arith, low)) in (way.0, way.1 ∙ way-leaf run runs (word_paths touched) i low)) in
-      let rest = runs-few runs (start + run_leaves run) (λ r has. are r (inr has)) behind in
+      let rest = runs-few runs (start + run_leaves run) (λ r has. are r (inr has)) beyond in
       let sum : start + run_leaves run + leaves_of runs ≡ start + (run_leaves run + leaves_of runs) = omega arith in
       subst (λ n. turned_upto (job_of touched) from n ≤ turned_upto (job_of touched) from start + (run_leaves run + leaves_of runs) + 21 * suc (length runs)) sum (omega (arith, one, rest))
     where
-      behind : (i : ℕ) → i < leaves_of runs → (start + run_leaves run + i < ways (job_of touched)) × ((job_of touched).way (start + run_leaves run + i) ≡ way_of runs (word_paths touched) i)
-      behind i low =
+      beyond : (i : ℕ) → i < leaves_of runs → (start + run_leaves run + i < ways (job_of touched)) × ((job_of touched).way (start + run_leaves run + i) ≡ way_of runs (word_paths touched) i)
+      beyond i low =
           let way = ways_are (run_leaves run + i) (omega (arith, low)) in
           let sum : start + (run_leaves run + i) ≡ start + run_leaves run + i = omega arith in
           let back : run_leaves run + i - run_leaves run ≡ i = omega arith in (
             subst (λ n. n < ways (job_of touched)) sum way.0,
-            ap (job_of touched).way (sym sum) ∙ way.1 ∙ way-behind run runs (word_paths touched) (run_leaves run + i) (omega arith) ∙ ap (way_of runs (word_paths touched)) back,
+            ap (job_of touched).way (sym sum) ∙ way.1 ∙ way-after run runs (word_paths touched) (run_leaves run + i) (omega arith) ∙ ap (way_of runs (word_paths touched)) back,
           )
 
   words-upto : (m : ℕ) → m ≤ length touched.words.now → turned_upto (job_of touched) from (leaves_of touched.runs.now + m) ≤ turned_upto (job_of touched) from (leaves_of touched.runs.now) + 11 * m

@@ -90,7 +90,7 @@ module _ {in_snapshot : ℕ → Bool} {old : Image} {bound : ℕ → ℕ} {touch
               split : (512 * (run.offset / 4096 + 0) + s < run.offset / 8) ⊎ (run.offset / 8 ≤ 512 * (run.offset / 4096 + 0) + s) →
                   (8 * (512 * (run.offset / 4096 + 0) + s) + 8 ≤ r.offset) ⊎ (run_end r ≤ 8 * (512 * (run.offset / 4096 + 0) + s))
               split (inl before) = inl (omega (arith, before, number r also))
-              split (inr behind) = inr (omega (arith, behind, apart, single.last, same.one, number r also))
+              split (inr beyond) = inr (omega (arith, beyond, apart, single.last, same.one, number r also))
 
           cons : s ≡ slot → q ≡ up → s ∷ q ≡ slot ∷ up
           cons f g = cc

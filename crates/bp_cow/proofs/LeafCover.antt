@@ -1,5 +1,5 @@
 -- The words of a run in an inode's tree, with the word of the inode's size, have the pointer to the inode's leaf for their cover, since the inode file has no null.
--- So they have it in each image, and before a preparation as behind it.
+-- So they have it in each image, and before a preparation as after it.
 use Rattle.std.proofs.Common.{◌≡◌, ◌⊎◌, ℕ, zero, suc, ◌+◌, ◌-◌, ◌*◌, ◌/◌, ◌%◌, ◌^◌, ◌<◌, ◌≤◌, List, [], ◌∷◌, length, take, slice_index, refl, sym, ◌∙◌, ap, subst, inl, inr, arith}
 use Rattle.std.specs.List.{All}
 use Rattle.std.proofs.lemmas.Bool.{cases_lt}
@@ -32,11 +32,11 @@ use Rattle.bp_cow.specs.declared.touched.TreeSize.{TreeSize}
 use Rattle.bp_cow.proofs.CommonPaths.{Begins, all-begin, all-most}
 use Rattle.bp_cow.proofs.CopiesNeed.{alike-all, has-of-run, has-word, paths-by}
 use Rattle.bp_cow.proofs.CoverLaws.{some-ends}
-use Rattle.bp_cow.proofs.CoverOf.{alike_front, cover_front}
+use Rattle.bp_cow.proofs.CoverOf.{alike_prefix, cover_prefix}
 use Rattle.bp_cow.proofs.Distinct.{same-take}
-use Rattle.bp_cow.proofs.RunFronts.{trail_of-append, trail_of-take}
+use Rattle.bp_cow.proofs.RunPrefixes.{trail_of-append, trail_of-take}
 use Rattle.bp_cow.proofs.RunLaws.{length-run_path, slot-digits}
-use Rattle.bp_cow.proofs.RunThere.{Front, front_of}
+use Rattle.bp_cow.proofs.RunThere.{Prefix, prefix_of}
 use Rattle.bp_cow.proofs.RunWrites.{digits_trail}
 
 -- the path of the pointer to the leaf in which an inode's words stand, where the inode file has this height
@@ -49,7 +49,7 @@ pub record IsSizedRun (height i : ℕ) (touched : Touched) (run : Run) : Type 0 
   pub root : run.root.items ≡ inode_path height i 1
   pub sized : word_paths touched ≡ inode_path height i 2 ∷ []
 
--- ---- the fronts of an inode's words
+-- ---- the prefixes of an inode's words
 
 slot_of : (height i f : ℕ) → slice_index (inode_path height i f) height ≡ (8 * i + f) % 512
 slot_of height i f =
@@ -57,8 +57,8 @@ slot_of height i f =
     let whole : (8 * i + f) / 512 ^ 0 ≡ 8 * i + f = omega arith in
     slot-digits (suc height) (8 * i + f) height (omega arith) ∙ ap (λ l. (8 * i + f) / 512 ^ l % 512) level ∙ ap (λ n. n % 512) whole
 
-leaf_front : (height i f d : ℕ) → f < 8 → d ≤ height → trail_of (inode_path height i f) d ≡ trail_of (leaf_path height i) d
-leaf_front height i f d few low =
+leaf_prefix : (height i f d : ℕ) → f < 8 → d ≤ height → trail_of (inode_path height i f) d ≡ trail_of (leaf_path height i) d
+leaf_prefix height i f d few low =
     let same : (8 * i + f) / 512 ≡ (8 * i + 1) / 512 = omega (arith, few) in
     trail_of-append (digits height ((8 * i + f) / 512)) ((8 * i + f) % 512 ∷ []) d (omega (arith, low, length-digits height ((8 * i + f) / 512))) ∙ ap (λ k. trail_of (digits height k) d) same
 
@@ -135,13 +135,13 @@ module _ (height i : ℕ) (touched : Touched) (run : Run) (is : IsSizedRun heigh
     by_end P of_run of_word (suc (suc zero)) here = subst P (sym (ap (λ r. end_path_of r (word_paths touched) 2) is.one ∙ size_path)) of_word
     by_end P of_run of_word (suc (suc (suc j))) here = absurd (omega (arith, here, ends_are))
 
-    run_front : (k d : ℕ) → d ≤ suc height → trail_of (run_path run k) d ≡ trail_of (inode_path height i 1) d
-    run_front k d low = trail_of-append run.root.items (digits (suc run.height) k) d (omega (arith, low, root_long)) ∙ ap (λ p. trail_of p d) is.root
+    run_prefix : (k d : ℕ) → d ≤ suc height → trail_of (run_path run k) d ≡ trail_of (inode_path height i 1) d
+    run_prefix k d low = trail_of-append run.root.items (digits (suc run.height) k) d (omega (arith, low, root_long)) ∙ ap (λ p. trail_of p d) is.root
 
-    end_front : (j : ℕ) → j < ends touched → (d : ℕ) → d ≤ height → trail_of (end_path touched j) d ≡ trail_of (leaf_path height i) d
-    end_front = by_end (λ p. (d : ℕ) → d ≤ height → trail_of p d ≡ trail_of (leaf_path height i) d)
-        (λ k d low. run_front k d (omega (arith, low)) ∙ leaf_front height i 1 d (omega arith) low)
-        (λ d low. leaf_front height i 2 d (omega arith) low)
+    end_prefix : (j : ℕ) → j < ends touched → (d : ℕ) → d ≤ height → trail_of (end_path touched j) d ≡ trail_of (leaf_path height i) d
+    end_prefix = by_end (λ p. (d : ℕ) → d ≤ height → trail_of p d ≡ trail_of (leaf_path height i) d)
+        (λ k d low. run_prefix k d (omega (arith, low)) ∙ leaf_prefix height i 1 d (omega arith) low)
+        (λ d low. leaf_prefix height i 2 d (omega arith) low)
 
     long_ends : (j : ℕ) → j < ends touched → height ≤ length (end_path touched j)
     long_ends = by_end (λ p. height ≤ length p) (λ k. omega (arith, length-run_path run k, root_long)) (omega (arith, length-digits (suc height) (8 * i + 2)))
@@ -149,7 +149,7 @@ module _ (height i : ℕ) (touched : Touched) (run : Run) (is : IsSizedRun heigh
     alike : BeginAlike touched height
     alike = record {
       long = long_ends;
-      same = λ j here. end_front j here height (omega arith) ∙ sym (end_front 0 some_ends height (omega arith));
+      same = λ j here. end_prefix j here height (omega arith) ∙ sym (end_prefix 0 some_ends height (omega arith));
     }
 
     no_longer : BeginAlike touched (height + 1) → ⊥
@@ -159,7 +159,7 @@ module _ (height i : ℕ) (touched : Touched) (run : Run) (is : IsSizedRun heigh
         let word_here : end_path touched 2 ≡ inode_path height i 2 = ap (λ r. end_path_of r (word_paths touched) 2) is.one ∙ size_path in
         let same = more.same 2 (omega (arith, ends_are)) in
         words_apart height i
-        (sym (run_front (run.offset / 8) (suc height) (omega arith)) ∙ ap (λ p. trail_of p (suc height)) (sym run_here) ∙ ap (trail_of (end_path touched 0)) (sym next) ∙ sym same
+        (sym (run_prefix (run.offset / 8) (suc height) (omega arith)) ∙ ap (λ p. trail_of p (suc height)) (sym run_here) ∙ ap (trail_of (end_path touched 0)) (sym next) ∙ sym same
         ∙ ap (trail_of (end_path touched 2)) next ∙ ap (λ p. trail_of p (suc height)) word_here)
 
     -- ---- the paths themselves
@@ -189,7 +189,7 @@ module _ (height i : ℕ) (touched : Touched) (run : Run) (is : IsSizedRun heigh
         begins : (path : WordPath) → Has (all_paths touched) path → Begins (leaf_path height i) path
         begins path has =
             let like = alike-all touched shape height alike path has in
-            record { long = omega (arith, leaf_long, like.0); same = ap (λ n. take n path) leaf_long ∙ take_leaf path like.0 (like.1 ∙ end_front 0 some_ends height (omega arith)) }
+            record { long = omega (arith, leaf_long, like.0); same = ap (λ n. take n path) leaf_long ∙ take_leaf path like.0 (like.1 ∙ end_prefix 0 some_ends height (omega arith)) }
 
     short : length (common_all (all_paths touched)) ≤ height
     short = go (cases_lt height (length (common_all (all_paths touched))))
@@ -203,14 +203,14 @@ module _ (height i : ℕ) (touched : Touched) (run : Run) (is : IsSizedRun heigh
         go (inr few) = few
         go (inl more) =
             absurd (words_apart height i
-            (sym (run_front (run.offset / 8) (suc height) (omega arith)) ∙ of (run_path run (run.offset / 8)) first_path (omega (arith, more)) ∙ sym (of (inode_path height i 2) has_size (omega (arith, more)))))
+            (sym (run_prefix (run.offset / 8) (suc height) (omega arith)) ∙ of (run_path run (run.offset / 8)) first_path (omega (arith, more)) ∙ sym (of (inode_path height i 2) has_size (omega (arith, more)))))
 
     common_leaf : common_all (all_paths touched) ≡ leaf_path height i
     common_leaf =
         let size : length (common_all (all_paths touched)) ≡ length (leaf_path height i) = omega (arith, short, leaf_begins.long, leaf_long) in
         sym (take-length (common_all (all_paths touched))) ∙ ap (λ n. take n (common_all (all_paths touched))) size ∙ leaf_begins.same
 
-    -- none is a proper front of another: those of the run are of one length, and the size is no front of them
+    -- none is a proper prefix of another: those of the run are of one length, and the size is no prefix of them
     pub sized_apart : NoneBegins (all_paths touched)
     sized_apart path other has also m low same = go (kind path has) (kind other also)
       where
@@ -222,7 +222,7 @@ module _ (height i : ℕ) (touched : Touched) (run : Run) (is : IsSizedRun heigh
         kind = paths-by touched shape Kind of_run of_word
           where
             of_run : (r : Run) (k : ℕ) → Has touched.runs.now r → r.offset / 8 ≤ k → k ≤ (run_end r - 1) / 8 → Kind (run_path r k)
-            of_run r k has first last = subst (λ (x : Run). Kind (run_path x k)) (only r has) (inr (omega (arith, length-run_path run k, root_long), run_front k (suc height) (omega arith)))
+            of_run r k has first last = subst (λ (x : Run). Kind (run_path x k)) (only r has) (inr (omega (arith, length-run_path run k, root_long), run_prefix k (suc height) (omega arith)))
 
             of_word : (j : ℕ) → j < length touched.words.now → Kind (path_of (word_paths touched) j)
             of_word j here =
@@ -246,29 +246,29 @@ module _ (height i : ℕ) (touched : Touched) (run : Run) (is : IsSizedRun heigh
       record_live : IsLiveWord (root_of image 0) (size_of image 0) (suc (height_of (root_of image 0))) (8 * i + 1)
       record_live = live_content (root_of image 0) (size_of image 0) (8 * i + 1) (omega (arith, inside))
 
-      front : (d : ℕ) → d ≤ height → Front (root_of image 0) (size_of image 0) (suc (height_of (root_of image 0))) (8 * i + 1) d
-      front d low = front_of (root_of image 0) (size_of image 0) (suc (height_of (root_of image 0))) (8 * i + 1) d record_live (omega (arith, low, high))
+      prefix : (d : ℕ) → d ≤ height → Prefix (root_of image 0) (size_of image 0) (suc (height_of (root_of image 0))) (8 * i + 1) d
+      prefix d low = prefix_of (root_of image 0) (size_of image 0) (suc (height_of (root_of image 0))) (8 * i + 1) d record_live (omega (arith, low, high))
 
-      on_way : (d : ℕ) (low : d ≤ height) → trail_of (end_path touched 0) d ≡ along [] d (front d low).number
+      on_way : (d : ℕ) (low : d ≤ height) → trail_of (end_path touched 0) d ≡ along [] d (prefix d low).number
       on_way d low =
           let none : d ≡ 0 + d = omega arith in
-          end_front 0 some_ends d low ∙ sym (leaf_front height i 1 d (omega arith) low) ∙ ap (λ h. trail_of (digits (suc h) (8 * i + 1)) d) high
-          ∙ sym (trail_of-take (digits (suc (height_of (root_of image 0))) (8 * i + 1)) d d (omega arith)) ∙ ap (λ p. trail_of p d) (front d low).same
-          ∙ ap (trail_of (digits d (front d low).number)) none ∙ digits_trail [] d (front d low).number
+          end_prefix 0 some_ends d low ∙ sym (leaf_prefix height i 1 d (omega arith) low) ∙ ap (λ h. trail_of (digits (suc h) (8 * i + 1)) d) high
+          ∙ sym (trail_of-take (digits (suc (height_of (root_of image 0))) (8 * i + 1)) d d (omega arith)) ∙ ap (λ p. trail_of p d) (prefix d low).same
+          ∙ ap (trail_of (digits d (prefix d low).number)) none ∙ digits_trail [] d (prefix d low).number
 
-      block_is : (d : ℕ) (low : d ≤ height) → block_on image (trail_of (end_path touched 0) d) ≡ node image (root_of image 0) d (front d low).number
-      block_is d low = ap (block_on image) (on_way d low) ∙ ap block_of (word-tree image 0 d (front d low).number)
+      block_is : (d : ℕ) (low : d ≤ height) → block_on image (trail_of (end_path touched 0) d) ≡ node image (root_of image 0) d (prefix d low).number
+      block_is d low = ap (block_on image) (on_way d low) ∙ ap block_of (word-tree image 0 d (prefix d low).number)
 
       leaf_has : CoverHas image touched height
       leaf_has = record {
         alike = alike;
-        exists = λ d low null. wf.full_inode_file d (front d (omega (arith, low))).number (front d (omega (arith, low))).live (sym (block_is d (omega (arith, low))) ∙ null);
+        exists = λ d low null. wf.full_inode_file d (prefix d (omega (arith, low))).number (prefix d (omega (arith, low))).live (sym (block_is d (omega (arith, low))) ∙ null);
         longest = λ more. absurd (no_longer more);
       }
 
       pub leaf_cover : commit_cover image touched ≡ leaf_path height i
       leaf_cover =
-          sym (cover_front touched shape image height leaf_has) ∙ take_leaf (end_path touched 0) (long_ends 0 some_ends) (end_front 0 some_ends height (omega arith))
+          sym (cover_prefix touched shape image height leaf_has) ∙ take_leaf (end_path touched 0) (long_ends 0 some_ends) (end_prefix 0 some_ends height (omega arith))
 
       pub leaf_count : copied_count image touched ≡ length (prefixes_of height [] (all_paths touched))
       leaf_count =
@@ -279,8 +279,8 @@ module _ (height i : ℕ) (touched : Touched) (run : Run) (is : IsSizedRun heigh
       leaf_inside sound d more = go (cases_lt d height)
         where
           go : (d < height) ⊎ (height ≤ d) → block_on image (trail_of (end_path touched 0) d) < block_count image
-          go (inl low) = subst (λ b. b < block_count image) (sym (block_is d (omega (arith, low)))) (sound.in_range d (front d (omega (arith, low))).number (front d (omega (arith, low))).live)
-          go (inr past) = absurd (no_longer (alike_front touched (d + 1) (height + 1) (omega (arith, past)) more))
+          go (inl low) = subst (λ b. b < block_count image) (sym (block_is d (omega (arith, low)))) (sound.in_range d (prefix d (omega (arith, low))).number (prefix d (omega (arith, low))).live)
+          go (inr past) = absurd (no_longer (alike_prefix touched (d + 1) (height + 1) (omega (arith, past)) more))
 
       -- a change that touches these paths and keeps the height of the inode file has the same cover
       module _ (change : Change) (low_tree : height_after image change 0 ≡ height_of (root_of image 0)) (same : all_paths touched ≡ layout.touched image change) where

@@ -17,7 +17,7 @@ pub mod RunsLaws
 pub mod QuietCopies
 pub mod CoverLaws
 pub mod CommonPaths
-pub mod RunFronts
+pub mod RunPrefixes
 pub mod RunPointers
 pub mod WayPointers
 pub mod WaysAlike
@@ -27,7 +27,7 @@ pub mod StageEnd
 pub mod CommitEnd
 pub mod Distinct
 pub mod Values
-pub mod JobFronts
+pub mod JobPrefixes
 pub mod CopiesNeed
 pub mod CoverOf
 pub mod CallerLaws

@@ -13,7 +13,7 @@ use Rattle.bp_cow.specs.CanCommit.{IsRunIn}
 use Rattle.bp_cow.specs.Counting.{IsTreeWord}
 use Rattle.bp_cow.specs.Touched.{leaf_live, run_live, run_way}
 use Rattle.bp_cow.proofs.NodeLive.{block-counts}
-use Rattle.bp_cow.proofs.RunFronts.{front-digits}
+use Rattle.bp_cow.proofs.RunPrefixes.{prefix-digits}
 
 -- what begins below a block's leaf begins below the size
 scaled : (node power leaf size : ℕ) → node * power ≤ leaf → 4096 * leaf < size → node * (8 * (power * 512)) < size
@@ -35,7 +35,7 @@ module _ (old : Image) (bound : ℕ → ℕ) (forest : IsForest old bound) (run 
     block = leaf / 512 ^ level
 
     block-trail : trail_of (run_way run j) (length run.root.items + down) ≡ tree_trail (height_of (word old 2)) tree down block
-    block-trail = front-digits run.root.items run.height leaf down (omega (arith, few)) ∙ ap (λ b. along b down block) at.root
+    block-trail = prefix-digits run.root.items run.height leaf down (omega (arith, few)) ∙ ap (λ b. along b down block) at.root
 
     block-live : IsLivePointer (root_of old tree) (bound tree) down block
     block-live = record {

@@ -15,14 +15,14 @@ use Rattle.bp_shapes.specs.Trail.{Trail, block_on, place_on, trail_of}
 use Rattle.bp_shapes.proofs.ForestLaws.{word-tree}
 use Rattle.bp_shapes.proofs.PathTrails.{length-trail_of}
 use Rattle.bp_tree.proofs.Digits.{length-digits}
-use Rattle.bp_tree.proofs.LooseWays.{kept_node, loose-front}
+use Rattle.bp_tree.proofs.LooseWays.{kept_node, loose-prefix}
 use Rattle.bp_cow.specs.Commit.{HasLooseCover}
 use Rattle.bp_cow.specs.Cover.{CoverHas, commit_cover, end_path}
 use Rattle.bp_cow.specs.Touched.{IsTouched, all_paths}
 use Rattle.bp_cow.specs.declared.touched.Touched.{Touched}
 use Rattle.bp_cow.proofs.CopiesNeed.{alike-all}
 use Rattle.bp_cow.proofs.CoverLaws.{end-slots, some-ends}
-use Rattle.bp_cow.proofs.CoverOf.{cover_address, cover_front, cover_has}
+use Rattle.bp_cow.proofs.CoverOf.{cover_address, cover_prefix, cover_has}
 use Rattle.bp_cow.proofs.Distinct.{same-take}
 use Rattle.bp_cow.proofs.RunWrites.{digits_trail, root_path_trail}
 
@@ -37,8 +37,8 @@ tree_path_trail h (suc i) d k =
     ∙ digits_trail root d k
     ∙ ap (λ (base : Trail). along base d k) (root_path_trail h i root refl)
 
-front_path : (path : List ℕ) (n h t d k : ℕ) → n ≤ length path → trail_of path n ≡ tree_trail h t d k → take n path ≡ tree_path h t d k
-front_path path n h t d k low same =
+prefix_path : (path : List ℕ) (n h t d k : ℕ) → n ≤ length path → trail_of path n ≡ tree_trail h t d k → take n path ≡ tree_path h t d k
+prefix_path path n h t d k low same =
     let whole : List ℕ = tree_path h t d k in
     let trails : trail_of path n ≡ trail_of whole (length whole) = same ∙ sym (tree_path_trail h t d k) in
     let long : n ≡ length whole = sym (length-trail_of path n) ∙ ap (λ (q : Trail). length q) trails ∙ length-trail_of whole (length whole) in
@@ -56,20 +56,20 @@ module _ (in_snapshot : ℕ → Bool) (image : Image) (wf : IsWellFormed image) 
       let one : IsTreePointer image (size_of image) (trail_of path k) = live k (omega (arith, alike.0)) in
       let block : node image (root_of image one.tree) one.depth one.index ≡ block_on image (trail_of first k) =
       sym (ap block_of (word-tree image one.tree one.depth one.index)) ∙ ap (block_on image) (one.named ∙ same) in
-      let front : take k first ≡ tree_path (heights_now image 0) one.tree one.depth one.index =
-      front_path first k (heights_now image 0) one.tree one.depth one.index (omega (arith, long)) (sym (one.named ∙ same)) in
+      let prefix : take k first ≡ tree_path (heights_now image 0) one.tree one.depth one.index =
+      prefix_path first k (heights_now image 0) one.tree one.depth one.index (omega (arith, long)) (sym (one.named ∙ same)) in
       let next : k + 1 ≡ suc k = omega arith in
       let more : take (suc k) first ≡ take k first ++ slice_index first k ∷ [] = ap (λ n. take n first) (sym next) ∙ take_more first k 0 long in
       ap in_snapshot (sym block)
       ∙ sym (kept_node image wf in_snapshot one.tree one.depth one.index one.reached one.live (λ null. covers.exists k (omega arith) (sym block ∙ null)))
-      ∙ ap (is_in_snapshot_at image in_snapshot) (sym front)
-      ∙ loose-front image in_snapshot k (take k first) (slice_index first k) [] (omega (arith, long, length-take k first)) (subst (IsLoose image in_snapshot k) more loose)
+      ∙ ap (is_in_snapshot_at image in_snapshot) (sym prefix)
+      ∙ loose-prefix image in_snapshot k (take k first) (slice_index first k) [] (omega (arith, long, length-take k first)) (subst (IsLoose image in_snapshot k) more loose)
 
   pub loose_cover : IsLoose image in_snapshot (length (commit_cover image touched) - 1) (commit_cover image touched) → HasLooseCover image in_snapshot touched
   loose_cover loose =
       subst (λ w. 512 ≤ w → in_snapshot (w / 512) ≡ false) (sym (cover_address touched shape image))
       (go (length (commit_cover image touched)) (cover_has touched shape image)
-      (subst (IsLoose image in_snapshot (length (commit_cover image touched) - 1)) (sym (cover_front touched shape image (length (commit_cover image touched)) (cover_has touched shape image))) loose))
+      (subst (IsLoose image in_snapshot (length (commit_cover image touched) - 1)) (sym (cover_prefix touched shape image (length (commit_cover image touched)) (cover_has touched shape image))) loose))
     where
       go : (n : ℕ) → CoverHas image touched n → IsLoose image in_snapshot (n - 1) (take n (end_path touched 0)) → 512 ≤ place_on image (trail_of (end_path touched 0) n) → in_snapshot (place_on image (trail_of (end_path touched 0) n) / 512) ≡ false
       go zero covers way low = absurd (omega (arith, low))

@@ -7,16 +7,16 @@ use Rattle.std.proofs.lemmas.Bool.Decides.{Decides-and}
 use Rattle.std.proofs.lemmas.Slice.Eq.{bytes_eq-Decides}
 use Rattle.bp_shapes.specs.Trail.{Trail}
 use Rattle.bp_shapes.proofs.PathTrails.{length-trail_of}
-use Rattle.bp_cow.specs.Job.{Job, front, IsBegun, begins, turns_at, turned_for, turned_upto}
+use Rattle.bp_cow.specs.Job.{Job, prefix, IsBegun, begins, turns_at, turned_for, turned_upto}
 
 Decides-leb : (a b : ℕ) → Decides (nat_le a b) (a ≤ b)
 Decides-leb a b = (leb-true a b, le-leb a b)
 
 test-Decides : (job : Job) (from i : ℕ) (q : Trail) →
-    Decides (nat_le from (length q) && nat_le (length q) (length (job.way i)) && bytes_eq q (front job i (length q)))
-    (((from ≤ length q) × (length q ≤ length (job.way i))) × (q ≡ front job i (length q)))
+    Decides (nat_le from (length q) && nat_le (length q) (length (job.way i)) && bytes_eq q (prefix job i (length q)))
+    (((from ≤ length q) × (length q ≤ length (job.way i))) × (q ≡ prefix job i (length q)))
 test-Decides job from i q =
-    Decides-and _ _ (Decides-and _ _ (Decides-leb from (length q)) (Decides-leb (length q) (length (job.way i)))) (bytes_eq-Decides q (front job i (length q)))
+    Decides-and _ _ (Decides-and _ _ (Decides-leb from (length q)) (Decides-leb (length q) (length (job.way i)))) (bytes_eq-Decides q (prefix job i (length q)))
 
 pub begun-begins : (job : Job) (from count : ℕ) (q : Trail) → begins job from count q ≡ true → IsBegun job from count q
 begun-begins job from zero q e = absurd (cc)
@@ -35,10 +35,10 @@ begins-begun job from (suc i) q b = go (cases_eq b.which i) (λ less. begins-beg
     depth_is : length q ≡ b.depth
     depth_is = ap (λ (x : Trail). length x) b.same ∙ length-trail_of (job.way b.which) b.depth
 
-    here : b.which ≡ i → (nat_le from (length q) && nat_le (length q) (length (job.way i)) && bytes_eq q (front job i (length q))) ≡ true
+    here : b.which ≡ i → (nat_le from (length q) && nat_le (length q) (length (job.way i)) && bytes_eq q (prefix job i (length q))) ≡ true
     here e =
         let proper : b.depth ≤ length (job.way i) = subst (λ j. b.depth ≤ length (job.way j)) e b.high in
-        (test-Decides job from i q).1 ((omega (arith, b.low, depth_is), omega (arith, proper, depth_is)), b.same ∙ ap (λ j. front job j b.depth) e ∙ ap (front job i) (sym depth_is))
+        (test-Decides job from i q).1 ((omega (arith, b.low, depth_is), omega (arith, proper, depth_is)), b.same ∙ ap (λ j. prefix job j b.depth) e ∙ ap (prefix job i) (sym depth_is))
 
     go : (b.which ≡ i) ⊎ (b.which ≡ i → ⊥) → (IsBegun job from i q → begins job from i q ≡ true) → (x : Bool) → begins job from i q ≡ x → begins job from (suc i) q ≡ true
     go any rest true is = rw is refl
@@ -47,15 +47,15 @@ begins-begun job from (suc i) q b = go (cases_eq b.which i) (λ less. begins-beg
         let yes_before : begins job from i q ≡ true = rest (record { which = b.which; depth = b.depth; early = omega (arith, b.early, n); low = b.low; high = b.high; same = b.same }) in
         absurd (cc)
 
-pub turns_none : (job : Job) (from i depth : ℕ) → IsBegun job from i (front job i depth) → turns_at job from i depth ≡ 0
-turns_none job from i depth b = rw (begins-begun job from i (front job i depth) b) refl
+pub turns_none : (job : Job) (from i depth : ℕ) → IsBegun job from i (prefix job i depth) → turns_at job from i depth ≡ 0
+turns_none job from i depth b = rw (begins-begun job from i (prefix job i depth) b) refl
 
-pub turns_one : (job : Job) (from i depth : ℕ) → (IsBegun job from i (front job i depth) → ⊥) → turns_at job from i depth ≡ 1
-turns_one job from i depth none = go (begins job from i (front job i depth)) refl
+pub turns_one : (job : Job) (from i depth : ℕ) → (IsBegun job from i (prefix job i depth) → ⊥) → turns_at job from i depth ≡ 1
+turns_one job from i depth none = go (begins job from i (prefix job i depth)) refl
   where
-    go : (x : Bool) → begins job from i (front job i depth) ≡ x → turns_at job from i depth ≡ 1
+    go : (x : Bool) → begins job from i (prefix job i depth) ≡ x → turns_at job from i depth ≡ 1
     go false is = rw is refl
-    go true is = absurd (none (begun-begins job from i (front job i depth) is))
+    go true is = absurd (none (begun-begins job from i (prefix job i depth) is))
 
 pub turned-next : (job : Job) (from i depth : ℕ) → from ≤ depth → turned_for job from i (depth + 1) ≡ turned_for job from i depth + turns_at job from i (depth + 1)
 turned-next job from i depth low =

@@ -1,4 +1,4 @@
--- How many words of a block of a tree count, told on trails.
+-- How many words of a block of a tree count, reported on trails.
 use Rattle.std.proofs.Common.{◌≡◌, ◌⊎◌, ℕ, zero, suc, ◌+◌, ◌-◌, ◌*◌, ◌/◌, ◌%◌, ◌^◌, ◌<◌, ◌≤◌, ◌∷◌, ap, subst, arith, inl, inr}
 use Rattle.std.proofs.Math.Nat.{le-div_iff_mul-le, one-le-pow}
 use Rattle.bp_layout.specs.Inode.{root_of}

@@ -15,9 +15,9 @@ use Rattle.bp_cow.specs.Cover.{end_path, end_path_of, ends, ends_of, BeginAlike}
 use Rattle.bp_cow.specs.CanCommit.{CanCommit}
 use Rattle.bp_cow.proofs.RunLaws.{length-run_path, length-run_way}
 use Rattle.bp_cow.proofs.RunsLaws.{HasEnd, end-first, end-last, end-of-word, ends-count}
-use Rattle.bp_cow.proofs.RunFronts.{first-trail, front-run_way, same-run_path}
+use Rattle.bp_cow.proofs.RunPrefixes.{first-trail, prefix-run_way, same-run_path}
 use Rattle.bp_cow.proofs.CoverLaws.{end-slots, some-ends}
-use Rattle.bp_cow.proofs.RunPointers.{leaf-fronts, leaf-plain}
+use Rattle.bp_cow.proofs.RunPointers.{leaf-prefixes, leaf-plain}
 use Rattle.bp_cow.proofs.WayPointers.{first-has, first-leaf, leaf-at, leaf-end, leaves-agree, word-trail}
 use Rattle.bp_cow.proofs.WaysAlike.{alike-less, first-length, first-pointer}
 
@@ -143,8 +143,8 @@ module _ {in_snapshot : ℕ → Bool} {old : Image} {bound : ℕ → ℕ} {touch
           go (inl e) = e
           go (inr other) =
               let short : suc m ≤ length (run_way run 0) = omega (arith, whole, other, length-run_path run (run.offset / 8), length-run_way run 0) in
-              absurd (content-here (subst (IsTreePointer old bound) (front-run_way run 0 (run.offset / 8) (suc m) (omega arith) short ∙ from_start)
-              (leaf-fronts old bound can.forest run (can.shape.runs run has) (can.runs run has) 0 (suc m) (omega arith) short)))
+              absurd (content-here (subst (IsTreePointer old bound) (prefix-run_way run 0 (run.offset / 8) (suc m) (omega arith) short ∙ from_start)
+              (leaf-prefixes old bound can.forest run (can.shape.runs run has) (can.runs run has) 0 (suc m) (omega arith) short)))
 
       trail : trail_of (run_path run (run.offset / 8)) (length (run_path run (run.offset / 8))) ≡ slot ∷ up
       trail = ap (trail_of (run_path run (run.offset / 8))) full ∙ from_start

@@ -71,7 +71,7 @@ module _ {in_snapshot start now : ℕ → Bool} {word most : ℕ} {old new : Mem
       open_place : (place value : ℕ) → IsTakenWord start now place → IsOpen (current_words old) in_snapshot copies place
       open_place place value one = in_taken (has_copy (place / 512) (ap start one.inside ∙ one.was) (ap now one.inside ∙ one.gone))
 
-  -- so many, where both sets are told up to the number of blocks
+  -- as many, where both sets are reported up to the number of blocks
   pub copies_counted : {before after taken : ℕ} → before ≡ length (numbers_below count start) → after ≡ length (numbers_below count now) → before ≡ after + taken → length copies ≡ taken
   copies_counted one two sum =
       let parts = count_gone start now done.fewer numbers in

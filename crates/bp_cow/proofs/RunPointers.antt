@@ -8,14 +8,14 @@ use Rattle.bp_layout.specs.Inode.{root_of}
 use Rattle.bp_shapes.specs.Trail.{Trail, trail_of}
 use Rattle.bp_shapes.specs.Forest.{along, root_trail, tree_trail, IsForest, IsTreePointer}
 use Rattle.bp_shapes.proofs.ForestLaws.{pointers, short, same_pointer, same_trail, HasFewDigits}
-use Rattle.bp_shapes.proofs.FreeSets.{pointer_fronts}
+use Rattle.bp_shapes.proofs.FreeSets.{pointer_prefixes}
 use Rattle.bp_shapes.proofs.PathTrails.{length-trail_of}
 use Rattle.bp_cow.specs.declared.touched.Run.{Run}
 use Rattle.bp_cow.specs.Touched.{IsRun, run_path, run_way, run_end, run_leaves, run_live}
 use Rattle.bp_cow.specs.Counting.{IsTreeWord}
 use Rattle.bp_cow.specs.CanCommit.{IsRunIn}
 use Rattle.bp_cow.proofs.Distinct.{same-take}
-use Rattle.bp_cow.proofs.RunFronts.{end-run_way}
+use Rattle.bp_cow.proofs.RunPrefixes.{end-run_way}
 use Rattle.bp_cow.proofs.LiveLaws.{run-counts}
 
 module _ (old : Image) (bound : ℕ → ℕ) (forest : IsForest old bound) (run : Run) (is : IsRun run) (at : IsRunIn old bound run) where
@@ -38,8 +38,8 @@ module _ (old : Image) (bound : ℕ → ℕ) (forest : IsForest old bound) (run 
   leaf-pointer : (j : ℕ) → j < run_leaves run → IsTreePointer old bound (trail_of (run_way run j) (length (run_way run j)))
   leaf-pointer j low = record { tree = t; depth = run.height; index = run.offset / 4096 + j; reached = at.reached; live = leaf-live j low; named = sym (leaf-trail j) }
 
-  pub leaf-fronts : (j d : ℕ) → j < run_leaves run → d ≤ length (run_way run j) → IsTreePointer old bound (trail_of (run_way run j) d)
-  leaf-fronts j d low short = pointer_fronts old bound forest (run_way run j) (length (run_way run j)) d short (leaf-pointer j low)
+  pub leaf-prefixes : (j d : ℕ) → j < run_leaves run → d ≤ length (run_way run j) → IsTreePointer old bound (trail_of (run_way run j) d)
+  leaf-prefixes j d low short = pointer_prefixes old bound forest (run_way run j) (length (run_way run j)) d short (leaf-pointer j low)
 
   -- the words that count
   pub leaf-counts : (j depth slot : ℕ) → j < run_leaves run → slot < 512 → IsTreePointer old bound (slot ∷ trail_of (run_way run j) depth) ⊎ IsTreeWord old bound (slot ∷ trail_of (run_way run j) depth) →

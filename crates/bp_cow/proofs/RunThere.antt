@@ -43,11 +43,11 @@ module _ (image : Image) (base : WordPath) (at root : ℕ) (place : address imag
   under_nodes zero k exists = tt
   under_nodes (suc d) k exists = λ null.
       not_pointed (block_of (word image (address image (base ++ digits d (k / 512)))))
-      (ap (λ p. is_pointed image (base ++ p)) (sym (front d (omega arith) ∙ whole)) ∙ exists d (omega arith))
-      (names d (k / 512) (under_nodes d (k / 512) (λ e low. ap (λ p. is_pointed image (base ++ p)) (sym (front e (omega (arith, low)))) ∙ exists e (omega (arith, low)))) ∙ null)
+      (ap (λ p. is_pointed image (base ++ p)) (sym (prefix d (omega arith) ∙ whole)) ∙ exists d (omega arith))
+      (names d (k / 512) (under_nodes d (k / 512) (λ e low. ap (λ p. is_pointed image (base ++ p)) (sym (prefix e (omega (arith, low)))) ∙ exists e (omega (arith, low)))) ∙ null)
     where
-      front : (e : ℕ) → e ≤ d → take e (digits d (k / 512) ++ k % 512 ∷ []) ≡ take e (digits d (k / 512))
-      front e low = take-append-le e (digits d (k / 512)) (k % 512 ∷ []) (omega (arith, low, length-digits d (k / 512)))
+      prefix : (e : ℕ) → e ≤ d → take e (digits d (k / 512) ++ k % 512 ∷ []) ≡ take e (digits d (k / 512))
+      prefix e low = take-append-le e (digits d (k / 512)) (k % 512 ∷ []) (omega (arith, low, length-digits d (k / 512)))
 
       whole : take d (digits d (k / 512)) ≡ digits d (k / 512)
       whole = let size = length-digits d (k / 512) in ap (λ n. take n (digits d (k / 512))) (sym size) ∙ take-length (digits d (k / 512))
@@ -55,16 +55,16 @@ module _ (image : Image) (base : WordPath) (at root : ℕ) (place : address imag
   pointed_is : (d k : ℕ) → ((e : ℕ) → e < d → is_pointed image (base ++ take e (digits d k)) ≡ true) → is_pointed image (base ++ digits d k) ≡ not (node image root d k == 0)
   pointed_is d k exists = ap (λ b. not (b == 0)) (names d k (under_nodes d k exists))
 
--- ---- the fronts of digits
+-- ---- the prefixes of digits
 
-pub record Front (root size depth index e : ℕ) : Type 0 where
+pub record Prefix (root size depth index e : ℕ) : Type 0 where
   pub number : ℕ
   pub same : take e (digits depth index) ≡ digits e number
   pub live : IsLivePointer root size e number
 
-pub front_of : (root size depth index e : ℕ) → IsLiveWord root size depth index → e < depth → Front root size depth index e
-front_of root size zero index e live low = absurd (omega (arith, low))
-front_of root size (suc depth) index e live low = go (cases_eq e depth) (λ less. front_of root size depth (index / 512) e (live_pointer_word root size depth (index / 512) (live_above root size depth index live)) less)
+pub prefix_of : (root size depth index e : ℕ) → IsLiveWord root size depth index → e < depth → Prefix root size depth index e
+prefix_of root size zero index e live low = absurd (omega (arith, low))
+prefix_of root size (suc depth) index e live low = go (cases_eq e depth) (λ less. prefix_of root size depth (index / 512) e (live_pointer_word root size depth (index / 512) (live_above root size depth index live)) less)
   where
     up : IsLivePointer root size depth (index / 512)
     up = live_above root size depth index live
@@ -72,8 +72,8 @@ front_of root size (suc depth) index e live low = go (cases_eq e depth) (λ less
     first : (n : ℕ) → n ≤ depth → take n (digits depth (index / 512) ++ index % 512 ∷ []) ≡ take n (digits depth (index / 512))
     first n less = take-append-le n (digits depth (index / 512)) (index % 512 ∷ []) (omega (arith, less, length-digits depth (index / 512)))
 
-    go : (e ≡ depth) ⊎ (e ≡ depth → ⊥) → (e < depth → Front root size depth (index / 512) e) → Front root size (suc depth) index e
-    go (inl same) deeper = subst (Front root size (suc depth) index) (sym same) (record {
+    go : (e ≡ depth) ⊎ (e ≡ depth → ⊥) → (e < depth → Prefix root size depth (index / 512) e) → Prefix root size (suc depth) index e
+    go (inl same) deeper = subst (Prefix root size (suc depth) index) (sym same) (record {
       number = index / 512;
       same = first depth (omega arith) ∙ ap (λ n. take n (digits depth (index / 512))) (sym (length-digits depth (index / 512))) ∙ take-length (digits depth (index / 512));
       live = up;
@@ -170,20 +170,20 @@ module _ (image : Image) (wf : IsWellFormed image) (n : ℕ) (reached : IsReache
 
       go : (d < length base) ⊎ (length base ≤ d) → is_there_after image change (take d (base ++ digits (suc (height_of (root_of image (suc n)))) k)) ≡ is_pointed image (take d (base ++ digits (suc (height_of (root_of image (suc n)))) k))
       go (inl less) =
-          let front = front_of (root_of image 0) (size_of image 0) (suc (height_of (root_of image 0))) (8 * suc n + 1) d record_live (omega (arith, less, base_long)) in
-          let is : take d (base ++ digits (suc (height_of (root_of image (suc n)))) k) ≡ digits d front.number = early d (omega (arith, less)) ∙ front.same in
-          rw is (in_inodes d front.number front.live (λ f small.
+          let prefix = prefix_of (root_of image 0) (size_of image 0) (suc (height_of (root_of image 0))) (8 * suc n + 1) d record_live (omega (arith, less, base_long)) in
+          let is : take d (base ++ digits (suc (height_of (root_of image (suc n)))) k) ≡ digits d prefix.number = early d (omega (arith, less)) ∙ prefix.same in
+          rw is (in_inodes d prefix.number prefix.live (λ f small.
           ap (is_pointed image) (ap (take f) (sym is) ∙ take-take f d (base ++ digits (suc (height_of (root_of image (suc n)))) k) (omega (arith, small))) ∙ exists f small))
       go (inr past) =
           let deep : d - length base < suc (height_of (root_of image (suc n))) =
           omega (arith, low, past, length-append base (digits (suc (height_of (root_of image (suc n)))) k), length-digits (suc (height_of (root_of image (suc n)))) k) in
-          let front = front_of (root_of image (suc n)) (size_of image (suc n)) (suc (height_of (root_of image (suc n)))) k (d - length base) content_live deep in
+          let prefix = prefix_of (root_of image (suc n)) (size_of image (suc n)) (suc (height_of (root_of image (suc n)))) k (d - length base) content_live deep in
           let at : length base + (d - length base) ≡ d = omega (arith, past) in
-          let is : take d (base ++ digits (suc (height_of (root_of image (suc n)))) k) ≡ base ++ digits (d - length base) front.number =
-          ap (λ m. take m (base ++ digits (suc (height_of (root_of image (suc n)))) k)) (sym at) ∙ take-append-add base (digits (suc (height_of (root_of image (suc n)))) k) (d - length base) ∙ ap (λ p. base ++ p) front.same in
-          rw is (in_tree (d - length base) front.number front.live (λ f small.
-          let part : base ++ take f (digits (d - length base) front.number) ≡ take (length base + f) (base ++ digits (suc (height_of (root_of image (suc n)))) k) =
-          sym (take-append-add base (digits (d - length base) front.number) f) ∙ ap (take (length base + f)) (sym is)
+          let is : take d (base ++ digits (suc (height_of (root_of image (suc n)))) k) ≡ base ++ digits (d - length base) prefix.number =
+          ap (λ m. take m (base ++ digits (suc (height_of (root_of image (suc n)))) k)) (sym at) ∙ take-append-add base (digits (suc (height_of (root_of image (suc n)))) k) (d - length base) ∙ ap (λ p. base ++ p) prefix.same in
+          rw is (in_tree (d - length base) prefix.number prefix.live (λ f small.
+          let part : base ++ take f (digits (d - length base) prefix.number) ≡ take (length base + f) (base ++ digits (suc (height_of (root_of image (suc n)))) k) =
+          sym (take-append-add base (digits (d - length base) prefix.number) f) ∙ ap (take (length base + f)) (sym is)
           ∙ take-take (length base + f) d (base ++ digits (suc (height_of (root_of image (suc n)))) k) (omega (arith, small, past)) in
           ap (is_pointed image) part ∙ exists (length base + f) (omega (arith, small, past))))
 
@@ -204,8 +204,8 @@ module _ {in_snapshot : ℕ → Bool} (image : Image) (wf : IsWellFormed image) 
   path_is : run_path run (run.offset / 8) ≡ word_path
   path_is = ap (λ (p : WordPath). p ++ digits (suc run.height) (run.offset / 8)) root ∙ ap (λ h. inode_path (height_of (root_of image 0)) (suc n) 1 ++ digits (suc h) (run.offset / 8)) height
 
-  front : (d : ℕ) → d ≤ length (common_all (all_paths touched)) → take d (common_all (all_paths touched)) ≡ take d word_path
-  front d low = ap (take d) (sym begins.same) ∙ take-take d (length (common_all (all_paths touched))) (run_path run (run.offset / 8)) low ∙ ap (take d) path_is
+  prefix : (d : ℕ) → d ≤ length (common_all (all_paths touched)) → take d (common_all (all_paths touched)) ≡ take d word_path
+  prefix d low = ap (take d) (sym begins.same) ∙ take-take d (length (common_all (all_paths touched))) (run_path run (run.offset / 8)) low ∙ ap (take d) path_is
 
   nothing : preparation image write ≡ []
   nothing = rw (not_above (size_of image (suc n)) (run.offset + length run.bytes.now) below) refl
@@ -214,9 +214,9 @@ module _ {in_snapshot : ℕ → Bool} (image : Image) (wf : IsWellFormed image) 
       is_there_after image write (take d (common_all (all_paths touched))) ≡ is_pointed image (take d (common_all (all_paths touched)))
   agree d low exists =
       let long : length (common_all (all_paths touched)) ≤ length word_path = subst (λ (p : WordPath). length (common_all (all_paths touched)) ≤ length p) path_is begins.long in
-      rw (front d (omega (arith, low)))
+      rw (prefix d (omega (arith, low)))
       (word_agrees image wf n reached write nothing refl (write_height image (suc n) run.offset (length run.bytes.now) below) (run.offset / 8) (omega (arith, below, some)) d (omega (arith, low, long))
-      (λ e less. ap (is_pointed image) (sym (front e (omega (arith, less, low)))) ∙ exists e less))
+      (λ e less. ap (is_pointed image) (sym (prefix e (omega (arith, less, low)))) ∙ exists e less))
 
   same_paths : all_paths touched ≡ layout.touched image write
   same_paths = run_touched image touched run n one none root height some below

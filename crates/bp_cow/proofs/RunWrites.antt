@@ -24,7 +24,7 @@ use Rattle.bp_cow.specs.CanCommit.{CanCommit}
 use Rattle.bp_cow.specs.Committed.{IsCommitted, after_commit, changes_of}
 use Rattle.bp_cow.specs.Touched.{job_of, laid_word, run_byte, run_end, run_path, run_word, touched_trail}
 use Rattle.bp_cow.proofs.CommitLaws.{committed_commits, size_after}
-use Rattle.bp_cow.proofs.RunFronts.{front-digits}
+use Rattle.bp_cow.proofs.RunPrefixes.{prefix-digits}
 use Rattle.bp_cow.proofs.RunLaws.{byte-run_word, length-run_path}
 use Rattle.bp_cow.proofs.RunsLaws.{laid-one}
 use Rattle.bp_cow.proofs.Values.{after-others, after-run, after-word}
@@ -34,7 +34,7 @@ pub digits_trail : (root : List ℕ) (count k : ℕ) → trail_of (root ++ digit
 digits_trail root count k =
     let none : count - count ≡ 0 = omega arith in
     let whole : k / 512 ^ 0 ≡ k = omega arith in
-    front-digits root count k count (omega arith) ∙ ap (λ c. along (trail_of root (length root)) count (k / 512 ^ c)) none ∙ ap (along (trail_of root (length root)) count) whole
+    prefix-digits root count k count (omega arith) ∙ ap (λ c. along (trail_of root (length root)) count (k / 512 ^ c)) none ∙ ap (along (trail_of root (length root)) count) whole
 
 -- the path of the root word of a file leads to it
 pub root_path_trail : (height n : ℕ) (path : List ℕ) → path ≡ inode_path height (suc n) 1 → trail_of path (length path) ≡ root_trail height (suc n)
@@ -120,7 +120,7 @@ module _ {in_snapshot : ℕ → Bool} (old new : Image) (bound : ℕ → ℕ) (w
           other l (subst (λ (x : Run). x.offset / 8 ≤ l) (sym here) low) (subst (λ (x : Run). l ≤ (run_end x - 1) / 8) (sym here) high)
           (same ∙ ap (λ (x : Run). trail_of (run_path x l) (length (run_path x l))) (sym here) ∙ run_trail l)
 
-  -- in the file's tree the number tells
+  -- in the file's tree the number reports
   same_number : (m k l : ℕ) → IsReached old (suc m) → 8 * k < bound (suc m) → l ≤ (run_end run - 1) / 8 →
       tree_trail (height_of (word old 2)) (suc m) (suc (height_of (root_of old (suc m)))) k ≡ tree_trail (height_of (word old 2)) (suc n) (suc (height_of (root_of old (suc n)))) l → (suc m ≡ suc n) × (k ≡ l)
   same_number m k l also low last same =
@@ -187,8 +187,8 @@ module _ {in_snapshot : ℕ → Bool} (old new : Image) (bound : ℕ → ℕ) (w
         byte_before : o < run.offset → run_byte run o (byte old (root_of old (suc n)) o) ≡ byte old (root_of old (suc n)) o
         byte_before less = rw (lt-leb run.offset o less) refl
 
-        byte_behind : run_end run ≤ o → run_byte run o (byte old (root_of old (suc n)) o) ≡ byte old (root_of old (suc n)) o
-        byte_behind past = rw (le-ltb o (run_end run) past) (go_any (nat_le run.offset o))
+        byte_after : run_end run ≤ o → run_byte run o (byte old (root_of old (suc n)) o) ≡ byte old (root_of old (suc n)) o
+        byte_after past = rw (le-ltb o (run_end run) past) (go_any (nat_le run.offset o))
           where
             go_any : (b : Bool) → (if b && false then slice_index run.bytes.now (o - run.offset) else byte old (root_of old (suc n)) o) ≡ byte old (root_of old (suc n)) o
             go_any true = refl
@@ -211,7 +211,7 @@ module _ {in_snapshot : ℕ → Bool} (old new : Image) (bound : ℕ → ℕ) (w
             ∙ byte-run_word run (o / 8) (content_word old (root_of old (suc n)) (o / 8)) (o % 8) (omega arith) is.small
             ∙ ap (λ m. run_byte run m (byte old (root_of old (suc n)) o)) number
         go (inl before) last = stays (λ l first high e. omega (arith, before, first, e)) ∙ sym (byte_before (omega (arith, before)))
-        go (inr first) (inl behind) = stays (λ l low_word high e. omega (arith, behind, high, e)) ∙ sym (byte_behind (omega (arith, behind)))
+        go (inr first) (inl beyond) = stays (λ l low_word high e. omega (arith, beyond, high, e)) ∙ sym (byte_after (omega (arith, beyond)))
 
 -- ---- a run alone
 

@@ -1,4 +1,4 @@
--- Lists of runs: their leaves and the ways to these, the paths that tell, and the words over which they are laid.
+-- Lists of runs: their leaves and the ways to these, the paths that report, and the words over which they are laid.
 use Rattle.std.proofs.Common.{◌≡◌, ◌⊎◌, ℕ, zero, suc, ◌+◌, ◌-◌, ◌*◌, ◌/◌, ◌%◌, ◌<◌, ◌≤◌, List, [], ◌∷◌, ◌++◌, length, drop, take, min, Bool, true, false, Some, refl, sym, ◌∙◌, ap, subst, add-one, arith, inl, inr}
 use Rattle.std.specs.List.{slice_get}
 use Rattle.std.specs.Prelude.{nat_lt, bytes_eq, slice_index, slice_index_or, ◌==◌, if◌then◌else◌}
@@ -58,7 +58,7 @@ pub some-runs : (runs : List Run) (i : ℕ) → i < leaves_of runs → 0 < lengt
 some-runs [] i low = absurd (omega (arith, low))
 some-runs (run ∷ runs) i low = omega arith
 
--- so the way to a leaf is no way to one behind the run with the number of the way
+-- so the way to a leaf is no way to one after the run with the number of the way
 pub run-most : (runs : List Run) (i most : ℕ) → i < leaves_of runs → most ≡ min i (length runs - 1) → i < leaves_of (take (most + 1) runs)
 run-most runs i most low is = at (cases_lt i (length runs - 1))
   where
@@ -76,9 +76,9 @@ ends-next runs ends end count each right last k low = at (cases_lt k count)
     at : (k < count) ⊎ (count ≤ k) → slice_index (ends ++ end ∷ []) k ≡ leaves_of (take (k + 1) runs)
     at (inl here) = get_or-append ends (end ∷ []) 0 k (omega (arith, here, each)) ∙ right k here
     at (inr past) =
-        let behind : k ≡ length ends = omega (arith, past, low, each) in
+        let beyond : k ≡ length ends = omega (arith, past, low, each) in
         let newest : count ≡ k = omega (arith, past, low) in
-        ap (λ n. slice_index (ends ++ end ∷ []) n) behind ∙ get_or-append_seam ends end [] 0 ∙ last ∙ ap (λ n. leaves_of (take (n + 1) runs)) newest
+        ap (λ n. slice_index (ends ++ end ∷ []) n) beyond ∙ get_or-append_seam ends end [] 0 ∙ last ∙ ap (λ n. leaves_of (take (n + 1) runs)) newest
 
 -- what holds of one run alone holds of each
 pub one_run : {runs : List Run} → (P : Run → Type 0) (run : Run) → P run → runs ≡ run ∷ [] → (r : Run) → Has runs r → P r
@@ -110,14 +110,14 @@ not-less a b past = go (nat_lt a b) refl
     go false e = e
     go true e = absurd (omega (arith, past, ltb-true a b e))
 
-pub way-behind : (run : Run) (runs : List Run) (paths : List WordPath) (i : ℕ) → run_leaves run ≤ i → way_of (run ∷ runs) paths i ≡ way_of runs paths (i - run_leaves run)
-way-behind run runs paths i past = let test : nat_lt i (run_leaves run) ≡ false = not-less i (run_leaves run) past in rw test refl
+pub way-after : (run : Run) (runs : List Run) (paths : List WordPath) (i : ℕ) → run_leaves run ≤ i → way_of (run ∷ runs) paths i ≡ way_of runs paths (i - run_leaves run)
+way-after run runs paths i past = let test : nat_lt i (run_leaves run) ≡ false = not-less i (run_leaves run) past in rw test refl
 
 pub way-word : (runs : List Run) (paths : List WordPath) (i : ℕ) → leaves_of runs ≤ i → way_of runs paths i ≡ above (path_of paths (i - leaves_of runs))
 way-word [] paths i past = let none : i - 0 ≡ i = omega arith in rw none refl
 way-word (run ∷ runs) paths i past =
     let rest : i - run_leaves run - leaves_of runs ≡ i - (run_leaves run + leaves_of runs) = omega arith in
-    way-behind run runs paths i (omega (arith, past)) ∙ way-word runs paths (i - run_leaves run) (omega (arith, past)) ∙ ap (λ k. above (path_of paths k)) rest
+    way-after run runs paths i (omega (arith, past)) ∙ way-word runs paths (i - run_leaves run) (omega (arith, past)) ∙ ap (λ k. above (path_of paths k)) rest
 
 -- the words that count on the way to a word
 pub live-word : (runs : List Run) (trees : List TreeSize) (paths : List WordPath) (i depth : ℕ) → leaves_of runs ≤ i → live_of runs trees paths i depth ≡ word_live trees (above (path_of paths (i - leaves_of runs))) depth
@@ -139,13 +139,13 @@ leaf-here all run runs paths i low = record {
   live = λ trees depth. let test : nat_lt i (run_leaves run) ≡ true = lt-ltb i (run_leaves run) low in rw test refl;
 }
 
-pub leaf-behind : (all : List Run) (first : Run) (runs : List Run) (paths : List WordPath) (i : ℕ) (run : Run) (leaf : ℕ) → run_leaves first ≤ i → IsLeaf all runs paths (i - run_leaves first) run leaf →
+pub leaf-after : (all : List Run) (first : Run) (runs : List Run) (paths : List WordPath) (i : ℕ) (run : Run) (leaf : ℕ) → run_leaves first ≤ i → IsLeaf all runs paths (i - run_leaves first) run leaf →
     IsLeaf all (first ∷ runs) paths i run leaf
-leaf-behind all first runs paths i run leaf past is = record {
+leaf-after all first runs paths i run leaf past is = record {
   has = inr is.has;
   low = is.low;
   here = omega (arith, is.here, past);
-  way = way-behind first runs paths i past ∙ is.way;
+  way = way-after first runs paths i past ∙ is.way;
   patch = λ slot old. let test : nat_lt i (run_leaves first) ≡ false = not-less i (run_leaves first) past in rw test (is.patch slot old);
   live = λ trees depth. let test : nat_lt i (run_leaves first) ≡ false = not-less i (run_leaves first) past in rw test (is.live trees depth);
 }
@@ -161,7 +161,7 @@ leaf-at all (head ∷ runs) paths zero i first run low is before past here =
     (subst (λ (r : Run). IsLeaf all (head ∷ runs) paths i r i) (sym is) (leaf-here all head runs paths i (omega (arith, here, before, same))))
 leaf-at all (head ∷ runs) paths (suc k) i first run low is before past here =
     let rest : i - run_leaves head - leaves_of (take k runs) ≡ i - first = omega (arith, before) in
-    leaf-behind all head runs paths i run (i - first) (omega (arith, before, past))
+    leaf-after all head runs paths i run (i - first) (omega (arith, before, past))
     (subst (λ n. IsLeaf all runs paths (i - run_leaves head) run n) rest
     (leaf-at all runs paths k (i - run_leaves head) (leaves_of (take k runs)) run (omega (arith, low)) is refl (omega (arith, before, past)) (omega (arith, before, past, here))))
 
@@ -177,7 +177,7 @@ leaf-of all (first ∷ runs) paths i low = go (cases_lt i (run_leaves first)) (�
   where
     go : (i < run_leaves first) ⊎ (run_leaves first ≤ i) → (run_leaves first ≤ i → HasLeaf all runs paths (i - run_leaves first)) → HasLeaf all (first ∷ runs) paths i
     go (inl here) rest = record { run = first; leaf = i; is = leaf-here all first runs paths i here }
-    go (inr past) rest = let behind = rest past in record { run = behind.run; leaf = behind.leaf; is = leaf-behind all first runs paths i behind.run behind.leaf past behind.is }
+    go (inr past) rest = let beyond = rest past in record { run = beyond.run; leaf = beyond.leaf; is = leaf-after all first runs paths i beyond.run beyond.leaf past beyond.is }
 
 -- to each leaf there is a way
 pub record HasWay (all runs : List Run) (paths : List WordPath) (run : Run) (leaf : ℕ) : Type 0 where
@@ -195,7 +195,7 @@ way-to all (first ∷ runs) paths run leaf (inr more) low =
     let back : run_leaves first + rest.which - run_leaves first ≡ rest.which = omega arith in
     record {
       which = run_leaves first + rest.which;
-      is = leaf-behind all first runs paths (run_leaves first + rest.which) run leaf (omega arith) (subst (λ n. IsLeaf all runs paths n run leaf) (sym back) rest.is);
+      is = leaf-after all first runs paths (run_leaves first + rest.which) run leaf (omega arith) (subst (λ n. IsLeaf all runs paths n run leaf) (sym back) rest.is);
     }
 
 -- by cases: a leaf of a run, or a word
@@ -219,27 +219,27 @@ way-short touched is = ways-by touched (λ p. length p ≤ 11)
     (λ run leaf has low. let short = (is.runs run has).short in omega (arith, short, length-run_way run leaf))
     (λ i here. omega (arith, is.short i here, length-above (path_of (word_paths touched) i)))
 
--- ---- the paths that tell
+-- ---- the paths that report
 
 pub record HasEnd (runs : List Run) (paths : List WordPath) (path : WordPath) : Type 0 where
   pub which : ℕ
   pub here : (count : ℕ) → which < ends_of runs count
   pub is : end_path_of runs paths which ≡ path
 
-end-behind : (first : Run) (runs : List Run) (paths : List WordPath) (path : WordPath) → HasEnd runs paths path → HasEnd (first ∷ runs) paths path
-end-behind first runs paths path end = record { which = suc (suc end.which); here = λ count. omega (arith, end.here count); is = end.is }
+end-after : (first : Run) (runs : List Run) (paths : List WordPath) (path : WordPath) → HasEnd runs paths path → HasEnd (first ∷ runs) paths path
+end-after first runs paths path end = record { which = suc (suc end.which); here = λ count. omega (arith, end.here count); is = end.is }
 
 pub end-first : (runs : List Run) (paths : List WordPath) (run : Run) → Has runs run → HasEnd runs paths (run_path run (run.offset / 8))
 end-first [] paths run has = absurd has
 end-first (first ∷ runs) paths run (inl e) = record { which = 0; here = λ count. omega arith; is = ap (λ (r : Run). run_path r (r.offset / 8)) e }
-end-first (first ∷ runs) paths run (inr more) = end-behind first runs paths (run_path run (run.offset / 8)) (end-first runs paths run more)
+end-first (first ∷ runs) paths run (inr more) = end-after first runs paths (run_path run (run.offset / 8)) (end-first runs paths run more)
 
 pub end-last : (runs : List Run) (paths : List WordPath) (run : Run) → Has runs run → HasEnd runs paths (run_path run ((run_end run - 1) / 8))
 end-last [] paths run has = absurd has
 end-last (first ∷ runs) paths run (inl e) = record { which = 1; here = λ count. omega arith; is = ap (λ (r : Run). run_path r ((run_end r - 1) / 8)) e }
-end-last (first ∷ runs) paths run (inr more) = end-behind first runs paths (run_path run ((run_end run - 1) / 8)) (end-last runs paths run more)
+end-last (first ∷ runs) paths run (inr more) = end-after first runs paths (run_path run ((run_end run - 1) / 8)) (end-last runs paths run more)
 
--- the paths of the words come behind those of the runs
+-- the paths of the words come after those of the runs
 pub ends-count : (runs : List Run) (count : ℕ) → ends_of runs count ≡ 2 * length runs + count
 ends-count [] count = omega arith
 ends-count (run ∷ runs) count = omega (arith, ends-count runs count)
@@ -305,7 +305,7 @@ laid-kept (run ∷ runs) root k old kept = go (bytes_eq run.root.items root) ref
     go false e rest = rw e rest
     go true e rest = rw e (ap (laid_word runs root k) (kept run (inl refl) ((bytes_eq-Decides run.root.items root).0 e)) ∙ rest)
 
--- a word that one of the runs gives anew keeps nothing of what it had
+-- a word that one of the runs gives again keeps nothing of what it had
 pub laid-covered : (runs : List Run) (run : Run) (k one other : ℕ) → Has runs run → ((old new : ℕ) → run_word run k old ≡ run_word run k new) → laid_word runs run.root.items k one ≡ laid_word runs run.root.items k other
 laid-covered [] run k one other has same = absurd has
 laid-covered (first ∷ runs) run k one other (inl e) same =

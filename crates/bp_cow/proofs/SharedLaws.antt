@@ -11,7 +11,7 @@ use Rattle.bp_layout.specs.WordPaths.{WordPath, digits}
 use Rattle.bp_shapes.specs.Forest.{along}
 use Rattle.bp_shapes.specs.Trail.{Trail, trail_of}
 use Rattle.bp_shapes.proofs.ForestLaws.{HasFewDigits, same_along}
-use Rattle.bp_shapes.proofs.PathTrails.{front-trail_of, slot-trail_of, trail_of-next}
+use Rattle.bp_shapes.proofs.PathTrails.{prefix-trail_of, slot-trail_of, trail_of-next}
 use Rattle.bp_cow.specs.declared.touched.Run.{Run}
 use Rattle.bp_cow.specs.declared.touched.Touched.{Touched}
 use Rattle.bp_cow.specs.Job.{ways}
@@ -19,8 +19,8 @@ use Rattle.bp_cow.specs.Touched.{IsRun, IsTouched, job_of, path_of, run_leaves, 
 use Rattle.bp_cow.specs.Ways.{AreFresh, IsShared}
 use Rattle.bp_cow.proofs.CoverLaws.{run-slots}
 use Rattle.bp_cow.proofs.RunLaws.{length-run_path, length-run_way, slot-run_way}
-use Rattle.bp_cow.proofs.RunsLaws.{length-above, slot-above, way-behind, way-leaf, ways-by}
-use Rattle.bp_cow.proofs.RunFronts.{front-digits, short-over, short-power, trail_of-append}
+use Rattle.bp_cow.proofs.RunsLaws.{length-above, slot-above, way-after, way-leaf, ways-by}
+use Rattle.bp_cow.proofs.RunPrefixes.{prefix-digits, short-over, short-power, trail_of-append}
 
 -- ---- any ways
 
@@ -30,10 +30,10 @@ shared-less way count path d e low is = record {
   early = is.early;
   here = omega (arith, low, is.here);
   there = omega (arith, low, is.there);
-  same = front-trail_of path (way is.which) d e is.same low;
+  same = prefix-trail_of path (way is.which) d e is.same low;
 }
 
--- so many fronts, where the one with a slot less is shared and the next is not
+-- as many prefixes, where the one with a slot less is shared and the next is not
 pub shared-upto : (way : ℕ → WordPath) (count : ℕ) (path : WordPath) (n : ℕ) → IsShared way count path n → (IsShared way count path (n + 1) → ⊥) → (d : ℕ) → (d < n + 1) ↔ IsShared way count path d
 shared-upto way count path n is not d =
     (λ low. shared-less way count path n d (omega (arith, low)) is, λ shared. below shared (cases_lt n d))
@@ -45,7 +45,7 @@ shared-upto way count path n is not d =
 pub shared-none : (way : ℕ → WordPath) (path : WordPath) (d : ℕ) → (d < 0) ↔ IsShared way 0 path d
 shared-none way path d = (λ none. absurd (omega (arith, none)), λ is. let early = is.early in omega (arith, early))
 
--- two paths that go together for so many slots
+-- two paths that go together for as many slots
 pub record AreAlike (path other : WordPath) (n : ℕ) : Type 0 where
   pub here : n ≤ length path
   pub there : n ≤ length other
@@ -76,7 +76,7 @@ shared-next way k path other shared n is before alike d = (to (cases_lt d shared
           early = omega arith;
           here = omega (arith, small, alike.here);
           there = rw is (omega (arith, small, alike.there));
-          same = rw is (front-trail_of path other n d alike.same small);
+          same = rw is (prefix-trail_of path other n d alike.same small);
         }
 
     from : IsShared way (k + 1) path d → d < max shared (n + 1)
@@ -103,7 +103,7 @@ shared-either shared n d One All all one = (λ low. to low (cases_lt d shared), 
     from (inl few) = omega (arith, few)
     from (inr has) = let low = one.1 has in omega (arith, low)
 
--- the first leaves of a run, and then those behind
+-- the first leaves of a run, and then those after
 module _ (run : Run) (runs : List Run) (paths : List WordPath) (path : WordPath) (rest leaves d : ℕ) (is : leaves ≡ min (run_leaves run) rest) where
   split : IsShared (way_of (run ∷ runs) paths) rest path d → IsShared (run_way run) leaves path d ⊎ IsShared (way_of runs paths) (rest - leaves) path d
   split s = go (cases_lt s.which (run_leaves run))
@@ -119,7 +119,7 @@ module _ (run : Run) (runs : List Run) (paths : List WordPath) (path : WordPath)
             same = s.same ∙ ap (λ p. trail_of p d) here;
           })
       go (inr past) =
-          let there = way-behind run runs paths s.which past in
+          let there = way-after run runs paths s.which past in
           inr (record {
             which = s.which - run_leaves run;
             early = omega (arith, is, past, s.early);
@@ -140,7 +140,7 @@ module _ (run : Run) (runs : List Run) (paths : List WordPath) (path : WordPath)
       }
   joined (inr s) =
       let back : run_leaves run + s.which - run_leaves run ≡ s.which = omega arith in
-      let there : way_of (run ∷ runs) paths (run_leaves run + s.which) ≡ way_of runs paths s.which = way-behind run runs paths (run_leaves run + s.which) (omega arith) ∙ ap (way_of runs paths) back in
+      let there : way_of (run ∷ runs) paths (run_leaves run + s.which) ≡ way_of runs paths s.which = way-after run runs paths (run_leaves run + s.which) (omega arith) ∙ ap (way_of runs paths) back in
       record {
         which = run_leaves run + s.which;
         early = omega (arith, is, s.early);
@@ -171,7 +171,7 @@ module _ (run : Run) (runs : List Run) (paths : List WordPath) (path : WordPath)
 
 -- ---- the ways to the first leaves of a run
 
--- The path begins with the root of a run and then with so many digits of a number, with which those of some of its first
+-- The path begins with the root of a run and then with as many digits of a number, with which those of some of its first
 -- leaves begin.
 pub record IsInside (run : Run) (leaves : ℕ) (path : WordPath) (e number : ℕ) : Type 0 where
   pub low_level : e ≤ run.height
@@ -188,18 +188,18 @@ module _ (run : Run) (leaves : ℕ) (path : WordPath) (some : 0 < leaves) where
   abbrev pub base : Trail
   base = trail_of root (length root)
 
-  front-root : (j d : ℕ) → d ≤ length root → trail_of (run_way run j) d ≡ trail_of root d
-  front-root j d low = trail_of-append root (digits run.height (run.offset / 4096 + j)) d low
+  prefix-root : (j d : ℕ) → d ≤ length root → trail_of (run_way run j) d ≡ trail_of root d
+  prefix-root j d low = trail_of-append root (digits run.height (run.offset / 4096 + j)) d low
 
   -- the path leaves that of the root
   pub shared-root : (n : ℕ) → AreAlike path root n → n < length root → (d : ℕ) → (d < n + 1) ↔ IsShared (run_way run) leaves path d
   shared-root n alike short = shared-upto (run_way run) leaves path n
-      (record { which = 0; early = some; here = alike.here; there = omega (arith, short, length-run_way run 0); same = alike.same ∙ sym (front-root 0 n (omega (arith, short))) })
+      (record { which = 0; early = some; here = alike.here; there = omega (arith, short, length-run_way run 0); same = alike.same ∙ sym (prefix-root 0 n (omega (arith, short))) })
       not
     where
       not : IsShared (run_way run) leaves path (n + 1) → ⊥
       not s =
-          let low = alike-most path root n (n + 1) alike s.here (omega (arith, short)) (s.same ∙ front-root s.which (n + 1) (omega (arith, short))) in
+          let low = alike-most path root n (n + 1) alike s.here (omega (arith, short)) (s.same ∙ prefix-root s.which (n + 1) (omega (arith, short))) in
           omega (arith, low)
 
   module _ (is : IsRun run) (few : leaves ≤ run_leaves run) where
@@ -251,7 +251,7 @@ module _ (run : Run) (leaves : ℕ) (path : WordPath) (some : 0 < leaves) where
           early = early;
           here = at.here;
           there = omega (arith, at.low_level, length-run_way run j);
-          same = at.trail ∙ ap (along base e) (sym number_is) ∙ sym (front-digits root run.height (first + j) e at.low_level);
+          same = at.trail ∙ ap (along base e) (sym number_is) ∙ sym (prefix-digits root run.height (first + j) e at.low_level);
         }
 
         go : (first < number * p) ⊎ (number * p ≤ first) → IsShared (run_way run) leaves path (length root + e)
@@ -323,7 +323,7 @@ module _ (run : Run) (leaves : ℕ) (path : WordPath) (some : 0 < leaves) where
             let leaf : ℕ = first + s.which in
             let sum : e + 1 + c ≡ run.height = omega (arith, more) in
             let trails : along base (e + 1) (512 * number + slot) ≡ along base (e + 1) (leaf / 512 ^ c) =
-            sym (next_trail e number slot at here few_slot) ∙ ap (trail_of path) (sym next) ∙ s.same ∙ ap (trail_of (run_way run s.which)) next ∙ front-digits root run.height leaf (e + 1) (omega (arith, more)) in
+            sym (next_trail e number slot at here few_slot) ∙ ap (trail_of path) (sym next) ∙ s.same ∙ ap (trail_of (run_way run s.which)) next ∙ prefix-digits root run.height leaf (e + 1) (omega (arith, more)) in
             let early : s.which < leaves = s.early in
             let covers = is.covered in
             let any = is.some in
@@ -359,7 +359,7 @@ pub record IsFresh (touched : Touched) (i fresh : ℕ) : Type 0 where
   pub few : fresh ≤ length ((job_of touched).way i) + 1
   pub right : (d : ℕ) → (d < length ((job_of touched).way i) + 1 - fresh) ↔ IsShared (job_of touched).way i ((job_of touched).way i) d
 
--- with the next way's behind it, it is right of one way more
+-- with the next way's after it, it is right of one way more
 pub listed-next : (touched : Touched) (before : List ℕ) (fresh : ℕ) → AreFresh touched before → IsFresh touched (length before) fresh → AreFresh touched (before ++ fresh ∷ [])
 listed-next touched before fresh are last = record { few = λ i low. (at i low (cases_lt i (length before))).few; right = λ i d low. (at i low (cases_lt i (length before))).right d }
   where
@@ -369,7 +369,7 @@ listed-next touched before fresh are last = record { few = λ i low. (at i low (
         let end : length before ≡ i = omega (arith, past, low, length-append before (fresh ∷ [])) in
         subst (λ k. IsFresh touched k (slice_index (before ++ fresh ∷ []) k)) end (subst (IsFresh touched (length before)) (sym (get_or-append_seam before fresh [] 0)) last)
 
--- the fronts that begin no earlier way are the rest
+-- the prefixes that begin no earlier way are the rest
 pub fresh-rest : (touched : Touched) (i len shared : ℕ) → len ≡ length ((job_of touched).way i) → shared ≤ len + 1
     → ((d : ℕ) → (d < shared) ↔ IsShared (job_of touched).way i ((job_of touched).way i) d) → IsFresh touched i (len + 1 - shared)
 fresh-rest touched i len shared is few right = record {
@@ -377,7 +377,7 @@ fresh-rest touched i len shared is few right = record {
   right = λ d. let back : shared ≡ length ((job_of touched).way i) + 1 - (len + 1 - shared) = omega (arith, is, few) in subst (λ n. (d < n) ↔ IsShared (job_of touched).way i ((job_of touched).way i) d) back (right d);
 }
 
--- no way shares more fronts than it has
+-- no way shares more prefixes than it has
 pub shared-few : (touched : Touched) (i shared : ℕ) → ((d : ℕ) → (d < shared) ↔ IsShared (job_of touched).way i ((job_of touched).way i) d) → shared ≤ length ((job_of touched).way i) + 1
 shared-few touched i shared right = at (cases_lt (length ((job_of touched).way i) + 1) shared)
   where

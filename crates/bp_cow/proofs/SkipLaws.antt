@@ -1,8 +1,8 @@
--- A way of which each front begins an earlier one: nothing is turned, copied or given back for it.
+-- A way of which each prefix begins an earlier one: nothing is turned, copied or given back for it.
 use Rattle.std.proofs.Common.{◌≡◌, ◌⊎◌, ℕ, zero, suc, ◌+◌, ◌-◌, ◌<◌, ◌≤◌, length, Bool, refl, sym, ◌∙◌, ap, subst, arith, inl, inr}
 use Rattle.std.proofs.lemmas.Bool.{cases_lt}
 use Rattle.bp_layout.specs.Words.{Image}
-use Rattle.bp_cow.specs.Job.{Job, front, ways, turned_for, IsBegun}
+use Rattle.bp_cow.specs.Job.{Job, prefix, ways, turned_for, IsBegun}
 use Rattle.bp_cow.specs.Plan.{CanMake, IsMade, IsOnWay, Plan}
 use Rattle.bp_shapes.specs.Trail.{block_on}
 use Rattle.bp_cow.specs.Return.{IsBack, IsLeft}
@@ -13,9 +13,9 @@ use Rattle.bp_cow.proofs.NeedLaws.{turned-low, turned-next, turns_none}
 use Rattle.bp_cow.proofs.ReturnLaws.{IsAtOld, back_none, back_word}
 use Rattle.bp_cow.proofs.StepLaws.{made_before, made_leaf}
 
--- each front of a way, from the cover's on, begins an earlier one
+-- each prefix of a way, from the cover's on, begins an earlier one
 abbrev pub AreBegun : Job → ℕ → ℕ → Type 0
-AreBegun job from i = (d : ℕ) → from ≤ d → d ≤ length (job.way i) → IsBegun job from i (front job i d)
+AreBegun job from i = (d : ℕ) → from ≤ d → d ≤ length (job.way i) → IsBegun job from i (prefix job i d)
 
 pub all-begun : (touched : Touched) (from i : ℕ) → AddsNoBlock touched i → AreBegun (job_of touched) from i
 all-begun touched from i none d low high = let s = none d high in record { which = s.which; depth = d; early = s.early; low = low; high = s.there; same = s.same }
@@ -33,7 +33,7 @@ turned-none job from i (suc depth) begun high = at (turned-none job from i depth
         let here = turns_none job from i (depth + 1) (begun (depth + 1) (omega (arith, low)) (omega (arith, high))) in
         ap (turned_for job from i) (sym next) ∙ omega (arith, turned-next job from i depth low, before, here)
 
--- a depth of a way, by how far it is behind the cover's
+-- a depth of a way, by how far it is after the cover's
 on_way : {plan : Plan} {from i : ℕ} → CanMake plan from → i < ways plan.job → (n : ℕ) → from + n ≤ length (plan.job.way i) → IsOnWay plan from i (from + n)
 on_way can here n high = record { can = can; here = here; low = omega arith; high = high }
 
@@ -59,7 +59,7 @@ module _ (plan : Plan) (from i : ℕ) (before after : ℕ → Bool) (now : Image
   back-upto zero high back = let same : from ≡ from + 0 = omega arith in subst (λ d. IsBack plan from i d before after) same back
   back-upto (suc n) high back =
       let next : from + n + 1 ≡ from + suc n = omega arith in
-      let at : IsAtOld plan from i (from + n) before now (block_on plan.old (front plan.job i (from + n))) =
+      let at : IsAtOld plan from i (from + n) before now (block_on plan.old (prefix plan.job i (from + n))) =
       record { left = left; here = here; low = omega arith; more = omega (arith, high); block_is = refl } in
       subst (λ d. IsBack plan from i d before after) next (back_none at (back-upto n (omega (arith, high)) back) (inr (begun (from + n + 1) (omega arith) (omega (arith, high)))))
 

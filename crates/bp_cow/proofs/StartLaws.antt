@@ -9,10 +9,10 @@ use Rattle.bp_shapes.proofs.PathTrails.{word-placed, low-placed}
 use Rattle.bp_cow.specs.Counting.{IsTreeWord}
 use Rattle.bp_cow.specs.Adds.{IsTakenWord}
 use Rattle.bp_free.specs.Set.{TakesNumber}
-use Rattle.bp_cow.specs.Job.{front, value_upto, laid_on, patch_at}
+use Rattle.bp_cow.specs.Job.{prefix, value_upto, laid_on, patch_at}
 use Rattle.bp_cow.specs.Plan.{Plan, IsMade, CanMake}
 use Rattle.bp_cow.proofs.BuildingLaws.{building_start}
-use Rattle.bp_cow.proofs.BuildFacts.{building_same, anew_start, anew_start_back}
+use Rattle.bp_cow.proofs.BuildFacts.{building_same, renewed_start, renewed_start_back}
 use Rattle.bp_cow.proofs.LayLaws.{lay_plain, lay_laid}
 
 -- Before the first copy: the words and the free blocks are those of the plan, and so is the place of the cover's word.
@@ -27,7 +27,7 @@ module _ {plan : Plan} {from : ℕ} {now : Image} {free : ℕ → Bool} {place :
   Pointer = IsTreePointer plan.old plan.bound
 
   abbrev cover : Trail
-  cover = front plan.job 0 from
+  cover = prefix plan.job 0 from
 
   bones : IsSkeleton plan.old Pointer
   bones = skeleton plan.old plan.bound starts.can.forest starts.can.whole
@@ -85,4 +85,4 @@ module _ {plan : Plan} {from : ℕ} {now : Image} {free : ℕ → Bool} {place :
         (λ s few. lay_laid plan from 0 from starts.can starts.can.some (omega arith) below (λ b. absurd (omega (arith, b.early))) s)
         starts.can.some_blocks bones starts.can.exact (λ p. refl) pointed starts.can.placed taken (subst (λ (ws : Image). EqualBut copy ws mid) (sym starts.same) equal) old_copied in
         let none : 0 - plan.job.leaves ≡ 0 = omega arith in
-        building_same (anew_start plan.job from 0) (anew_start_back plan.job from 0) (rw (none, cover_word, sym starts.can.at) begun)
+        building_same (renewed_start plan.job from 0) (renewed_start_back plan.job from 0) (rw (none, cover_word, sym starts.can.at) begun)

@@ -11,14 +11,14 @@ use Rattle.bp_free.specs.Set.{Set, TakesNumber, has}
 use Rattle.pm_region.specs.Memory.{Memory, current_words}
 use Rattle.bp_cow.specs.Counting.{IsTreeWord}
 use Rattle.bp_cow.specs.Copies.{TurnsTo, pointing_to}
-use Rattle.bp_cow.specs.Job.{front, end_of, word_trail, value_upto, laid_on, patch_at, IsBegun, IsAnew}
-use Rattle.bp_cow.specs.Job.IsAnew.{is_cover, is_begun, is_front}
+use Rattle.bp_cow.specs.Job.{prefix, end_of, word_trail, value_upto, laid_on, patch_at, IsBegun, IsRenewed}
+use Rattle.bp_cow.specs.Job.IsRenewed.{is_cover, is_begun, is_proper_prefix}
 use Rattle.bp_cow.specs.Adds.{IsTakenWord}
 use Rattle.bp_cow.specs.Stage.{IsBuilding}
 use Rattle.bp_cow.specs.Plan.{Plan, planned, seen, IsMade, IsOnWay, reached}
 use Rattle.bp_cow.specs.declared.touched.Touched.{Touched}
 use Rattle.bp_cow.proofs.BuildingLaws.{building_turn, building_block, building_store}
-use Rattle.bp_cow.proofs.BuildFacts.{top, building_same, at_low, at_used, from_is, from_low, free_in_image, anew_more, anew_more_back, not_anew, anew_next, anew_next_back, value-here, value-other}
+use Rattle.bp_cow.proofs.BuildFacts.{top, building_same, at_low, at_used, from_is, from_low, free_in_image, renewed_more, renewed_more_back, not_renewed, renewed_next, renewed_next_back, value-here, value-other}
 use Rattle.bp_cow.proofs.LayLaws.{lay_plain, lay_laid}
 
 -- On a way, at a depth: what is made up to there, and the block that is reached.
@@ -45,20 +45,20 @@ module _ {plan : Plan} {from i depth : ℕ} {now : Image} {free : ℕ → Bool} 
   are = pointers plan.old plan.bound at.on.can.forest
 
   abbrev way : Trail
-  way = front plan.job i depth
+  way = prefix plan.job i depth
 
   live : Pointer way
   live = at.on.can.pointers i depth at.on.here at.on.high
 
-  anew_here : IsAnew plan.job from i depth way
-  anew_here = go (cases_eq depth from)
+  renewed_here : IsRenewed plan.job from i depth way
+  renewed_here = go (cases_eq depth from)
     where
-      go : (depth ≡ from) ⊎ (depth ≡ from → ⊥) → IsAnew plan.job from i depth way
-      go (inl e) = is_cover (ap (front plan.job i) e ∙ at.on.can.cover i at.on.here)
-      go (inr deep) = is_front depth (omega (arith, at.on.low, deep)) (omega arith) refl
+      go : (depth ≡ from) ⊎ (depth ≡ from → ⊥) → IsRenewed plan.job from i depth way
+      go (inl e) = is_cover (ap (prefix plan.job i) e ∙ at.on.can.cover i at.on.here)
+      go (inr deep) = is_proper_prefix depth (omega (arith, at.on.low, deep)) (omega arith) refl
 
   -- a block that is fresh, or free now, was free at the start
-  fresh_free : (p : Trail) → Pointer p → IsAnew plan.job from i depth p → plan.free (block_on (seen plan now) p) ≡ true
+  fresh_free : (p : Trail) → Pointer p → IsRenewed plan.job from i depth p → plan.free (block_on (seen plan now) p) ≡ true
   fresh_free p live new =
       let stage = at.made.stage in
       let fresh = stage.fresh p live new in
@@ -78,15 +78,15 @@ module _ {plan : Plan} {from i depth : ℕ} {now : Image} {free : ℕ → Bool} 
 
   module _ (slot : ℕ) (slot_low : slot < 512) where
     pub place_low : 512 * block + slot < length now
-    place_low = rw at.block_is (at_low are at.made way slot live anew_here slot_low)
+    place_low = rw at.block_is (at_low are at.made way slot live renewed_here slot_low)
 
     place_used : free ((512 * block + slot) / 512) ≡ false
-    place_used = rw at.block_is (at_used are at.made way slot live anew_here slot_low)
+    place_used = rw at.block_is (at_used are at.made way slot live renewed_here slot_low)
 
     pub place_taken : IsTakenWord plan.free free (512 * block + slot)
     place_taken =
         let here : (512 * block + slot) / 512 ≡ block = omega (arith, slot_low) in
-        record { block = (512 * block + slot) / 512; inside = refl; was = ap plan.free (here ∙ at.block_is) ∙ fresh_free way live anew_here; gone = place_used }
+        record { block = (512 * block + slot) / 512; inside = refl; was = ap plan.free (here ∙ at.block_is) ∙ fresh_free way live renewed_here; gone = place_used }
 
   module _ {slot : ℕ} (on : GoesOn plan i depth slot) where
     slot_low : slot < 512
@@ -95,22 +95,22 @@ module _ {plan : Plan} {from i depth : ℕ} {now : Image} {free : ℕ → Bool} 
     pub next_low : 512 * block + slot < length now
     next_low = place_low slot slot_low
 
-    next_is : front plan.job i (depth + 1) ≡ slot ∷ way
+    next_is : prefix plan.job i (depth + 1) ≡ slot ∷ way
     next_is = trail_of-next (plan.job.way i) depth ∙ ap (λ s. s ∷ way) (sym on.slot_is)
 
     pointed : Pointer (slot ∷ way)
     pointed = subst Pointer next_is (at.on.can.pointers i (depth + 1) at.on.here (omega (arith, on.more)))
 
     pub loaded : block_of (word now (512 * block + slot)) ≡ reached plan i (depth + 1) now
-    loaded = rw at.block_is (from_is are at.made way slot live anew_here slot_low) ∙ ap (block_on (seen plan now)) (sym next_is)
+    loaded = rw at.block_is (from_is are at.made way slot live renewed_here slot_low) ∙ ap (block_on (seen plan now)) (sym next_is)
 
     pub loaded_low : 512 * block_of (word now (512 * block + slot)) + 512 ≤ length now
-    loaded_low = rw at.block_is (from_low are at.made way slot live anew_here slot_low pointed)
+    loaded_low = rw at.block_is (from_low are at.made way slot live renewed_here slot_low pointed)
 
-    module _ {after : Image} {copy : ℕ} {free_after : ℕ → Bool} (none : IsBegun plan.job from i (front plan.job i (depth + 1)) → ⊥)
+    module _ {after : Image} {copy : ℕ} {free_after : ℕ → Bool} (none : IsBegun plan.job from i (prefix plan.job i (depth + 1)) → ⊥)
         (turned : TurnsTo (patch_at plan.job i (depth + 1)) (plan.job.live i (depth + 1)) now after (512 * block + slot) copy) (takes : TakesNumber free free_after copy) where
-      first : IsAnew plan.job from i depth (slot ∷ way) → ⊥
-      first n = not_anew plan.job from i depth at.on.low none (subst (IsAnew plan.job from i depth) (sym next_is) n)
+      first : IsRenewed plan.job from i depth (slot ∷ way) → ⊥
+      first n = not_renewed plan.job from i depth at.on.low none (subst (IsRenewed plan.job from i depth) (sym next_is) n)
 
       counts : (s : ℕ) → s < 512 → Pointer (s ∷ slot ∷ way) ⊎ IsTreeWord plan.old plan.bound (s ∷ slot ∷ way) → s < plan.job.live i (depth + 1)
       counts s few any =
@@ -132,20 +132,20 @@ module _ {plan : Plan} {from i depth : ℕ} {now : Image} {free : ℕ → Bool} 
 
       pub made_copy : IsMade plan from i (depth + 1) after free_after
       made_copy =
-          building_same (λ q n. anew_more plan.job from i depth q (to q n) at.on.low) (λ q n. back q (anew_more_back plan.job from i depth q n))
-          (building_turn are at.made way slot live anew_here slot_low pointed first counts plain lays turned_there takes)
+          building_same (λ q n. renewed_more plan.job from i depth q (to q n) at.on.low) (λ q n. back q (renewed_more_back plan.job from i depth q n))
+          (building_turn are at.made way slot live renewed_here slot_low pointed first counts plain lays turned_there takes)
         where
-          to : (q : Trail) → IsAnew plan.job from i depth q ⊎ (q ≡ slot ∷ way) → IsAnew plan.job from i depth q ⊎ (q ≡ front plan.job i (depth + 1))
+          to : (q : Trail) → IsRenewed plan.job from i depth q ⊎ (q ≡ slot ∷ way) → IsRenewed plan.job from i depth q ⊎ (q ≡ prefix plan.job i (depth + 1))
           to q (inl n) = inl n
           to q (inr e) = inr (e ∙ sym next_is)
 
-          back : (q : Trail) → IsAnew plan.job from i depth q ⊎ (q ≡ front plan.job i (depth + 1)) → IsAnew plan.job from i depth q ⊎ (q ≡ slot ∷ way)
+          back : (q : Trail) → IsRenewed plan.job from i depth q ⊎ (q ≡ prefix plan.job i (depth + 1)) → IsRenewed plan.job from i depth q ⊎ (q ≡ slot ∷ way)
           back q (inl n) = inl n
           back q (inr e) = inr (e ∙ next_is)
 
       pub copy_reached : copy ≡ reached plan i (depth + 1) after
       copy_reached =
-          sym (building_block are at.made way slot live anew_here slot_low pointed first counts plain lays turned_there takes)
+          sym (building_block are at.made way slot live renewed_here slot_low pointed first counts plain lays turned_there takes)
           ∙ ap (block_on (seen plan after)) (sym next_is)
 
       pub stored_taken : (place : ℕ) → (place / 512 ≡ copy) ⊎ (place ≡ 512 * block + slot) → IsTakenWord plan.free free_after place
@@ -160,10 +160,10 @@ module _ {plan : Plan} {from i depth : ℕ} {now : Image} {free : ℕ → Bool} 
 
 module _ {plan : Plan} {from i depth : ℕ} {now : Image} {free : ℕ → Bool} (on : IsOnWay plan from i depth) (made : IsMade plan from i depth now free) where
   -- an earlier way has had the next block copied
-  pub made_before : IsBegun plan.job from i (front plan.job i (depth + 1)) → IsMade plan from i (depth + 1) now free
-  made_before begun = building_same (λ q n. anew_more plan.job from i depth q (inl n) on.low) (λ q n. back q (anew_more_back plan.job from i depth q n)) made
+  pub made_before : IsBegun plan.job from i (prefix plan.job i (depth + 1)) → IsMade plan from i (depth + 1) now free
+  made_before begun = building_same (λ q n. renewed_more plan.job from i depth q (inl n) on.low) (λ q n. back q (renewed_more_back plan.job from i depth q n)) made
     where
-      back : (q : Trail) → IsAnew plan.job from i depth q ⊎ (q ≡ front plan.job i (depth + 1)) → IsAnew plan.job from i depth q
+      back : (q : Trail) → IsRenewed plan.job from i depth q ⊎ (q ≡ prefix plan.job i (depth + 1)) → IsRenewed plan.job from i depth q
       back q (inl n) = n
       back q (inr e) = is_begun (subst (IsBegun plan.job from i) (sym e) begun)
 
@@ -179,24 +179,24 @@ module _ {plan : Plan} {from i depth : ℕ} {now : Image} {free : ℕ → Bool} 
 pub whole_length : {plan : Plan} {from i : ℕ} → IsOnWay plan from i from → IsOnWay plan from i (length (plan.job.way i))
 whole_length way = record { can = way.can; here = way.here; low = way.high; high = omega arith }
 
--- what is made by the plan where these pointers lead to copies, and the first words, so many, are given their values
+-- what is made by the plan where these pointers lead to copies, and the first words, as many, are given their values
 abbrev IsMadeOf : Plan → ℕ → (Trail → Type 0) → ℕ → Image → (ℕ → Bool) → Type 0
-IsMadeOf plan from anew count now free =
-    IsBuilding plan.old now plan.place (pointing_to (word plan.old plan.place) plan.top) (front plan.job 0 from)
-    (IsTreePointer plan.old plan.bound) (IsTreeWord plan.old plan.bound) anew (value_upto plan.job count) (laid_on plan.old plan.job) plan.in_snapshot free
+IsMadeOf plan from renewed count now free =
+    IsBuilding plan.old now plan.place (pointing_to (word plan.old plan.place) plan.top) (prefix plan.job 0 from)
+    (IsTreePointer plan.old plan.bound) (IsTreeWord plan.old plan.bound) renewed (value_upto plan.job count) (laid_on plan.old plan.job) plan.in_snapshot free
 
 -- its pointers are now among those of the first ways
 whole_way : {plan : Plan} {from i depth : ℕ} {free : ℕ → Bool} → IsOnWay plan from i depth → depth ≡ length (plan.job.way i) → (words : Image) (count : ℕ) →
-    IsMadeOf plan from (IsAnew plan.job from i depth) count words free → IsMadeOf plan from (IsAnew plan.job from (i + 1) from) count words free
+    IsMadeOf plan from (IsRenewed plan.job from i depth) count words free → IsMadeOf plan from (IsRenewed plan.job from (i + 1) from) count words free
 whole_way {plan} {from} {i} {depth} on last words count made =
     let cover = on.can.cover i on.here in
-    building_same (λ q n. anew_next plan.job from i depth last on.low cover q n) (λ q n. anew_next_back plan.job from i depth last on.low cover q n) made
+    building_same (λ q n. renewed_next plan.job from i depth last on.low cover q n) (λ q n. renewed_next_back plan.job from i depth last on.low cover q n) made
 
 module _ {plan : Plan} {from i depth : ℕ} {now : Image} {free : ℕ → Bool} (on : IsOnWay plan from i depth) (last : depth ≡ length (plan.job.way i)) where
   pub made_leaf : IsMade plan from i depth now free → i < plan.job.leaves → IsMade plan from (i + 1) from now free
   made_leaf made leaf =
       let same : i - plan.job.leaves ≡ (i + 1) - plan.job.leaves = omega (arith, leaf) in
-      subst (λ n. IsMadeOf plan from (IsAnew plan.job from (i + 1) from) n now free) same (whole_way on last now (i - plan.job.leaves) made)
+      subst (λ n. IsMadeOf plan from (IsRenewed plan.job from (i + 1) from) n now free) same (whole_way on last now (i - plan.job.leaves) made)
 
   -- and the word at its end is given its value
   pub made_word : {block : ℕ} → HasReached plan from i depth now free block → (w : ℕ) → plan.job.leaves + w ≡ i →
@@ -205,12 +205,12 @@ module _ {plan : Plan} {from i depth : ℕ} {now : Image} {free : ℕ → Bool} 
       let few : w < plan.job.words = omega (arith, on.here, is) in
       let before_it : i - plan.job.leaves ≡ w = omega (arith, is) in
       let with_it : w + 1 ≡ (i + 1) - plan.job.leaves = omega (arith, is) in
-      let end : word_trail plan.job w ≡ plan.job.slot w ∷ way at = ap (λ k. plan.job.slot w ∷ end_of plan.job k) is ∙ ap (λ d. plan.job.slot w ∷ front plan.job i d) (sym last) in
+      let end : word_trail plan.job w ≡ plan.job.slot w ∷ way at = ap (λ k. plan.job.slot w ∷ end_of plan.job k) is ∙ ap (λ d. plan.job.slot w ∷ prefix plan.job i d) (sym last) in
       let stored = set now (512 * reached plan i depth now + plan.job.slot w) (plan.job.value w) in
-      let before : IsMadeOf plan from (IsAnew plan.job from i depth) w now free = subst (λ n. IsMadeOf plan from (IsAnew plan.job from i depth) n now free) before_it at.made in
-      let after : IsMadeOf plan from (IsAnew plan.job from i depth) (w + 1) stored free =
-      building_store (are at) before (way at) (plan.job.slot w) (live at) (anew_here at) (on.can.word_slots w few) (plan.job.value w) (value_upto plan.job (w + 1))
+      let before : IsMadeOf plan from (IsRenewed plan.job from i depth) w now free = subst (λ n. IsMadeOf plan from (IsRenewed plan.job from i depth) n now free) before_it at.made in
+      let after : IsMadeOf plan from (IsRenewed plan.job from i depth) (w + 1) stored free =
+      building_store (are at) before (way at) (plan.job.slot w) (live at) (renewed_here at) (on.can.word_slots w few) (plan.job.value w) (value_upto plan.job (w + 1))
       (λ p. on.can.contents w few (subst (Pointer at) (sym end) p))
       (subst (λ (q : Trail). value_upto plan.job (w + 1) q ≡ Some (plan.job.value w)) end (value-here plan.job w))
       (λ q other. value-other plan.job w q (λ e. other (e ∙ end))) in
-      rw at.block_is (subst (λ n. IsMadeOf plan from (IsAnew plan.job from (i + 1) from) n stored free) with_it (whole_way on last stored (w + 1) after))
+      rw at.block_is (subst (λ n. IsMadeOf plan from (IsRenewed plan.job from (i + 1) from) n stored free) with_it (whole_way on last stored (w + 1) after))

@@ -17,7 +17,7 @@ use Rattle.bp_cow.specs.CanCommit.{CanCommit}
 use Rattle.bp_cow.proofs.BuildFacts.{value-none, laid-leaf, laid-other}
 use Rattle.bp_cow.proofs.RunLaws.{run_word-outside}
 use Rattle.bp_cow.proofs.RunsLaws.{HasLeaf, laid-kept, way-to}
-use Rattle.bp_cow.proofs.RunFronts.{leaf-trail-of, run-trail}
+use Rattle.bp_cow.proofs.RunPrefixes.{leaf-trail-of, run-trail}
 use Rattle.bp_cow.proofs.RunPointers.{same-path}
 use Rattle.bp_cow.proofs.WayPointers.{word-trail, leaf-at, leaf-end, leaves-agree}
 
@@ -105,7 +105,7 @@ module _ {in_snapshot : ℕ → Bool} (old : Image) (bound : ℕ → ℕ) (touch
           split : (run : Run) → Has touched.runs.now run → run.root.items ≡ at.run.root.items → (number < run.offset / 8) ⊎ (run.offset / 8 ≤ number) → ((run_end run - 1) / 8 < number) ⊎ (number ≤ (run_end run - 1) / 8) →
               (8 * number + 8 ≤ run.offset) ⊎ (run_end run ≤ 8 * number)
           split run has roots (inl before) any = inl (omega (arith, before))
-          split run has roots (inr first) (inl behind) = inr (omega (arith, behind))
+          split run has roots (inr first) (inl beyond) = inr (omega (arith, beyond))
           split run has roots (inr first) (inr inside) =
               let same_path : run_path run number ≡ run_path at.run number =
               same-path old bound can.forest run at.run (can.shape.runs run has) (can.shape.runs at.run at.is.has) (can.runs run has) (can.runs at.run at.is.has) roots number in

@@ -18,7 +18,7 @@ some-low : (runs : List Run) (paths : List WordPath) (i : ℕ) (leaf : Option Le
 some-low runs paths i None not is = absurd (cc)
 some-low runs paths i (Some leaf) not is = is.here
 
--- with no leaf it lies behind the ways to leaves
+-- with no leaf it lies after the ways to leaves
 pub at_word : (touched : Touched) (way : Way) → IsWay touched way → is_some way.leaf ≡ false → leaves_of touched.runs.now ≤ way.index
 at_word touched way is none = is.none (none-of way.leaf none)
 

@@ -16,10 +16,10 @@ use Rattle.bp_cow.specs.Touched.{run_way, leaves_of, live_of, way_of, above, pat
 use Rattle.bp_cow.specs.Job.{ways, end_of, word_trail}
 use Rattle.bp_cow.specs.Counting.{IsTreeWord}
 use Rattle.bp_cow.specs.CanCommit.{CanCommit}
-use Rattle.bp_cow.proofs.RunPointers.{leaf-counts, leaf-fronts, leaf-plain, same-leaf}
+use Rattle.bp_cow.proofs.RunPointers.{leaf-counts, leaf-prefixes, leaf-plain, same-leaf}
 use Rattle.bp_cow.proofs.RunLaws.{length-run_path, length-run_way, slot-run_way}
 use Rattle.bp_cow.proofs.RunsLaws.{HasLeaf, leaf-here, leaf-of, length-above, live-word, way-leaf, way-short, way-word, ways-by}
-use Rattle.bp_cow.proofs.RunFronts.{trail_of-take}
+use Rattle.bp_cow.proofs.RunPrefixes.{trail_of-take}
 use Rattle.bp_cow.proofs.CoverLaws.{run-slots}
 use Rattle.bp_cow.proofs.WordLive.{word-counts}
 
@@ -61,9 +61,9 @@ module _ {in_snapshot : ℕ → Bool} {old : Image} {bound : ℕ → ℕ} {touch
   abbrev path : ℕ → List ℕ
   path i = path_of (word_paths touched) i
 
-  pub ways-fronts : (i : ℕ) → i < ways (job_of touched) → (d : ℕ) → d ≤ length ((job_of touched).way i) → IsTreePointer old bound (trail_of ((job_of touched).way i) d)
-  ways-fronts = ways-by touched (λ p. (d : ℕ) → d ≤ length p → IsTreePointer old bound (trail_of p d))
-      (λ run j has low d short. leaf-fronts old bound can.forest run (can.shape.runs run has) (can.runs run has) j d low short)
+  pub ways-prefixes : (i : ℕ) → i < ways (job_of touched) → (d : ℕ) → d ≤ length ((job_of touched).way i) → IsTreePointer old bound (trail_of ((job_of touched).way i) d)
+  ways-prefixes = ways-by touched (λ p. (d : ℕ) → d ≤ length p → IsTreePointer old bound (trail_of p d))
+      (λ run j has low d short. leaf-prefixes old bound can.forest run (can.shape.runs run has) (can.runs run has) j d low short)
       (λ i here d low.
       let some : 1 ≤ length (path i) = can.shape.words i here in
       let less : d < length (path i) = omega (arith, low, length-above (path i), some) in
@@ -90,7 +90,7 @@ module _ {in_snapshot : ℕ → Bool} {old : Image} {bound : ℕ → ℕ} {touch
     where
       go : (i < leaves_of touched.runs.now) ⊎ (leaves_of touched.runs.now ≤ i) → slot < live_of touched.runs.now touched.trees.now (word_paths touched) i depth
       go (inr past) =
-          let counted = word-counts old bound can.forest ((job_of touched).way i) depth (λ d less. ways-slots i here d (omega (arith, less, short))) (ways-fronts i here depth short) slot small any touched.trees.now can.trees in
+          let counted = word-counts old bound can.forest ((job_of touched).way i) depth (λ d less. ways-slots i here d (omega (arith, less, short))) (ways-prefixes i here depth short) slot small any touched.trees.now can.trees in
           rw (live-word touched.runs.now touched.trees.now (word_paths touched) i depth past)
           (subst (λ p. slot < word_live touched.trees.now p depth) (way-word touched.runs.now (word_paths touched) i past) counted)
       go (inl low) =

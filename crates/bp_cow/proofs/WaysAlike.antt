@@ -10,7 +10,7 @@ use Rattle.bp_shapes.specs.Trail.IsPlaced.{at_top, in_block}
 use Rattle.bp_shapes.specs.Forest.{IsTreePointer}
 use Rattle.bp_shapes.proofs.ForestLaws.{skeleton}
 use Rattle.bp_shapes.proofs.ExactSets.{unheld_exact}
-use Rattle.bp_shapes.proofs.PathTrails.{front-trail_of}
+use Rattle.bp_shapes.proofs.PathTrails.{prefix-trail_of}
 use Rattle.bp_cow.specs.declared.touched.Run.{Run}
 use Rattle.bp_cow.specs.declared.touched.Touched.{Touched}
 use Rattle.bp_cow.specs.Touched.{run_path, run_way, run_end, run_leaves, leaves_of, way_of, above, path_of, word_paths, job_of}
@@ -20,10 +20,10 @@ use Rattle.bp_cow.specs.CanCommit.{CanCommit}
 use Rattle.bp_cow.specs.Plan.{IsFeasible}
 use Rattle.bp_cow.proofs.RunLaws.{length-run_path, length-run_way}
 use Rattle.bp_cow.proofs.RunsLaws.{HasEnd, end-first, end-last, end-of-word, ends-count, length-above, ways-by}
-use Rattle.bp_cow.proofs.RunFronts.{first-trail, front-run_way, between-run}
+use Rattle.bp_cow.proofs.RunPrefixes.{first-trail, prefix-run_way, between-run}
 use Rattle.bp_cow.proofs.CoverLaws.{end-slots, some-ends}
 use Rattle.bp_cow.proofs.RunPointers.{leaf-plain}
-use Rattle.bp_cow.proofs.WayPointers.{above-trail, first-way, ways-fronts, ways-short, ways-slots, word-trail, ways-count, leaves-bare, leaves-agree}
+use Rattle.bp_cow.proofs.WayPointers.{above-trail, first-way, ways-prefixes, ways-short, ways-slots, word-trail, ways-count, leaves-bare, leaves-agree}
 
 module _ {in_snapshot : ℕ → Bool} {old : Image} {bound : ℕ → ℕ} {touched : Touched} {free : ℕ → Bool} (can : CanCommit old bound in_snapshot touched free) where
   abbrev path : ℕ → List ℕ
@@ -36,8 +36,8 @@ module _ {in_snapshot : ℕ → Bool} {old : Image} {bound : ℕ → ℕ} {touch
     some-ways : 0 < ways (job_of touched)
     some-ways = can.shape.some
 
-    first-front : (d : ℕ) → d ≤ length ((job_of touched).way 0) → trail_of ((job_of touched).way 0) d ≡ trail_of first d
-    first-front d low = go touched.runs.now refl
+    first-prefix : (d : ℕ) → d ≤ length ((job_of touched).way 0) → trail_of ((job_of touched).way 0) d ≡ trail_of first d
+    first-prefix d low = go touched.runs.now refl
       where
         go : (runs : List Run) → touched.runs.now ≡ runs → trail_of ((job_of touched).way 0) d ≡ trail_of first d
         go [] e =
@@ -49,12 +49,12 @@ module _ {in_snapshot : ℕ → Bool} {old : Image} {bound : ℕ → ℕ} {touch
         go (run ∷ runs) e =
             let way : (job_of touched).way 0 ≡ run_way run 0 = first-way touched run runs e in
             let leaf : run.offset / 8 / 512 ≡ run.offset / 4096 + 0 = omega arith in
-            ap (λ p. trail_of p d) way ∙ front-run_way run 0 (run.offset / 8) d leaf (subst (λ p. d ≤ length p) way low) ∙ ap (λ r. trail_of (end_path_of r (word_paths touched) 0) d) (sym e)
+            ap (λ p. trail_of p d) way ∙ prefix-run_way run 0 (run.offset / 8) d leaf (subst (λ p. d ≤ length p) way low) ∙ ap (λ r. trail_of (end_path_of r (word_paths touched) 0) d) (sym e)
 
     pub first-pointer : (d : ℕ) → d ≤ length ((job_of touched).way 0) → IsTreePointer old bound (trail_of first d)
-    first-pointer d low = subst (IsTreePointer old bound) (first-front d low) (ways-fronts can 0 some-ways d low)
+    first-pointer d low = subst (IsTreePointer old bound) (first-prefix d low) (ways-prefixes can 0 some-ways d low)
 
-    -- a word's path, among the paths that tell
+    -- a word's path, among the paths that report
     end-word : (i : ℕ) → i < length touched.words.now → (n ≤ length (path i)) × (trail_of (path i) n ≡ trail_of first n)
     end-word i here =
         let at : 2 * length touched.runs.now + i < ends touched = omega (arith, here, ends-count touched.runs.now (length touched.words.now)) in
@@ -75,7 +75,7 @@ module _ {in_snapshot : ℕ → Bool} {old : Image} {bound : ℕ → ℕ} {touch
 
     begin-leaf : (run : Run) (j : ℕ) → Has touched.runs.now run → j < run_leaves run → (n ≤ length (run_way run j)) × (trail_of (run_way run j) n ≡ trail_of first n)
     begin-leaf run j has low =
-        (long, front-run_way run j k n leaf long ∙ between-run run (run.offset / 8) k ((run_end run - 1) / 8) n from_first to_last few (omega (arith, long, length-run_way run j)) (from_start ∙ sym from_end) ∙ from_start)
+        (long, prefix-run_way run j k n leaf long ∙ between-run run (run.offset / 8) k ((run_end run - 1) / 8) n from_first to_last few (omega (arith, long, length-run_way run j)) (from_start ∙ sym from_end) ∙ from_start)
       where
         start : HasEnd touched.runs.now (word_paths touched) (run_path run (run.offset / 8))
         start = end-first touched.runs.now (word_paths touched) run has
@@ -139,16 +139,16 @@ module _ {in_snapshot : ℕ → Bool} {old : Image} {bound : ℕ → ℕ} {touch
       exact = unheld_exact old bound can.forest in_snapshot free can.exact;
       below = λ i here. (begin-way i here).0;
       short = ways-short can;
-      cover = λ i here. (begin-way i here).1 ∙ sym (first-front n short);
-      pointers = λ i d here low. ways-fronts can i here d low;
+      cover = λ i here. (begin-way i here).1 ∙ sym (first-prefix n short);
+      pointers = λ i d here low. ways-prefixes can i here d low;
       slots = λ i d here low. ways-slots can i here d low;
       word_slots = λ i here. let some = can.shape.words i here in can.shape.slots i (length (path i) - 1) here (omega (arith, some));
       contents = λ i here one. can.contents i here (subst (IsTreePointer old bound) (word-trail can i here) one);
       bare = λ j slot low one. leaves-bare can j slot low one;
       agree = λ j l low small same slot w. leaves-agree can j l low small same slot w;
       live = λ i d slot here low small any. ways-count can i d slot here low small any;
-      placed = subst (IsPlaced old (IsTreePointer old bound)) (sym (first-front n short)) (placed-first n (omega arith) exists);
-      at = ap (place_on old) (first-front n short) ∙ at;
+      placed = subst (IsPlaced old (IsTreePointer old bound)) (sym (first-prefix n short)) (placed-first n (omega arith) exists);
+      at = ap (place_on old) (first-prefix n short) ∙ at;
     }
 
   pub first-length : length (end_path touched 0) ≡ length ((job_of touched).way 0) + 1
@@ -167,7 +167,7 @@ module _ {in_snapshot : ℕ → Bool} {old : Image} {bound : ℕ → ℕ} {touch
   pub alike-less : (m : ℕ) → BeginAlike touched (suc m) → BeginAlike touched m
   alike-less m alike = record {
     long = λ i here. omega (arith, alike.long i here);
-    same = λ i here. front-trail_of (end_path touched i) (end_path touched 0) (suc m) m (alike.same i here) (omega arith);
+    same = λ i here. prefix-trail_of (end_path touched i) (end_path touched 0) (suc m) m (alike.same i here) (omega arith);
   }
 
 -- the pointers that the way to the cover reads

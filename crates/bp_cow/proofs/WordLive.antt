@@ -27,7 +27,7 @@ pub number-low : (n count : ℕ) → n < 512 ^ count → count ≤ 5 → n < 2 ^
 number-low n count low few = let most : 512 ^ count ≤ 512 ^ 5 = pow-le-pow_right {n = 512} (omega arith) few in omega (arith, low, most)
 
 module _ (path : WordPath) (from : ℕ) where
-  -- the trail of a front by the number that its slots make
+  -- the trail of a prefix by the number that its slots make
   slots-along : (count : ℕ) → ((d : ℕ) → d < from + count → slice_index path d < 512) → trail_of path (from + count) ≡ along (trail_of path from) count (slots_number path from count)
   slots-along zero small = let here : from + 0 ≡ from = omega arith in ap (trail_of path) here
   slots-along (suc count) small =

@@ -16,7 +16,7 @@ use Rattle.bp_cow.specs.declared.touched.Touched.{Touched}
 use Rattle.bp_cow.specs.declared.touched.TreeSize.{TreeSize}
 
 -- the set has exactly the blocks of the image's snapshot
-pub record TellsSnapshot (in_snapshot : ℕ → Bool) (image : Image) (set : Set) : Type 0 where
+pub record IsSetOfSnapshot (in_snapshot : ℕ → Bool) (image : Image) (set : Set) : Type 0 where
   pub room : block_count image ≤ length set
   pub same : (b : ℕ) → has set b ≡ in_snapshot b
 

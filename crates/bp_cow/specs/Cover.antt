@@ -55,7 +55,7 @@ pub record CoverHas (image : Image) (touched : Touched) (count : ℕ) : Type 0 w
 
 -- the longest path that exists and is a prefix of each touched path
 pub record IsCover (image : Image) (touched : Touched) (path : WordPath) : Type 0 where
-  pub front : path ≡ take (length path) (end_path touched 0)
+  pub prefix : path ≡ take (length path) (end_path touched 0)
   pub has : CoverHas image touched (length path)
 
 -- The cover of a commit by its definition; `copied_paths`: the pointers whose blocks it copies; `copied_count`: the

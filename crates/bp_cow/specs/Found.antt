@@ -5,8 +5,8 @@ use Rattle.bp_shapes.specs.Trail.{block_on, place_on, trail_of, IsPlaced}
 use Rattle.bp_cow.specs.Cover.{end_path, BeginAlike, CoverHas}
 use Rattle.bp_cow.specs.declared.touched.Touched.{Touched}
 use Rattle.bp_cow.specs.Ways.{AreShared}
-use Rattle.bp_cow.specs.declared.covering.FoundCover.{FoundCover}
-use Rattle.bp_cow.specs.declared.covering.FoundWays.{FoundWays}
+use Rattle.bp_cow.specs.declared.covers.FoundCover.{FoundCover}
+use Rattle.bp_cow.specs.declared.covers.FoundWays.{FoundWays}
 
 pub record IsAt (image : Image) (touched : Touched) (found : FoundCover) : Type 0 where
   pub alike : BeginAlike touched found.len

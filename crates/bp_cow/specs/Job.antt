@@ -20,8 +20,8 @@ abbrev pub ways : Job → ℕ
 ways job = job.leaves + job.words
 
 -- the trail of the first `depth` slots of a way
-abbrev pub front : Job → ℕ → ℕ → Trail
-front job i depth = trail_of (job.way i) depth
+abbrev pub prefix : Job → ℕ → ℕ → Trail
+prefix job i depth = trail_of (job.way i) depth
 
 -- the trail of a whole way
 abbrev pub end_of : Job → ℕ → Trail
@@ -38,14 +38,14 @@ pub record IsBegun (job : Job) (from count : ℕ) (q : Trail) : Type 0 where
   pub early : which < count
   pub low : from ≤ depth
   pub high : depth ≤ length (job.way which)
-  pub same : q ≡ front job which depth
+  pub same : q ≡ prefix job which depth
 
 -- the pointers that lead to copies so far: that of the cover, those on the first `i` ways, and those on way `i` up to a
 -- depth
-pub data IsAnew (job : Job) (from i depth : ℕ) (q : Trail) : Type 0 where
-  is_cover : q ≡ front job 0 from → IsAnew job from i depth q
-  is_begun : IsBegun job from i q → IsAnew job from i depth q
-  is_front : (count : ℕ) → from < count → count ≤ depth → q ≡ front job i count → IsAnew job from i depth q
+pub data IsRenewed (job : Job) (from i depth : ℕ) (q : Trail) : Type 0 where
+  is_cover : q ≡ prefix job 0 from → IsRenewed job from i depth q
+  is_begun : IsBegun job from i q → IsRenewed job from i depth q
+  is_proper_prefix : (count : ℕ) → from < count → count ≤ depth → q ≡ prefix job i count → IsRenewed job from i depth q
 
 -- the value of the last of the first words that has this trail
 abbrev pub value_upto : Job → ℕ → Trail → Option ℕ
@@ -71,11 +71,11 @@ patch_at job i depth slot old =
 abbrev pub begins : Job → ℕ → ℕ → Trail → Bool
 begins job from zero q = false
 begins job from (suc i) q = begins job from i q || (nat_le from (length q) && nat_le (length q) (length (job.way i))
-    && bytes_eq q (front job i (length q)))
+    && bytes_eq q (prefix job i (length q)))
 
 -- 1 if a pointer on a way is set for this way, because no earlier way has it; else 0
 abbrev pub turns_at : Job → ℕ → ℕ → ℕ → ℕ
-turns_at job from i depth = if begins job from i (front job i depth) then 0 else 1
+turns_at job from i depth = if begins job from i (prefix job i depth) then 0 else 1
 
 -- the number of pointers below the cover that are set for a way, up to a depth
 abbrev pub turned_for : Job → ℕ → ℕ → ℕ → ℕ
@@ -97,7 +97,7 @@ copies job from = suc (turned_upto job from (ways job))
 -- touched word
 pub record IsTurned (job : Job) (from : ℕ) (q : Trail) : Type 0 where
   pub copies : from ≤ length (job.way 0)
-  pub anew : IsAnew job from (ways job) from q
+  pub renewed : IsRenewed job from (ways job) from q
 
 -- the number of blocks that a commit copies if its cover has `from` slots
 abbrev pub copies_at : Job → ℕ → ℕ

@@ -8,7 +8,7 @@ use Rattle.bp_shapes.specs.Trail.{block_on, place_on, IsPlaced}
 use Rattle.bp_shapes.specs.Forest.{IsExactSet, IsForest, IsTreePointer}
 use Rattle.bp_cow.specs.Copies.{pointing_to}
 use Rattle.bp_cow.specs.Counting.{IsTreeWord}
-use Rattle.bp_cow.specs.Job.{Job, ways, front, end_of, word_trail, IsAnew, value_upto, laid_on, turned_for, turned_upto}
+use Rattle.bp_cow.specs.Job.{Job, ways, prefix, end_of, word_trail, IsRenewed, value_upto, laid_on, turned_for, turned_upto}
 use Rattle.bp_cow.specs.Stage.{IsBuilding}
 use Rattle.bp_cow.specs.Touched.{job_of}
 use Rattle.bp_cow.specs.declared.touched.Touched.{Touched}
@@ -24,8 +24,8 @@ pub record IsFeasible (old : Image) (bound : ℕ → ℕ) (job : Job) (from plac
   -- each way begins with the cover, and each of its prefixes is a pointer
   pub below : (i : ℕ) → i < ways job → from ≤ length (job.way i)
   pub short : (i : ℕ) → i < ways job → length (job.way i) ≤ 11
-  pub cover : (i : ℕ) → i < ways job → front job i from ≡ front job 0 from
-  pub pointers : (i d : ℕ) → i < ways job → d ≤ length (job.way i) → IsTreePointer old bound (front job i d)
+  pub cover : (i : ℕ) → i < ways job → prefix job i from ≡ prefix job 0 from
+  pub pointers : (i d : ℕ) → i < ways job → d ≤ length (job.way i) → IsTreePointer old bound (prefix job i d)
   pub slots : (i d : ℕ) → i < ways job → d < length (job.way i) → slice_index (job.way i) d < block_words
   -- the words are no pointers, and the leaves of the runs have no pointers
   pub word_slots : (i : ℕ) → i < job.words → job.slot i < block_words
@@ -36,11 +36,11 @@ pub record IsFeasible (old : Image) (bound : ℕ → ℕ) (job : Job) (from plac
       → (slot old_word : ℕ) → job.patch j slot old_word ≡ job.patch l slot old_word
   -- the counted words of a block on a way include the pointers and the content words of trees
   pub live : (i d slot : ℕ) → i < ways job → d ≤ length (job.way i) → slot < block_words
-      → IsTreePointer old bound (slot ∷ front job i d) ⊎ IsTreeWord old bound (slot ∷ front job i d)
+      → IsTreePointer old bound (slot ∷ prefix job i d) ⊎ IsTreeWord old bound (slot ∷ prefix job i d)
       → slot < job.live i d
   -- the cover exists
-  pub placed : IsPlaced old (IsTreePointer old bound) (front job 0 from)
-  pub at : place_on old (front job 0 from) ≡ place
+  pub placed : IsPlaced old (IsTreePointer old bound) (prefix job 0 from)
+  pub at : place_on old (prefix job 0 from) ≡ place
 
 -- a plan: the image before, the sizes of its trees that count, the blocks of the snapshot, the free blocks before, the
 -- task, the place of the cover, and the copy of the cover's block
@@ -66,8 +66,8 @@ seen plan now = slice_set now plan.place (pointing_to (word plan.old plan.place)
 -- the first `i` ways are done, and way `i` up to a depth
 abbrev pub IsMade : Plan → ℕ → ℕ → ℕ → Image → (ℕ → Bool) → Type 0
 IsMade plan from i depth now free =
-    IsBuilding plan.old now plan.place (pointing_to (word plan.old plan.place) plan.top) (front plan.job 0 from)
-    (IsTreePointer plan.old plan.bound) (IsTreeWord plan.old plan.bound) (IsAnew plan.job from i depth)
+    IsBuilding plan.old now plan.place (pointing_to (word plan.old plan.place) plan.top) (prefix plan.job 0 from)
+    (IsTreePointer plan.old plan.bound) (IsTreeWord plan.old plan.bound) (IsRenewed plan.job from i depth)
     (value_upto plan.job (i - plan.job.leaves)) (laid_on plan.old plan.job) plan.in_snapshot free
 
 abbrev pub CanMake : Plan → ℕ → Type 0
@@ -75,7 +75,7 @@ CanMake plan from = IsFeasible plan.old plan.bound plan.job from plan.place plan
 
 -- the block at a depth of a way
 abbrev pub reached : Plan → ℕ → ℕ → Image → ℕ
-reached plan i depth now = block_on (seen plan now) (front plan.job i depth)
+reached plan i depth now = block_on (seen plan now) (prefix plan.job i depth)
 
 -- the first `i` ways are done, and way `i` up to a depth, for a memory and a set of free blocks
 abbrev pub MadeIn : Plan → Touched → ℕ → ℕ → ℕ → Memory → Set → Type 0

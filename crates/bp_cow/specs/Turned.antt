@@ -8,7 +8,7 @@ use Rattle.bp_layout.specs.WellFormed.{IsWellFormed}
 use Rattle.bp_shapes.specs.Forest.{IsTreePointer}
 use Rattle.bp_cow.specs.Adds.{AddsCopyCommit}
 use Rattle.bp_cow.specs.Counting.{IsTreeWord}
-use Rattle.bp_cow.specs.Job.{ways, copies, value_upto, laid_on, IsAnew}
+use Rattle.bp_cow.specs.Job.{ways, copies, value_upto, laid_on, IsRenewed}
 use Rattle.bp_cow.specs.Plan.{Plan, planned, CanMake}
 use Rattle.bp_cow.specs.Stage.{IsStage}
 use Rattle.bp_cow.specs.Touched.{job_of}
@@ -35,6 +35,6 @@ pub record HasTurned (plan : Plan) (touched : Touched) (from place : ℕ) (block
   pub commit : AddsCopyCommit (has blocks) (has left) place (513 * copies (job_of touched) from
       + (job_of touched).words) old new
   pub stage : IsStage plan.old (current_words new) (IsTreePointer plan.old plan.bound) (IsTreeWord plan.old plan.bound)
-      (IsAnew (job_of touched) from (ways (job_of touched)) from)
+      (IsRenewed (job_of touched) from (ways (job_of touched)) from)
       (value_upto (job_of touched) (job_of touched).words) (laid_on plan.old (job_of touched)) plan.in_snapshot
       (has left)

@@ -62,8 +62,8 @@ pub fn words_of_a_run_have_its_bytes(run: &Run<'_>)
 /// States the effect of a commit on the words of the trees. If the new sizes are within `bound` and with them no
 /// pointer of the inode file or of a directory is null, each content word has its value. The size of an inode is the
 /// value of its size word. The blocks to which pointers lead are those of the trees up to `bound`.
-pub fn commits_are_told_on_trees(old: &[u64], new: &[u64], touched: &Touched<'_>)
-    ensures told { (bound : ℕ → ℕ) (cover : ℕ) →
+pub fn commits_on_trees(old: &[u64], new: &[u64], touched: &Touched<'_>)
+    ensures reported { (bound : ℕ → ℕ) (cover : ℕ) →
         OnCommit bound touched.now cover old.now new.now (CommitsTrees old.now new.now bound touched.now) }
     ensures sizes { (bound : ℕ → ℕ) (cover i : ℕ) →
         OnCommit bound touched.now cover old.now new.now (HasSizeWord old.now new.now touched.now (suc i)) }

@@ -8,7 +8,7 @@ ghost use Rattle.bp_cow.specs.Job.{ways, turned_for, copies_at};
 ghost use Rattle.bp_cow.specs.Touched.{IsTouched, NoneBegins, all_paths, job_of};
 ghost use Rattle.bp_cow.specs.Ways.{AreShared, IsWay};
 
-use crate::covering::{FoundWays, find_ways};
+use crate::covers::{FoundWays, find_ways};
 use crate::touched::Touched;
 use crate::ways::{Shared, Way, is_new};
 use pm_region::Region;

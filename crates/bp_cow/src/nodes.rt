@@ -4,7 +4,7 @@ ghost use Rattle.std.specs.Prelude.{◌≡◌, ℕ, ◌+◌, ◌-◌, ◌*◌, �
 ghost use Rattle.bp_limits.specs.Limits.{block_words, max_height};
 ghost use Rattle.bp_cow.specs.Touched.{has_block, level_live, slots_number, tree_live};
 
-use crate::shared::common;
+use crate::common_prefix::common;
 use crate::touched::TreeSize;
 
 /// Returns the number of pieces that hold the counted words of a block, from the tree's size, the block's level above

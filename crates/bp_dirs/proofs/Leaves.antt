@@ -1,4 +1,4 @@
--- Scans leaf by leaf: what is found, and how much is counted, in a front of a range and in the rest.
+-- Scans leaf by leaf: what is found, and how much is counted, in a prefix of a range and in the rest.
 use Rattle.std.proofs.Common.{◌≡◌, ℕ, zero, suc, ◌+◌, ◌-◌, ◌*◌, ◌/◌, ◌<◌, ◌≤◌, Bool, true, false, Option, Some, None, find, min, length, filter, refl, sym, ◌∙◌, ap, subst, arith, nat_lt, true≢false}
 use Rattle.std.specs.List.{range_with_len}
 use Rattle.std.proofs.lemmas.Bool.{ltb-true, ltb-false}
@@ -9,7 +9,7 @@ use Rattle.bp_dirs.specs.declared.leaf.Leaf.{Leaf}
 use Rattle.bp_dirs.specs.declared.spot.Found.{Found}
 
 module _ (p : ℕ → Bool) where
-  -- what is found in a front is found in the whole
+  -- what is found in a prefix is found in the whole
   pub find-early : (a m n k : ℕ) → m ≤ n → find p (range_with_len a m) ≡ Some k → find p (range_with_len a n) ≡ Some k
   find-early a zero n k inside found = absurd (cc)
   find-early a (suc m) zero k inside found = absurd (omega (arith, inside))
@@ -19,7 +19,7 @@ module _ (p : ℕ → Bool) where
       go true at rest = rw at (rw at at found)
       go false at rest = rw at (rest (rw at at found))
 
-  -- where a front has nothing the rest decides
+  -- where a prefix has nothing the rest decides
   pub find-late : (a m n : ℕ) → m ≤ n → find p (range_with_len a m) ≡ None → find p (range_with_len a n) ≡ find p (range_with_len (a + m) (n - m))
   find-late a zero n inside none = let here : a + 0 ≡ a = omega arith in let all : n - 0 ≡ n = omega arith in rw (here, all) refl
   find-late a (suc m) zero inside none = absurd (omega (arith, inside))
@@ -36,7 +36,7 @@ module _ (p : ℕ → Bool) where
           let left : n - m ≡ suc n - suc m = omega arith in
           rw (at, ← start, ← left) (rest (rw at at none))
 
-  -- a front and the rest are counted one by one
+  -- a prefix and the rest are counted one by one
   pub count-parts : (a m n : ℕ) → m ≤ n → length (filter p (range_with_len a n)) ≡ length (filter p (range_with_len a m)) + length (filter p (range_with_len (a + m) (n - m)))
   count-parts a zero n inside = let here : a + 0 ≡ a = omega arith in let all : n - 0 ≡ n = omega arith in rw (here, all) (omega arith)
   count-parts a (suc m) zero inside = absurd (omega (arith, inside))

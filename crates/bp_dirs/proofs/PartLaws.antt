@@ -56,7 +56,7 @@ module _ (image : Image) (root slot part : ℕ) (name : List ℕ) where
           ∙ read_back (word_in image root slot (2 + part)) (take 8 (drop (8 * part) name)) small (rw length-chunk is) k inside
           ∙ chunk-at k low ∙ ap (slice_index name) back
 
--- a front of a front is small where the whole is
+-- a prefix of a prefix is small where the whole is
 pub part_small : (name : List ℕ) (n : ℕ) → ((k : ℕ) → slice_index name k < 256) → (o : ℕ) → slice_index (take 8 (drop n name)) o < 256
 part_small name n small o = go (nat_lt o 8) refl
   where

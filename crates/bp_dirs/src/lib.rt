@@ -9,9 +9,9 @@ mod entry_view;
 mod entry_words;
 mod finder;
 mod leaf;
+mod name_stores;
 mod name_words;
 mod spot;
-mod writing;
 
 pub use directory::{
     count, entry, entry_place, find, find_both, find_entry, find_or_free, free_slot, inumber,
@@ -19,5 +19,5 @@ pub use directory::{
 };
 pub use entry_view::EntryView;
 pub use finder::{Finder, Hinted, Scan};
+pub use name_stores::put_name;
 pub use spot::{Both, Found, Spot};
-pub use writing::put_name;

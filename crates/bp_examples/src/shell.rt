@@ -21,9 +21,9 @@ fn real_files_are_served(rt: HostRuntime) {
         run(alloc, &words, &mut source, &mut sink, &mut files),
         Status::Done
     );
-    let told = fs::read(&rt, "replies").expect(&rt, "they are there");
+    let reported = fs::read(&rt, "replies").expect(&rt, "they are there");
     assert_eq!(rt;
-        told.as_slice(),
+        reported.as_slice(),
         b"formatted 8 6\nok\nentry f a\nend\n".as_slice()
     );
     let image = fs::read(&rt, "real.img").expect(&rt, "it is there");

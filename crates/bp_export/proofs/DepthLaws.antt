@@ -162,7 +162,7 @@ module _ (image : Image) (tree : FileTree) (stands : Stands image tree) where
           let wrong : ◌≡◌ {A = Option Node} None (Some node) = sym (stands.now.shows path ∙ ap (option_map (node_of image)) nothing) ∙ at in absurd (cc)
       go (Some found) finds = low found finds (nat_lt max_path (length (path_text path))) refl
 
-  -- a test for a long path below the root tells whether some path can't be spelled
+  -- a test for a long path below the root shows whether some path can't be spelled
   pub deep_where_long : (b : Bool) → (IsTrue b ↔ HasLongPath image 1 max_path) → (IsTrue b ↔ (HasShortPaths tree → ⊥))
-  deep_where_long true tells = (λ yes. deep_if_long (tells.0 yes), λ deep. refl)
-  deep_where_long false tells = (λ yes. absurd (cc), λ deep. absurd (deep (short_if_none (λ has. let yes = tells.1 has in absurd (cc)))))
+  deep_where_long true reports = (λ yes. deep_if_long (reports.0 yes), λ deep. refl)
+  deep_where_long false reports = (λ yes. absurd (cc), λ deep. absurd (deep (short_if_none (λ has. let yes = reports.1 has in absurd (cc)))))

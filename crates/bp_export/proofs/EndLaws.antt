@@ -11,7 +11,7 @@ use Rattle.bp_plain.specs.PlainTree.{FileTree}
 use Rattle.bp_replies.specs.Taking.{TakesPart}
 use Rattle.bp_replies.proofs.PassingLaws.{passed_part}
 use Rattle.bp_script.specs.Export.{export_text}
-use Rattle.bp_export.specs.Exports.{EndsExport, Goes, PassesFront}
+use Rattle.bp_export.specs.Exports.{EndsExport, Goes, PassesPrefix}
 use Rattle.bp_export.specs.declared.fault.Fault.{Fault}
 use Rattle.bp_export.specs.declared.fault.Fault.TheVariants.{Deep, Memory, Sink}
 
@@ -21,7 +21,7 @@ module _ (T : Type 0) (tree : FileTree) (t : SinkView) where
   ends_deep deep = record {
     all = tt;
     deep = (λ is short. deep short, λ other. refl);
-    untold = λ is. refl;
+    unreported = λ is. refl;
     some = λ is. absurd (cc);
     part = λ is. absurd (cc);
     cause = λ is. absurd (cc);
@@ -29,16 +29,16 @@ module _ (T : Type 0) (tree : FileTree) (t : SinkView) where
   }
 
   module _ (short : HasShortPaths tree) where
-    pub ends_memory : (a : List ℕ) (u : SinkView) → PassesFront (export_text tree) [] a t.taken u.taken → u.faults ≡ t.faults → EndsExport {T = T} tree (Err Memory) t u
-    ends_memory a u front same = record {
+    pub ends_memory : (a : List ℕ) (u : SinkView) → PassesPrefix (export_text tree) [] a t.taken u.taken → u.faults ≡ t.faults → EndsExport {T = T} tree (Err Memory) t u
+    ends_memory a u prefix same = record {
       all = tt;
       deep = (λ is. absurd (cc), λ other. absurd (other short));
-      untold = λ is. absurd (cc);
+      unreported = λ is. absurd (cc);
       some = λ is. record {
-        front = front.passes.sent;
-        rest = a ++ front.rest;
-        whole = front.whole ∙ ap (λ l. l ++ front.rest) front.passes.whole ∙ append_assoc front.passes.sent a front.rest;
-        took = front.passes.took;
+        prefix = prefix.passes.sent;
+        rest = a ++ prefix.rest;
+        whole = prefix.whole ∙ ap (λ l. l ++ prefix.rest) prefix.passes.whole ∙ append_assoc prefix.passes.sent a prefix.rest;
+        took = prefix.passes.took;
       };
       part = λ is. absurd (cc);
       cause = λ is. absurd (cc);
@@ -49,7 +49,7 @@ module _ (T : Type 0) (tree : FileTree) (t : SinkView) where
     ends_sink u part rose = record {
       all = tt;
       deep = (λ is. absurd (cc), λ other. absurd (other short));
-      untold = λ is. absurd (cc);
+      unreported = λ is. absurd (cc);
       some = λ is. absurd (cc);
       part = λ is. part;
       cause = λ is. rose;
@@ -60,7 +60,7 @@ module _ (T : Type 0) (tree : FileTree) (t : SinkView) where
     ends_whole done u all same = record {
       all = all;
       deep = (λ is. absurd (cc), λ other. absurd (other short));
-      untold = λ is. absurd (cc);
+      unreported = λ is. absurd (cc);
       some = λ is. absurd (cc);
       part = λ is. absurd (cc);
       cause = λ is. absurd (cc);

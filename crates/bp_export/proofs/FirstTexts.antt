@@ -45,9 +45,9 @@ find_alike : (p r : Path → Bool) (qs : List Path) → ((q : Path) → p q ≡ 
 find_alike p r [] same = refl
 find_alike p r (q ∷ qs) same = ap₂ (λ b o. cond b (Some q) o) (same q) (find_alike p r qs same)
 
-text_longer : (image : Image) (i : ℕ) (told : List Entry) (e : Entry) → text_of_first image i (told ++ e ∷ []) ≡ either (text_of_first image i told) (if finds_file image i e.0 then Some (path_text e.0) else None)
-text_longer image i told e =
-    ap (option_map path_text) (find_longer (finds_file image i) told e) ∙ go (find (finds_file image i) (paths told)) (finds_file image i e.0)
+text_longer : (image : Image) (i : ℕ) (noted : List Entry) (e : Entry) → text_of_first image i (noted ++ e ∷ []) ≡ either (text_of_first image i noted) (if finds_file image i e.0 then Some (path_text e.0) else None)
+text_longer image i noted e =
+    ap (option_map path_text) (find_longer (finds_file image i) noted e) ∙ go (find (finds_file image i) (paths noted)) (finds_file image i e.0)
   where
     go : (o : Option Path) (b : Bool) → option_map path_text (either o (if b then Some e.0 else None)) ≡ either (option_map path_text o) (if b then Some (path_text e.0) else None)
     go (Some q) b = refl
@@ -92,44 +92,44 @@ module _ (image : Image) where
 
   -- ---- what is remembered, one entry more
 
-  module _ (counts : List ℕ) (firsts : Firsts) (told : List Entry) (remembers : RemembersFirsts image counts firsts told) (q : Path) (node : Node) where
-    same_text : (i : ℕ) → finds_file image i q ≡ false → text_of_first image i (told ++ (q, node) ∷ []) ≡ text_of_first image i told
-    same_text i not = text_longer image i told (q, node) ∙ rw not (go (text_of_first image i told))
+  module _ (counts : List ℕ) (firsts : Firsts) (noted : List Entry) (remembers : RemembersFirsts image counts firsts noted) (q : Path) (node : Node) where
+    same_text : (i : ℕ) → finds_file image i q ≡ false → text_of_first image i (noted ++ (q, node) ∷ []) ≡ text_of_first image i noted
+    same_text i not = text_longer image i noted (q, node) ∙ rw not (go (text_of_first image i noted))
       where
         go : (o : Option (List ℕ)) → either o None ≡ o
         go None = refl
         go (Some text) = refl
 
-    pub remembers_directory : file_at image q ≡ None → RemembersFirsts image counts firsts (told ++ (q, node) ∷ [])
+    pub remembers_directory : file_at image q ≡ None → RemembersFirsts image counts firsts (noted ++ (q, node) ∷ [])
     remembers_directory none = record { each = λ i several. remembers.each i several ∙ sym (same_text i (finds_none i q none)) }
 
     module _ (j : ℕ) (at : file_at image q ≡ Some j) where
-      pub remembers_single : slice_index counts j ≤ 1 → RemembersFirsts image counts firsts (told ++ (q, node) ∷ [])
+      pub remembers_single : slice_index counts j ≤ 1 → RemembersFirsts image counts firsts (noted ++ (q, node) ∷ [])
       remembers_single few = record {
         each = λ i several.
             let other : i ≢ j = λ e. omega (arith, few, several, ap (slice_index counts) e) in
             remembers.each i several ∙ sym (same_text i (finds_other i j q at other));
       }
 
-      pub remembers_later : (text : List ℕ) → first_text firsts j ≡ Some text → RemembersFirsts image counts firsts (told ++ (q, node) ∷ [])
+      pub remembers_later : (text : List ℕ) → first_text firsts j ≡ Some text → RemembersFirsts image counts firsts (noted ++ (q, node) ∷ [])
       remembers_later text known = record { each = λ i several. go i several (i == j) refl }
         where
-          go : (i : ℕ) → 1 < slice_index counts i → (b : Bool) → (i == j) ≡ b → first_text firsts i ≡ text_of_first image i (told ++ (q, node) ∷ [])
+          go : (i : ℕ) → 1 < slice_index counts i → (b : Bool) → (i == j) ≡ b → first_text firsts i ≡ text_of_first image i (noted ++ (q, node) ∷ [])
           go i several true e =
               let same : i ≡ j = eqb-true i j e in
-              let before : text_of_first image i told ≡ Some text = sym (remembers.each i several) ∙ ap (first_text firsts) same ∙ known in
-              ap (first_text firsts) same ∙ known ∙ sym (text_longer image i told (q, node) ∙ ap (λ o. either o (if finds_file image i q then Some (path_text q) else None)) before)
+              let before : text_of_first image i noted ≡ Some text = sym (remembers.each i several) ∙ ap (first_text firsts) same ∙ known in
+              ap (first_text firsts) same ∙ known ∙ sym (text_longer image i noted (q, node) ∙ ap (λ o. either o (if finds_file image i q then Some (path_text q) else None)) before)
           go i several false e = remembers.each i several ∙ sym (same_text i (finds_other i j q at (eqb-false i j e)))
 
       pub remembers_first : (new : Firsts) → first_text firsts j ≡ None → ((i : ℕ) → first_text new i ≡ (if i == j then Some (path_text q) else first_text firsts i))
-          → RemembersFirsts image counts new (told ++ (q, node) ∷ [])
+          → RemembersFirsts image counts new (noted ++ (q, node) ∷ [])
       remembers_first new unknown adds = record { each = λ i several. adds i ∙ go i several (i == j) refl }
         where
-          go : (i : ℕ) → 1 < slice_index counts i → (b : Bool) → (i == j) ≡ b → (if i == j then Some (path_text q) else first_text firsts i) ≡ text_of_first image i (told ++ (q, node) ∷ [])
+          go : (i : ℕ) → 1 < slice_index counts i → (b : Bool) → (i == j) ≡ b → (if i == j then Some (path_text q) else first_text firsts i) ≡ text_of_first image i (noted ++ (q, node) ∷ [])
           go i several true e =
               let same : i ≡ j = eqb-true i j e in
-              let before : text_of_first image i told ≡ None = sym (remembers.each i several) ∙ ap (first_text firsts) same ∙ unknown in
-              rw e (sym (text_longer image i told (q, node) ∙ rw (before, finds_this i q (at ∙ ap Some (sym same))) refl))
+              let before : text_of_first image i noted ≡ None = sym (remembers.each i several) ∙ ap (first_text firsts) same ∙ unknown in
+              rw e (sym (text_longer image i noted (q, node) ∙ rw (before, finds_this i q (at ∙ ap Some (sym same))) refl))
           go i several false e = rw e (remembers.each i several ∙ sym (same_text i (finds_other i j q at (eqb-false i j e))))
 
 -- ---- the calls of an entry
@@ -152,40 +152,40 @@ module _ (image : Image) (tree : PathMap) (shows : Shows image tree) (q : Path) 
   pub directory_calls : file_at image q ≡ None → calls_at tree (q, dir) ≡ mkdir (path_text q) ∷ []
   directory_calls none = own_calls dir (ap (λ o. unwrap_or o q) (none_passes (is_one tree.one q) (keys tree.nodes) (λ p. shows.one q p ∙ ap (λ o. are_one o (file_at image p)) none)))
 
-  module _ (told later : List Entry) (node : Node) (order : entries tree.nodes ≡ told ++ (q, node) ∷ later) (i : ℕ) (at : file_at image q ≡ Some i) where
-    first_is : first_of tree q ≡ unwrap_or (find (finds_file image i) (paths told)) q
+  module _ (noted later : List Entry) (node : Node) (order : entries tree.nodes ≡ noted ++ (q, node) ∷ later) (i : ℕ) (at : file_at image q ≡ Some i) where
+    first_is : first_of tree q ≡ unwrap_or (find (finds_file image i) (paths noted)) q
     first_is =
-        first_before tree (shows_path_map image tree shows) told (q, node) later order
-        ∙ ap (λ o. unwrap_or o q) (find_alike (is_one tree.one q) (finds_file image i) (paths told) (λ p. shows.one q p ∙ ap (λ o. are_one o (file_at image p)) at))
+        first_before tree (shows_path_map image tree shows) noted (q, node) later order
+        ∙ ap (λ o. unwrap_or o q) (find_alike (is_one tree.one q) (finds_file image i) (paths noted) (λ p. shows.one q p ∙ ap (λ o. are_one o (file_at image p)) at))
 
-    not_told : has q told ≡ false
-    not_told = ap is_some (new_path told (q, node) later (subst (λ es. T (is_sorted path_cmp es)) order (entries_sorted tree.nodes)))
+    not_reported : has q noted ≡ false
+    not_reported = ap is_some (new_path noted (q, node) later (subst (λ es. T (is_sorted path_cmp es)) order (entries_sorted tree.nodes)))
 
-    pub first_calls : text_of_first image i told ≡ None → calls_at tree (q, node) ≡ calls_for (path_text q) node
-    first_calls none = own_calls node (first_is ∙ go (find (finds_file image i) (paths told)) refl)
+    pub first_calls : text_of_first image i noted ≡ None → calls_at tree (q, node) ≡ calls_for (path_text q) node
+    first_calls none = own_calls node (first_is ∙ go (find (finds_file image i) (paths noted)) refl)
       where
-        go : (o : Option Path) → find (finds_file image i) (paths told) ≡ o → unwrap_or (find (finds_file image i) (paths told)) q ≡ q
+        go : (o : Option Path) → find (finds_file image i) (paths noted) ≡ o → unwrap_or (find (finds_file image i) (paths noted)) q ≡ q
         go None e = ap (λ o. unwrap_or o q) e
         go (Some p) e = let wrong : ◌≡◌ {A = Option (List ℕ)} (Some (path_text p)) None = sym (ap (option_map path_text) e) ∙ none in absurd (cc)
 
-    pub later_calls : (text : List ℕ) → text_of_first image i told ≡ Some text → calls_at tree (q, node) ≡ link text (path_text q) ∷ []
-    later_calls text known = go (find (finds_file image i) (paths told)) refl
+    pub later_calls : (text : List ℕ) → text_of_first image i noted ≡ Some text → calls_at tree (q, node) ≡ link text (path_text q) ∷ []
+    later_calls text known = go (find (finds_file image i) (paths noted)) refl
       where
-        go : (o : Option Path) → find (finds_file image i) (paths told) ≡ o → calls_at tree (q, node) ≡ link text (path_text q) ∷ []
+        go : (o : Option Path) → find (finds_file image i) (paths noted) ≡ o → calls_at tree (q, node) ≡ link text (path_text q) ∷ []
         go None e = let wrong : ◌≡◌ {A = Option (List ℕ)} None (Some text) = sym (ap (option_map path_text) e) ∙ known in absurd (cc)
         go (Some p) e =
             let first : first_of tree q ≡ p = first_is ∙ ap (λ o. unwrap_or o q) e in
-            let both = first_there (finds_file image i) told p e in
-            let differ : same_path p q ≡ false = apart p q (λ same. true≢false (sym both.1 ∙ ap (λ x. has x told) same ∙ not_told)) in
+            let both = first_there (finds_file image i) noted p e in
+            let differ : same_path p q ≡ false = apart p q (λ same. true≢false (sym both.1 ∙ ap (λ x. has x noted) same ∙ not_reported)) in
             let texts : ◌≡◌ {A = Option (List ℕ)} (Some (path_text p)) (Some text) = sym (ap (option_map path_text) e) ∙ known in
             let is : path_text p ≡ text = cc in
             rw (not_root q some, first, differ) (ap (λ x. link x (path_text q) ∷ []) is)
 
-    -- a file with one name stands at no path told
-    pub single_new : (count : ℕ) → HasNames image i count → count ≤ 1 → text_of_first image i told ≡ None
-    single_new count names few = go (find (finds_file image i) (paths told)) refl
+    -- a file with one name stands at no path reported
+    pub single_new : (count : ℕ) → HasNames image i count → count ≤ 1 → text_of_first image i noted ≡ None
+    single_new count names few = go (find (finds_file image i) (paths noted)) refl
       where
-        none : (p : Path) → finds_file image i p ≡ true → has p told ≡ true → ⊥
+        none : (p : Path) → finds_file image i p ≡ true → has p noted ≡ true → ⊥
         none p finds there = go (one_label_of (Some i) (file_at image p) finds)
           where
             go : OneLabel (Some i) (file_at image p) → ⊥
@@ -193,8 +193,8 @@ module _ (image : Image) (tree : PathMap) (shows : Shows image tree) (q : Path) 
                 let here = file_found image p i (f ∙ sym e) in
                 let this = file_found image q i at in
                 let same : p ≡ q = single_path image shows.well_formed i count names few here.1 p q here.0 this.0 in
-                true≢false (sym there ∙ ap (λ x. has x told) same ∙ not_told)
+                true≢false (sym there ∙ ap (λ x. has x noted) same ∙ not_reported)
 
-        go : (o : Option Path) → find (finds_file image i) (paths told) ≡ o → text_of_first image i told ≡ None
+        go : (o : Option Path) → find (finds_file image i) (paths noted) ≡ o → text_of_first image i noted ≡ None
         go None e = ap (option_map path_text) e
-        go (Some p) e = let both = first_there (finds_file image i) told p e in absurd (none p both.0 both.1)
+        go (Some p) e = let both = first_there (finds_file image i) noted p e in absurd (none p both.0 both.1)

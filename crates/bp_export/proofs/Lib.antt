@@ -1,8 +1,8 @@
 pub mod DepthLaws
 pub mod FileLines
-pub mod Fronts
+pub mod Prefixes
 pub mod NamesInOrder
-pub mod TellingLaws
+pub mod ReportLaws
 pub mod TreeStretches
 pub mod SinglePaths
 pub mod FirstTexts

@@ -17,19 +17,19 @@ use Rattle.bp_plain.specs.Export.{calls_at, calls_for, path_text}
 use Rattle.bp_script.specs.Export.{FitsText}
 use Rattle.bp_export.specs.Exports.{Goes}
 use Rattle.bp_export.specs.Firsts.{first_text}
-use Rattle.bp_export.specs.Telling.{Tells}
+use Rattle.bp_export.specs.Report.{Reports}
 use Rattle.bp_export.specs.Walking.{Place, RemembersFirsts, Tours, WalkStandsAt, itself, text_of_first}
 use Rattle.bp_export.specs.declared.fault.Fault.{Fault}
 use Rattle.bp_export.specs.declared.fault.Fault.TheVariants.{Memory, Sink}
 use Rattle.bp_export.specs.declared.firsts.Firsts.{Firsts}
 use Rattle.bp_export.proofs.FirstTexts.{directory_calls, file_here, first_calls, later_calls, no_file_here, remembers_directory, single_new}
-use Rattle.bp_export.proofs.GoingLaws.{goes_nowhere, goes_told, goes_untold}
+use Rattle.bp_export.proofs.GoingLaws.{goes_nowhere, goes_reported, goes_unreported}
 use Rattle.bp_export.proofs.Places.{fits_next}
 use Rattle.bp_export.proofs.RowLaws.{IsInode, inode_reached}
 use Rattle.bp_export.proofs.TreeLaws.{found_low, found_reached, has_count, node_of-directory, node_of-file}
 
 module _ (image : Image) (wf : IsWellFormed image) (counts : List ℕ) (i : ℕ) (text : List ℕ) (firsts : Firsts) where
-  -- the path at hand is that of inode i, which is told next
+  -- the path at hand is that of inode i, which is reported next
   abbrev pub IsHere : Place → Type 0
   IsHere place = WalkStandsAt image counts (itself image i) i text firsts place
 
@@ -64,8 +64,8 @@ module _ (image : Image) (wf : IsWellFormed image) (counts : List ℕ) (i : ℕ)
       pub fits_mkdir : IsDirectory image i → FitsText (mkdir text)
       fits_mkdir kind = All-head FitsText (mkdir text) [] (subst (All FitsText) (directory_here kind) fits_here)
 
-      pub directory_remembered : IsDirectory image i → RemembersFirsts image counts firsts (place.told ++ itself image i place.tree place.path)
-      directory_remembered kind = remembers_directory image counts firsts place.told stands.remembers place.path (node_of image i) (no_file_here image place.path i stands.found kind)
+      pub directory_remembered : IsDirectory image i → RemembersFirsts image counts firsts (place.noted ++ itself image i place.tree place.path)
+      directory_remembered kind = remembers_directory image counts firsts place.noted stands.remembers place.path (node_of image i) (no_file_here image place.path i stands.found kind)
 
       -- ---- a file
 
@@ -80,24 +80,24 @@ module _ (image : Image) (wf : IsWellFormed image) (counts : List ℕ) (i : ℕ)
         module _ (several : 1 < slice_index counts i) (first : List ℕ) (known : first_text firsts i ≡ Some first) where
           pub link_here : calls_here place ≡ link first text ∷ []
           link_here = one_entry (link first text ∷ [])
-              (later_calls image place.tree stands.can.shows place.path some place.told place.later (node_of image i) stands.order i at first (sym (stands.remembers.each i several) ∙ known)
+              (later_calls image place.tree stands.can.shows place.path some place.noted place.later (node_of image i) stands.order i at first (sym (stands.remembers.each i several) ∙ known)
               ∙ ap (λ l. link first l ∷ []) (sym stands.spelled))
 
           pub fits_link : FitsText (link first text)
           fits_link = All-head FitsText (link first text) [] (subst (All FitsText) link_here fits_here)
 
         -- at the first one
-        pub none_known : 1 < slice_index counts i → first_text firsts i ≡ None → text_of_first image i place.told ≡ None
+        pub none_known : 1 < slice_index counts i → first_text firsts i ≡ None → text_of_first image i place.noted ≡ None
         none_known several unknown = sym (stands.remembers.each i several) ∙ unknown
 
-        pub none_single : AreCounts image counts → i < length counts → slice_index counts i ≤ 1 → text_of_first image i place.told ≡ None
+        pub none_single : AreCounts image counts → i < length counts → slice_index counts i ≤ 1 → text_of_first image i place.noted ≡ None
         none_single are low few =
-            single_new image place.tree stands.can.shows place.path some place.told place.later (node_of image i) stands.order i at (slice_index counts i) (are.each i low) few
+            single_new image place.tree stands.can.shows place.path some place.noted place.later (node_of image i) stands.order i at (slice_index counts i) (are.each i low) few
 
-        module _ (new : text_of_first image i place.told ≡ None) where
+        module _ (new : text_of_first image i place.noted ≡ None) where
           pub made_here : calls_here place ≡ calls_for text (file bytes)
           made_here = one_entry (calls_for text (file bytes))
-              (first_calls image place.tree stands.can.shows place.path some place.told place.later (node_of image i) stands.order i at new
+              (first_calls image place.tree stands.can.shows place.path some place.noted place.later (node_of image i) stands.order i at new
               ∙ ap (λ node. calls_for (path_text place.path) node) (node_of-file image i kind)
               ∙ ap (λ l. calls_for l (file bytes)) (sym stands.spelled))
 
@@ -107,15 +107,15 @@ module _ (image : Image) (wf : IsWellFormed image) (counts : List ℕ) (i : ℕ)
     -- ---- how it ends
 
     module _ (b c : List ℕ) (t u : SinkView) where
-      pub toured : {S T : Type 0} (v : S) (w : T) (calls : List Call) → calls_here place ≡ calls → Tells calls (Ok v) b c t u → (after : Firsts) → RemembersFirsts image counts after (place.told ++ itself image i place.tree place.path)
+      pub toured : {S T : Type 0} (v : S) (w : T) (calls : List Call) → calls_here place ≡ calls → Reports calls (Ok v) b c t u → (after : Firsts) → RemembersFirsts image counts after (place.noted ++ itself image i place.tree place.path)
           → Tours image counts (itself image i) place (Ok w) after b c t u
-      toured {S} {T} v w calls is tells after remembers =
-          record { goes = subst (λ (l : List Call). Goes {T = T} l (Ok w) b c t u) (sym is) (goes_told v w calls b c t u tells); remembers = remembers }
+      toured {S} {T} v w calls is reports after remembers =
+          record { goes = subst (λ (l : List Call). Goes {T = T} l (Ok w) b c t u) (sym is) (goes_reported v w calls b c t u reports); remembers = remembers }
 
-      pub untoured : (S T : Type 0) (failed : Failed) (e : Fault) → e ≡ Sink → (calls : List Call) → calls_here place ≡ calls → Tells {T = S} calls (Err failed) b c t u → (after : Firsts)
+      pub untoured : (S T : Type 0) (failed : Failed) (e : Fault) → e ≡ Sink → (calls : List Call) → calls_here place ≡ calls → Reports {T = S} calls (Err failed) b c t u → (after : Firsts)
           → Tours {T = T} image counts (itself image i) place (Err e) after b c t u
-      untoured S T failed e is_sink calls is tells after =
-          record { goes = subst (λ (l : List Call). Goes {T = T} l (Err e) b c t u) (sym is) (goes_untold S T failed e is_sink calls b c c t u tells); remembers = tt }
+      untoured S T failed e is_sink calls is reports after =
+          record { goes = subst (λ (l : List Call). Goes {T = T} l (Err e) b c t u) (sym is) (goes_unreported S T failed e is_sink calls b c c t u reports); remembers = tt }
 
     pub unremembered : (T : Type 0) (e : Fault) → e ≡ Memory → (after : Firsts) (b : List ℕ) (t : SinkView) → Tours {T = T} image counts (itself image i) place (Err e) after b b t t
     unremembered T e is after b t = record { goes = goes_nowhere T e is (calls_here place) b t; remembers = tt }
@@ -129,18 +129,18 @@ module _ (image : Image) (wf : IsWellFormed image) (counts : List ℕ) (i : ℕ)
     pub sound_here : (root size : ℕ) → root ≡ root_of image i → size ≡ size_of image i → IsSound image root size
     sound_here root size root_is size_is = subst₂ (IsSound image) (sym root_is) (sym size_is) (wf.sound i (found_reached image wf place.path i stands.found))
 
-    module _ (below : 1 ≤ length text) (kind : IsFile image i) (new : text_of_first image i place.told ≡ None) (root size : ℕ) (root_is : root ≡ root_of image i) (size_is : size ≡ size_of image i) where
+    module _ (below : 1 ≤ length text) (kind : IsFile image i) (new : text_of_first image i place.noted ≡ None) (root size : ℕ) (root_is : root ≡ root_of image i) (size_is : size ≡ size_of image i) where
       made_from : calls_here place ≡ calls_for text (file (content image root size))
       made_from = subst₂ (λ r s. calls_here place ≡ calls_for text (file (content image r s))) (sym root_is) (sym size_is) (made_here below kind new)
 
       pub fits_from : All FitsText (calls_for text (file (content image root size)))
       fits_from = subst₂ (λ r s. All FitsText (calls_for text (file (content image r s)))) (sym root_is) (sym size_is) (fits_made below kind new)
 
-      pub toured_from : {T : Type 0} (r : Result T Fault) (b c : List ℕ) (t u : SinkView) → Goes (calls_for text (file (content image root size))) r b c t u → (after : Firsts) → RemembersFirsts image counts after (place.told ++ itself image i place.tree place.path)
+      pub toured_from : {T : Type 0} (r : Result T Fault) (b c : List ℕ) (t u : SinkView) → Goes (calls_for text (file (content image root size))) r b c t u → (after : Firsts) → RemembersFirsts image counts after (place.noted ++ itself image i place.tree place.path)
           → Tours image counts (itself image i) place r after b c t u
       toured_from {T} r b c t u goes after remembers =
           record { goes = subst (λ (l : List Call). Goes {T = T} l r b c t u) (sym made_from) goes; remembers = where_ok r }
         where
-          where_ok : (r : Result T Fault) → OnOk r (RemembersFirsts image counts after (place.told ++ itself image i place.tree place.path))
+          where_ok : (r : Result T Fault) → OnOk r (RemembersFirsts image counts after (place.noted ++ itself image i place.tree place.path))
           where_ok (Ok v) = remembers
           where_ok (Err e) = tt

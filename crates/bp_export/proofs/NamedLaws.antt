@@ -1,4 +1,4 @@
--- The names of entries stay where another is added, and what is told of them in order is told of their bytes.
+-- The names of entries stay where another is added, and what is stated of them in order is stated of their bytes.
 use Rattle.std.proofs.Common.{◌≡◌, ℕ, ◌+◌, ◌≤◌, List, [], ◌∷◌, ◌++◌, length, take, drop, refl, ◌∙◌, ap, ap₂, arith}
 use Rattle.std.proofs.Math.Seq.{drop-append_seam, take-length}
 use Rattle.std.proofs.lemmas.List.{drop-append-le, length-drop, map-append, take-append-le}
@@ -13,7 +13,7 @@ name_stays bytes more row within =
     let len : row.len ≤ length (drop row.first bytes) = omega (arith, within, length-drop row.first bytes) in
     ap (λ xs. (row.inode, xs)) (ap (take row.len) (drop-append-le row.first bytes more first) ∙ take-append-le row.len (drop row.first bytes) more len)
 
--- rows with other bytes behind their own
+-- rows with other bytes after their own
 rows_kept : (bytes more : List ℕ) (rows : List Row) → AreRowsWithin bytes rows → named_rows (bytes ++ more) rows ≡ named_rows bytes rows
 rows_kept bytes more [] within = refl
 rows_kept bytes more (row ∷ rows) within =
@@ -25,7 +25,7 @@ name_added bytes name row first len =
     ∙ ap (λ xs. (row.inode, take (length name) xs)) (drop-append_seam bytes name)
     ∙ ap (λ xs. (row.inode, xs)) (take-length name)
 
--- rows with one more behind them
+-- rows with one more after them
 pub rows_pushed : (bytes name : List ℕ) (rows : List Row) (row : Row) → AreRowsWithin bytes rows → row.first ≡ length bytes → row.len ≡ length name →
     named_rows (bytes ++ name) (rows ++ row ∷ []) ≡ named_rows bytes rows ++ (row.inode, name) ∷ []
 rows_pushed bytes name rows row within first len =

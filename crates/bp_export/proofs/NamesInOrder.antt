@@ -17,9 +17,9 @@ use Rattle.bp_plain.proofs.EntryItems.{find-items, find-shown, items-differ}
 use Rattle.bp_plain.proofs.ListedNames.{NamesDiffer, NamesDiffer-permutation, find-moved, item-find, sorted-listed, under_name}
 use Rattle.bp_export.specs.Entries.{AreEntries, entries_named, entry_comes_before}
 
--- an entry under its name, with what is told of its inode
-abbrev told_by : {A : Type 0} → (ℕ → A) → ℕ × Name → Name × A
-told_by of entry = (entry.1, of entry.0)
+-- an entry under its name, with what is stated of its inode
+abbrev recorded_by : {A : Type 0} → (ℕ → A) → ℕ × Name → Name × A
+recorded_by of entry = (entry.1, of entry.0)
 
 abbrev is_there : {A : Type 0} → A → Unit {0}
 is_there x = tt
@@ -30,11 +30,11 @@ module _ (image : Image) (wf : IsWellFormed image) (i : ℕ) (reached : IsReache
   named_at slot = (inumber_at image i slot, name_at image i slot)
 
   -- no two have one name
-  once : {A : Type 0} (of : ℕ → A) → NamesDiffer (map (told_by of) (entries_named image i 0 (entry_count image i)))
-  once of = items-differ image wf i reached kind of (told_by of) named_at (λ slot. refl)
+  once : {A : Type 0} (of : ℕ → A) → NamesDiffer (map (recorded_by of) (entries_named image i 0 (entry_count image i)))
+  once of = items-differ image wf i reached kind of (recorded_by of) named_at (λ slot. refl)
 
-  done_once : {A : Type 0} (of : ℕ → A) → NamesDiffer (map (told_by of) done)
-  done_once of = NamesDiffer-permutation (told_by of) _ done moved (once of)
+  done_once : {A : Type 0} (of : ℕ → A) → NamesDiffer (map (recorded_by of) done)
+  done_once of = NamesDiffer-permutation (recorded_by of) _ done moved (once of)
 
   -- each name finds its inode
   all_find : All (λ entry. lookup_in image i entry.1 ≡ Some entry.0) done
@@ -43,18 +43,18 @@ module _ (image : Image) (wf : IsWellFormed image) (i : ℕ) (reached : IsReache
       finds : (entry : ℕ × Name) → Contains done entry → lookup_in image i entry.1 ≡ Some entry.0
       finds entry there =
           sym (option_map_id (lookup_in image i entry.1))
-          ∙ sym (find-items image wf i reached kind (λ j. j) (told_by (λ j. j)) named_at (λ slot. refl) entry.1)
-          ∙ sym (find-moved (told_by (λ j. j)) _ done moved (once (λ j. j)) entry.1)
-          ∙ item-find (told_by (λ j. j)) done entry (done_once (λ j. j)) there
+          ∙ sym (find-items image wf i reached kind (λ j. j) (recorded_by (λ j. j)) named_at (λ slot. refl) entry.1)
+          ∙ sym (find-moved (recorded_by (λ j. j)) _ done moved (once (λ j. j)) entry.1)
+          ∙ item-find (recorded_by (λ j. j)) done entry (done_once (λ j. j)) there
 
   -- and the tree lists these names
   same_names : (tree : PathMap) → Shows image tree → (here : Path) → lookup image here ≡ Some i → map (λ entry. entry.1) done ≡ map (λ entry. entry.1) (listing tree.nodes here)
   same_names tree shows here at =
-      let listed : map (told_by is_there) done ≡ map (under_name is_there) (listing tree.nodes here) =
-      sorted-listed (told_by is_there) is_there here tree.nodes done up (done_once is_there)
-      (λ name. find-moved (told_by is_there) _ done moved (once is_there) name
-      ∙ find-shown image wf i reached kind is_there (told_by is_there) named_at (λ slot. refl) is_there (λ j. refl) tree shows here at name) in
-      sym (map-map (λ e. e.0) (told_by is_there) done) ∙ ap (map (λ e. e.0)) listed ∙ map-map (λ e. e.0) (under_name is_there) (listing tree.nodes here)
+      let listed : map (recorded_by is_there) done ≡ map (under_name is_there) (listing tree.nodes here) =
+      sorted-listed (recorded_by is_there) is_there here tree.nodes done up (done_once is_there)
+      (λ name. find-moved (recorded_by is_there) _ done moved (once is_there) name
+      ∙ find-shown image wf i reached kind is_there (recorded_by is_there) named_at (λ slot. refl) is_there (λ j. refl) tree shows here at name) in
+      sym (map-map (λ e. e.0) (recorded_by is_there) done) ∙ ap (map (λ e. e.0)) listed ∙ map-map (λ e. e.0) (under_name is_there) (listing tree.nodes here)
 
   pub are_entries : AreEntries image i done
   are_entries = record {

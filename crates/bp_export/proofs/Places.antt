@@ -26,7 +26,7 @@ use Rattle.bp_plain.proofs.Walked.{map_walked}
 use Rattle.bp_export.specs.Entries.{AreEntries}
 use Rattle.bp_export.specs.Firsts.{first_text}
 use Rattle.bp_script.specs.Export.{FitsText}
-use Rattle.bp_export.specs.Walking.{CanTell, Place, RemembersFirsts, WalkStandsAt, entries_at, inside, itself, names_in, text_of_first}
+use Rattle.bp_export.specs.Walking.{CanExport, Place, RemembersFirsts, WalkStandsAt, entries_at, inside, itself, names_in, text_of_first}
 use Rattle.bp_export.specs.declared.firsts.Firsts.{Firsts}
 use Rattle.bp_export.proofs.FirstTexts.{finds_none, no_file_here}
 
@@ -55,7 +55,7 @@ text_further path name = flat_map-append (λ n. 47 ∷ n) path (name ∷ []) ∙
 entries_at-append : (tree : PathMap) (path : Path) (xs ys : List Name) → entries_at tree path (xs ++ ys) ≡ entries_at tree path xs ++ entries_at tree path ys
 entries_at-append tree path xs ys = flat_map-append (λ name. entries_below tree (path ++ name ∷ [])) xs ys
 
-module _ (image : Image) (tree : PathMap) (can : CanTell image tree) where
+module _ (image : Image) (tree : PathMap) (can : CanExport image tree) where
   walked : IsWalked tree
   walked = map_walked tree (shows_path_map image tree can.shows)
 
@@ -72,7 +72,7 @@ module _ (image : Image) (tree : PathMap) (can : CanTell image tree) where
   -- ---- the root
 
   abbrev pub root_place : Place
-  root_place = record { tree = tree; path = []; told = ([], dir) ∷ []; later = [] }
+  root_place = record { tree = tree; path = []; noted = ([], dir) ∷ []; later = [] }
 
   pub stands_at_root : (counts : List ℕ) (firsts : Firsts) → ((i : ℕ) → first_text firsts i ≡ None) → WalkStandsAt image counts inside 1 [] firsts root_place
   stands_at_root counts firsts none = record {
@@ -97,8 +97,8 @@ module _ (image : Image) (tree : PathMap) (can : CanTell image tree) where
 pub fits_next : (image : Image) (counts : List ℕ) (next : PathMap → Path → List Entry) (i : ℕ) (text : List ℕ) (firsts : Firsts) (place : Place) → WalkStandsAt image counts next i text firsts place
     → All FitsText (flat_map (calls_at place.tree) (next place.tree place.path))
 fits_next image counts next i text firsts place stands =
-    All_middle FitsText (flat_map (calls_at place.tree) place.told) (flat_map (calls_at place.tree) (next place.tree place.path)) (flat_map (calls_at place.tree) place.later)
-    (subst (All FitsText) (ap (flat_map (calls_at place.tree)) stands.order ∙ calls-append place.tree place.told _ ∙ ap (λ l. flat_map (calls_at place.tree) place.told ++ l) (calls-append place.tree (next place.tree place.path) place.later)) stands.can.fits)
+    All_middle FitsText (flat_map (calls_at place.tree) place.noted) (flat_map (calls_at place.tree) (next place.tree place.path)) (flat_map (calls_at place.tree) place.later)
+    (subst (All FitsText) (ap (flat_map (calls_at place.tree)) stands.order ∙ calls-append place.tree place.noted _ ∙ ap (λ l. flat_map (calls_at place.tree) place.noted ++ l) (calls-append place.tree (next place.tree place.path) place.later)) stands.can.fits)
 
 -- ---- an entry of a directory
 
@@ -113,15 +113,15 @@ module _ (image : Image) (counts : List ℕ) (i : ℕ) (text : List ℕ) (before
   listed : map (λ (row : ℕ × Name). row.1) rows ≡ names
   listed = are.names tree place.path stands.can.shows stands.found
 
-  -- what is told before the k-th entry
+  -- what is reported before the k-th entry
   abbrev pub entries_to : ℕ → List Entry
   entries_to k = entries_at tree place.path (take k names)
 
-  abbrev pub told_to : ℕ → List Entry
-  told_to k = place.told ++ entries_to k
+  abbrev pub reported_to : ℕ → List Entry
+  reported_to k = place.noted ++ entries_to k
 
-  pub told_none : told_to 0 ≡ place.told
-  told_none = append-nil place.told
+  pub reported_none : reported_to 0 ≡ place.noted
+  reported_none = append-nil place.noted
 
   pub entries_all : (k : ℕ) → length rows ≤ k → entries_to k ≡ inside tree place.path
   entries_all k all = ap (entries_at tree place.path) (take_all k names (omega (arith, ap length listed, length-map rows (λ (row : ℕ × Name). row.1), all)))
@@ -162,26 +162,26 @@ module _ (image : Image) (counts : List ℕ) (i : ℕ) (text : List ℕ) (before
         go dir is = rw is (directory_here image tree stands.can child (child_there ∙ ap Some is))
         go (file content) is = rw is ((walked image tree stands.can).at_file child content (child_there ∙ ap Some is))
 
-    abbrev pub behind : List Entry
-    behind = entries_at tree place.path (drop (k + 1) names)
+    abbrev pub following : List Entry
+    following = entries_at tree place.path (drop (k + 1) names)
 
-    pub whole : inside tree place.path ≡ entries_to k ++ ((itself image j tree child ++ below_node (node_of image j)) ++ behind)
+    pub whole : inside tree place.path ≡ entries_to k ++ ((itself image j tree child ++ below_node (node_of image j)) ++ following)
     whole =
         ap (entries_at tree place.path) (cut_at names k name at_name) ∙ entries_at-append tree place.path (take k names) (name ∷ drop (k + 1) names)
-        ∙ ap (λ es. entries_to k ++ (es ++ behind)) below_child
+        ∙ ap (λ es. entries_to k ++ (es ++ following)) below_child
 
-    order : (rest : List Entry) → below_node (node_of image j) ≡ rest → entries tree.nodes ≡ told_to k ++ (itself image j tree child ++ (rest ++ (behind ++ place.later)))
+    order : (rest : List Entry) → below_node (node_of image j) ≡ rest → entries tree.nodes ≡ reported_to k ++ (itself image j tree child ++ (rest ++ (following ++ place.later)))
     order rest is = rw (← is) (
-        stands.order ∙ ap (λ es. place.told ++ (es ++ place.later)) whole
-        ∙ ap (λ es. place.told ++ es) (append_assoc (entries_to k) ((itself image j tree child ++ below_node (node_of image j)) ++ behind) place.later
-        ∙ ap (λ es. entries_to k ++ es) (append_assoc (itself image j tree child ++ below_node (node_of image j)) behind place.later))
-        ∙ sym (append_assoc place.told (entries_to k) ((itself image j tree child ++ below_node (node_of image j)) ++ (behind ++ place.later))))
+        stands.order ∙ ap (λ es. place.noted ++ (es ++ place.later)) whole
+        ∙ ap (λ es. place.noted ++ es) (append_assoc (entries_to k) ((itself image j tree child ++ below_node (node_of image j)) ++ following) place.later
+        ∙ ap (λ es. entries_to k ++ es) (append_assoc (itself image j tree child ++ below_node (node_of image j)) following place.later))
+        ∙ sym (append_assoc place.noted (entries_to k) ((itself image j tree child ++ below_node (node_of image j)) ++ (following ++ place.later))))
 
     -- the walk stands at the entry, and then in it, where it is a directory
     abbrev pub child_place : Place
-    child_place = record { tree = tree; path = child; told = told_to k; later = below_node (node_of image j) ++ (behind ++ place.later) }
+    child_place = record { tree = tree; path = child; noted = reported_to k; later = below_node (node_of image j) ++ (following ++ place.later) }
 
-    pub stands_at_child : (firsts : Firsts) → RemembersFirsts image counts firsts (told_to k) → WalkStandsAt image counts (itself image j) j (text ++ 47 ∷ name) firsts child_place
+    pub stands_at_child : (firsts : Firsts) → RemembersFirsts image counts firsts (reported_to k) → WalkStandsAt image counts (itself image j) j (text ++ 47 ∷ name) firsts child_place
     stands_at_child firsts remembers = record {
       can = stands.can;
       found = child_found;
@@ -191,17 +191,17 @@ module _ (image : Image) (counts : List ℕ) (i : ℕ) (text : List ℕ) (before
     }
 
     abbrev pub inner_place : Place
-    inner_place = record { tree = tree; path = child; told = told_to k ++ itself image j tree child; later = behind ++ place.later }
+    inner_place = record { tree = tree; path = child; noted = reported_to k ++ itself image j tree child; later = following ++ place.later }
 
     pub is_dir : IsDirectory image j → below_node (node_of image j) ≡ inside tree child
     is_dir kind = ap below_node (node-directory image tree stands.can j kind)
 
-    pub stands_in_child : IsDirectory image j → (firsts : Firsts) → RemembersFirsts image counts firsts (told_to k ++ itself image j tree child) → WalkStandsAt image counts inside j (text ++ 47 ∷ name) firsts inner_place
+    pub stands_in_child : IsDirectory image j → (firsts : Firsts) → RemembersFirsts image counts firsts (reported_to k ++ itself image j tree child) → WalkStandsAt image counts inside j (text ++ 47 ∷ name) firsts inner_place
     stands_in_child kind firsts remembers = record {
       can = stands.can;
       found = child_found;
       spelled = child_text;
-      order = order (inside tree child) (is_dir kind) ∙ sym (append_assoc (told_to k) (itself image j tree child) (inside tree child ++ (behind ++ place.later)));
+      order = order (inside tree child) (is_dir kind) ∙ sym (append_assoc (reported_to k) (itself image j tree child) (inside tree child ++ (following ++ place.later)));
       remembers = remembers;
     }
 
@@ -221,10 +221,10 @@ module _ (image : Image) (counts : List ℕ) (i : ℕ) (text : List ℕ) (before
     pub next_directory : IsDirectory image j → entries_to (k + 1) ≡ entries_to k ++ (itself image j tree child ++ inside tree child)
     next_directory kind = next_entries ∙ ap (λ es. entries_to k ++ (itself image j tree child ++ es)) (is_dir kind)
 
-    pub told_file : IsFile image j → told_to (k + 1) ≡ told_to k ++ itself image j tree child
-    told_file kind = ap (λ es. place.told ++ es) (next_file kind) ∙ sym (append_assoc place.told (entries_to k) (itself image j tree child))
+    pub reported_file : IsFile image j → reported_to (k + 1) ≡ reported_to k ++ itself image j tree child
+    reported_file kind = ap (λ es. place.noted ++ es) (next_file kind) ∙ sym (append_assoc place.noted (entries_to k) (itself image j tree child))
 
-    pub told_directory : IsDirectory image j → told_to (k + 1) ≡ (told_to k ++ itself image j tree child) ++ inside tree child
-    told_directory kind =
-        ap (λ es. place.told ++ es) (next_directory kind) ∙ sym (append_assoc place.told (entries_to k) (itself image j tree child ++ inside tree child))
-        ∙ sym (append_assoc (told_to k) (itself image j tree child) (inside tree child))
+    pub reported_directory : IsDirectory image j → reported_to (k + 1) ≡ (reported_to k ++ itself image j tree child) ++ inside tree child
+    reported_directory kind =
+        ap (λ es. place.noted ++ es) (next_directory kind) ∙ sym (append_assoc place.noted (entries_to k) (itself image j tree child ++ inside tree child))
+        ∙ sym (append_assoc (reported_to k) (itself image j tree child) (inside tree child))

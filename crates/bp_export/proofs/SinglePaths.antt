@@ -22,10 +22,10 @@ one_member (x ∷ y ∷ xs) a b few one two = absurd (omega (arith, few))
 module _ (image : Image) (wf : IsWellFormed image) (i : ℕ) where
   -- the last name of a path, and the entry that it is
   record Ends (path : Path) : Type 0 where
-    pub front : Path
+    pub prefix : Path
     pub name : Name
-    pub is : path ≡ front ++ name ∷ []
-    pub step : LastStep image wf front name i
+    pub is : path ≡ prefix ++ name ∷ []
+    pub step : LastStep image wf prefix name i
 
   ends : IsFile image i → (path : Path) → lookup image path ≡ Some i → Ends path
   ends kind path found = go (by_last path) found
@@ -34,10 +34,10 @@ module _ (image : Image) (wf : IsWellFormed image) (i : ℕ) where
       go none at =
           let root : 1 ≡ i = cc in
           absurd (omega (arith, kind, ap (kind_of image) root, wf.root_kind))
-      go (more {path = front} before name) at = record { front = front; name = name; is = refl; step = last_step image wf front name i at }
+      go (more {path = prefix} before name) at = record { prefix = prefix; name = name; is = refl; step = last_step image wf prefix name i at }
 
   pub single_path : (count : ℕ) → HasNames image i count → count ≤ 1 → IsFile image i → (p q : Path) → lookup image p ≡ Some i → lookup image q ≡ Some i → p ≡ q
-  single_path count has few kind p q at_p at_q = one.is ∙ ap₂ (λ x y. x ++ y ∷ []) fronts names ∙ sym two.is
+  single_path count has few kind p q at_p at_q = one.is ∙ ap₂ (λ x y. x ++ y ∷ []) prefixes names ∙ sym two.is
     where
       one : Ends p
       one = ends kind p at_p
@@ -56,8 +56,8 @@ module _ (image : Image) (wf : IsWellFormed image) (i : ℕ) where
       slots : one.step.shows.slot ≡ two.step.shows.slot
       slots = ap (λ (e : ℕ × ℕ). e.1) same
 
-      fronts : one.front ≡ two.front
-      fronts = path_once image wf one.front two.front one.step.parent one.step.found (two.step.found ∙ ap Some (sym parents)) one.step.shows.entry.directory
+      prefixes : one.prefix ≡ two.prefix
+      prefixes = path_once image wf one.prefix two.prefix one.step.parent one.step.found (two.step.found ∙ ap Some (sym parents)) one.step.shows.entry.directory
 
       names : one.name ≡ two.name
       names = sym one.step.shows.spelled ∙ ap₂ (name_at image) parents slots ∙ two.step.shows.spelled

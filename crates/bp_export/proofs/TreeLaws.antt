@@ -19,7 +19,7 @@ use Rattle.bp_plain.specs.Stands.{Stands}
 use Rattle.bp_plain.proofs.Exportable.{image_exportable}
 use Rattle.bp_script.proofs.ExportLines.{export_short}
 use Rattle.bp_export.specs.Firsts.{first_text}
-use Rattle.bp_export.specs.Walking.{CanTell, WalkStandsAt, inside}
+use Rattle.bp_export.specs.Walking.{CanExport, WalkStandsAt, inside}
 use Rattle.bp_export.specs.declared.firsts.Firsts.{Firsts}
 use Rattle.bp_export.proofs.Places.{root_place, stands_at_root}
 
@@ -38,8 +38,8 @@ module _ (image : Image) (wf : IsWellFormed image) (path : Path) (i : ℕ) (foun
 
       go : {p : Path} → ByLast p → lookup image p ≡ Some i → 1 ≤ i
       go none at = let root : 1 ≡ i = cc in omega (arith, root)
-      go (more {path = front} before name) at =
-          let step : LastStep image wf front name i = last_step image wf front name i at in
+      go (more {path = prefix} before name) at =
+          let step : LastStep image wf prefix name i = last_step image wf prefix name i at in
           not_zero i step.shows.entry.not_empty
 
 -- the counts of names have one for each inode
@@ -60,11 +60,11 @@ module _ (image : Image) (tree : FileTree) (stands : Stands image tree) (short :
   can : IsExportable tree × IsOfBytes tree
   can = image_exportable image tree stands short
 
-  pub can_tell : CanTell image tree.now
-  can_tell = record { shows = stands.now; short = short; fits = export_short tree can.0 can.1 }
+  pub can_export : CanExport image tree.now
+  can_export = record { shows = stands.now; short = short; fits = export_short tree can.0 can.1 }
 
   -- all but the root itself, which takes no call
   pub all_calls : (counts : List ℕ) (firsts : Firsts) → ((i : ℕ) → first_text firsts i ≡ None) → flat_map (calls_at tree.now) (inside tree.now []) ≡ export_calls tree
   all_calls counts firsts nothing =
-      let stands : WalkStandsAt image counts inside 1 [] firsts (root_place image tree.now can_tell) = stands_at_root image tree.now can_tell counts firsts nothing in
+      let stands : WalkStandsAt image counts inside 1 [] firsts (root_place image tree.now can_export) = stands_at_root image tree.now can_export counts firsts nothing in
       ap (flat_map (calls_at tree.now)) (sym (append-nil (inside tree.now []))) ∙ sym (ap (flat_map (calls_at tree.now)) stands.order)

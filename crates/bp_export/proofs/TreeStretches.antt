@@ -56,13 +56,13 @@ pub live_stretch : (image : Image) (root size leaf : ℕ) → block_size * leaf 
 live_stretch image root size leaf live = omega (arith, live, length_content image root size)
 
 pub zeros_before : (image : Image) (root size from leaf : ℕ) → IsNextLeaf image root size from leaf → (j : ℕ) → from ≤ j → j < leaf → is_zeros (stretch (content image root size) j) ≡ true
-zeros_before image root size from leaf next j behind low = null_zeros image root size j (omega (arith, low, next.live)) (next.first j behind low)
+zeros_before image root size from leaf next j following low = null_zeros image root size j (omega (arith, low, next.live)) (next.first j following low)
 
 pub zeros_from : (image : Image) (root size from : ℕ) → HasNoLeafFrom image root size from → (j : ℕ) → from ≤ j → block_size * j < length (content image root size) → is_zeros (stretch (content image root size) j) ≡ true
-zeros_from image root size from none j behind live =
+zeros_from image root size from none j following live =
     let low : 4096 * j < size = omega (arith, live, length_content image root size) in
-    null_zeros image root size j low (none j behind low)
+    null_zeros image root size j low (none j following low)
 
 -- the stretches that are left
 pub zeros_left : (image : Image) (root size from : ℕ) → HasNoLeafFrom image root size from → (j : ℕ) → from ≤ j → j < stretches (content image root size) → is_zeros (stretch (content image root size) j) ≡ true
-zeros_left image root size from none j behind low = zeros_from image root size from none j behind (omega (arith, low))
+zeros_left image root size from none j following low = zeros_from image root size from none j following (omega (arith, low))

@@ -34,13 +34,13 @@ pub record HasLongEntry (image : Image) (i first count left : ℕ) : Type 0 wher
 
 -- Whether a path that is too long begins with the entry that these words are, in whichever directory they are an
 -- entry.
-abbrev pub TellsLongEntry : Image → List ℕ → ℕ → Bool → Type 0
-TellsLongEntry image words left long =
+abbrev pub ReportsLongEntry : Image → List ℕ → ℕ → Bool → Type 0
+ReportsLongEntry image words left long =
     (i slot : ℕ) → HasWords image (root_of image i) slot words → (IsTrue long ↔ IsLongEntry image i slot left)
 
 -- Whether a path that is too long begins with one of the consecutive entries that these words are, in whichever
 -- directory.
-abbrev pub TellsLongRow : Image → List ℕ → ℕ → Bool → Type 0
-TellsLongRow image words left long =
+abbrev pub ReportsLongRow : Image → List ℕ → ℕ → Bool → Type 0
+ReportsLongRow image words left long =
     (i first count : ℕ) → IsRow image (root_of image i) first count words
     → (IsTrue long ↔ HasLongEntry image i first count left)

@@ -3,7 +3,7 @@ pub mod Entries
 pub mod Exports
 pub mod Named
 pub mod Rows
-pub mod Telling
+pub mod Report
 pub mod Firsts
 pub mod Walking
 pub mod Held

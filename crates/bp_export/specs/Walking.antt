@@ -46,16 +46,16 @@ finds_file image i path = are_one (Some i) (file_at image path)
 
 -- The text of the first path among some entries that finds file i.
 abbrev pub text_of_first : Image → ℕ → List (Path × Node) → Option (List ℕ)
-text_of_first image i told = option_map path_text (find (finds_file image i) (map (λ entry. entry.0) told))
+text_of_first image i noted = option_map path_text (find (finds_file image i) (map (λ entry. entry.0) noted))
 
 -- For each file with several links, the first path among the entries written so far is remembered, if there is one.
-pub record RemembersFirsts (image : Image) (counts : List ℕ) (firsts : Firsts) (told : List (Path × Node)) : Type 0 where
-  pub each : (i : ℕ) → 1 < slice_index counts i → first_text firsts i ≡ text_of_first image i told
+pub record RemembersFirsts (image : Image) (counts : List ℕ) (firsts : Firsts) (noted : List (Path × Node)) : Type 0 where
+  pub each : (i : ℕ) → 1 < slice_index counts i → first_text firsts i ≡ text_of_first image i noted
 
 -- ---- a walk
 
 -- The tree is that of the image, and each call of its script can be written.
-pub record CanTell (image : Image) (tree : PathMap) : Type 0 where
+pub record CanExport (image : Image) (tree : PathMap) : Type 0 where
   pub shows : Shows image tree
   pub short : (path : Path) (node : Node) → get tree.nodes path ≡ Some node → length (path_text path) ≤ max_path
   pub fits : All FitsText (flat_map (calls_at tree) (entries tree.nodes))
@@ -64,22 +64,22 @@ pub record CanTell (image : Image) (tree : PathMap) : Type 0 where
 pub record Place : Type 0 where
   pub tree : PathMap
   pub path : Path
-  pub told : List (Path × Node)
+  pub noted : List (Path × Node)
   pub later : List (Path × Node)
 
 -- A walk over the tree of the image is at the place: the path finds inode i and has this text, and its next entries
 -- follow those written before.
 pub record WalkStandsAt (image : Image) (counts : List ℕ) (next : PathMap → Path → List (Path × Node)) (i : ℕ)
     (text : List ℕ) (firsts : Firsts) (place : Place) : Type 0 where
-  pub can : CanTell image place.tree
+  pub can : CanExport image place.tree
   pub found : lookup image place.path ≡ Some i
   pub spelled : text ≡ path_text place.path
-  pub order : entries place.tree.nodes ≡ place.told ++ (next place.tree place.path ++ place.later)
-  pub remembers : RemembersFirsts image counts firsts place.told
+  pub order : entries place.tree.nodes ≡ place.noted ++ (next place.tree place.path ++ place.later)
+  pub remembers : RemembersFirsts image counts firsts place.noted
 
 -- The next entries were written, as far as the result states. If all were, the first paths among them are remembered
 -- too.
 pub record Tours {T : Type 0} (image : Image) (counts : List ℕ) (next : PathMap → Path → List (Path × Node))
     (place : Place) (result : Result T Fault) (firsts : Firsts) (before after : List ℕ) (old new : SinkView) : Type 0 where
   pub goes : Goes (flat_map (calls_at place.tree) (next place.tree place.path)) result before after old new
-  pub remembers : OnOk result (RemembersFirsts image counts firsts (place.told ++ next place.tree place.path))
+  pub remembers : OnOk result (RemembersFirsts image counts firsts (place.noted ++ next place.tree place.path))

@@ -1,7 +1,7 @@
 //! The test whether a tree has a path that no call can spell.
 
 ghost use Rattle.std.specs.Prelude.{◌↔◌, IsTrue};
-ghost use Rattle.bp_export.specs.Depth.{HasLongPath, TellsLongEntry, TellsLongRow};
+ghost use Rattle.bp_export.specs.Depth.{HasLongPath, ReportsLongEntry, ReportsLongRow};
 ghost use Rattle.bp_export.specs.Rows.{EachEntry, NamesReached};
 ghost use Rattle.bp_layout.specs.Inode.{IsDirectory};
 ghost use Rattle.bp_layout.specs.Reached.{IsReached};
@@ -39,7 +39,7 @@ pub(crate) fn has_long_path<R: Region>(region: &R, ino: u32, left: usize) -> boo
 fn has_long_entry<R: Region>(region: &R, words: &[u64], left: usize) -> bool
     requires well_formed { IsWellFormed (words_in R.memory region.now) }
     requires entries { EachEntry (NamesReached (words_in R.memory region.now)) words.now }
-    ensures { TellsLongRow (words_in R.memory region.now) words.now left result }
+    ensures { ReportsLongRow (words_in R.memory region.now) words.now left result }
 {
     for index in 0..words.len() / ENTRY {
         let view = EntryView::new(&words[ENTRY * index..ENTRY * index + ENTRY]);
@@ -55,7 +55,7 @@ fn has_long_entry<R: Region>(region: &R, words: &[u64], left: usize) -> bool
 fn is_long<R: Region>(region: &R, view: EntryView<'_>, left: usize) -> bool
     requires well_formed { IsWellFormed (words_in R.memory region.now) }
     requires entry { NamesReached (words_in R.memory region.now) view.words.now }
-    ensures { TellsLongEntry (words_in R.memory region.now) view.entry.words.now left result }
+    ensures { ReportsLongEntry (words_in R.memory region.now) view.entry.words.now left result }
 {
     let inumber = view.inumber();
     if inumber == 0 {

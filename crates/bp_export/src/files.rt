@@ -5,10 +5,10 @@ ghost use Rattle.bp_layout.specs.Tree.{IsSound};
 ghost use Rattle.bp_limits.specs.Limits.{block_size};
 ghost use Rattle.bp_plain.specs.Export.{is_zeros, size_call, write_of, writes_of};
 ghost use Rattle.bp_script.specs.Export.{FitsText};
-ghost use Rattle.bp_export.specs.Telling.{TellsAmong, calls_to_make, content_in, size_behind, write_end};
+ghost use Rattle.bp_export.specs.Report.{ReportsAmong, calls_to_make, content_in, size_after, write_end};
 ghost use Rattle.pm_region.specs.Memory.{words_in};
 
-use crate::telling::tell;
+use crate::lines::report;
 use bp_io::{Failed, Sink};
 use bp_limits::BLOCK_SIZE;
 use bp_plain::Call;
@@ -38,9 +38,9 @@ fn export_stretch<R: Region, K: Sink>(
     requires live { block_size * leaf < tree.size }
     requires room { length block.old ≡ block_size }
     requires short { All FitsText (write_of path.now (content_in (R.memory region.now) tree) leaf) }
-    ensures told { let bytes = content_in (R.memory region.now) tree in
+    ensures noted { let bytes = content_in (R.memory region.now) tree in
         IfOk result (λ end. end ≡ write_end bytes leaf tree.size) }
-    ensures lines { TellsAmong (write_of path.now (content_in (R.memory region.now) tree) leaf)
+    ensures lines { ReportsAmong (write_of path.now (content_in (R.memory region.now) tree) leaf)
         result replies.old (K.view out.old) replies.new (K.view out.new) }
     ensures room { length block.new ≡ block_size }
 {
@@ -50,7 +50,7 @@ fn export_stretch<R: Region, K: Sink>(
     if are_zeros(bytes) {
         return Ok(None);
     }
-    tell(
+    report(
         Call::Write {
             path,
             offset,
@@ -75,37 +75,37 @@ fn export_leaves<R: Region, K: Sink>(
     requires sound { IsSound (words_in R.memory region.now) tree.root tree.size }
     requires room { length block.old ≡ block_size }
     requires short { All FitsText (writes_of path.now (content_in (R.memory region.now) tree)) }
-    ensures told { let bytes = content_in (R.memory region.now) tree in
-        IfOk result (λ told. size_behind path.now told tree.size ≡ size_call path.now bytes) }
-    ensures lines { TellsAmong (writes_of path.now (content_in (R.memory region.now) tree))
+    ensures noted { let bytes = content_in (R.memory region.now) tree in
+        IfOk result (λ noted. size_after path.now noted tree.size ≡ size_call path.now bytes) }
+    ensures lines { ReportsAmong (writes_of path.now (content_in (R.memory region.now) tree))
         result replies.old (K.view out.old) replies.new (K.view out.new) }
     ensures room { length block.new ≡ block_size }
 {
-    let mut told = 0;
+    let mut noted = 0;
     let mut from = 0;
     while let Some(leaf) = next_leaf(region, tree, from) {
         let end = export_stretch(region, tree, leaf, path, block, replies, out)?;
-        told = end.unwrap_or(told);
+        noted = end.unwrap_or(noted);
         from = leaf + 1;
     }
-    Ok(told)
+    Ok(noted)
 }
 
 /// Writes the line for the size of a file, unless the last written stretch ends there.
 fn export_size<K: Sink>(
     path: &[u8],
-    told: u64,
+    noted: u64,
     size: u64,
     replies: &mut Replies,
     out: &mut K,
 ) -> Result<(), Failed>
-    requires { All FitsText (size_behind path.now told size) }
-    ensures { TellsAmong (size_behind path.now told size) result replies.old (K.view out.old) replies.new (K.view out.new) }
+    requires { All FitsText (size_after path.now noted size) }
+    ensures { ReportsAmong (size_after path.now noted size) result replies.old (K.view out.old) replies.new (K.view out.new) }
 {
-    if told == size {
+    if noted == size {
         return Ok(());
     }
-    tell(Call::Truncate { path, size }, replies, out)
+    report(Call::Truncate { path, size }, replies, out)
 }
 
 /// Writes the lines that make the file with this tree at a path: that it exists, its bytes, and its size if no bytes
@@ -125,11 +125,11 @@ pub(crate) fn export_file<R: Region, K: Sink>(
     requires sound { IsSound (words_in R.memory region.now) tree.root tree.size }
     requires room { length block.old ≡ block_size }
     requires short { All FitsText (calls_to_make path.now (R.memory region.now) tree) }
-    ensures lines { TellsAmong (calls_to_make path.now (R.memory region.now) tree)
+    ensures lines { ReportsAmong (calls_to_make path.now (R.memory region.now) tree)
         result replies.old (K.view out.old) replies.new (K.view out.new) }
     ensures room { length block.new ≡ block_size }
 {
-    tell(Call::Create(path), replies, out)?;
-    let told = export_leaves(region, tree, path, block, replies, out)?;
-    export_size(path, told, tree.size, replies, out)
+    report(Call::Create(path), replies, out)?;
+    let noted = export_leaves(region, tree, path, block, replies, out)?;
+    export_size(path, noted, tree.size, replies, out)
 }

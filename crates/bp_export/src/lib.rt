@@ -9,8 +9,8 @@ mod entries;
 mod fault;
 mod files;
 mod firsts;
+mod lines;
 mod rows;
-mod telling;
 mod trees;
 mod work;
 

@@ -21,7 +21,7 @@ use crate::depth::has_long_path;
 use crate::entries::Entries;
 use crate::fault::Fault;
 use crate::files::export_file;
-use crate::telling::tell;
+use crate::lines::report;
 use crate::work::Work;
 use bp_free::Counts;
 use bp_inodes::get;
@@ -107,7 +107,7 @@ fn export_name<R: Region, K: Sink>(
             from: first,
             to: &work.path,
         };
-        tell(call, &mut work.replies, out)?;
+        report(call, &mut work.replies, out)?;
         return Ok(());
     }
     work.firsts.add(alloc, ino, &work.path)?;
@@ -141,7 +141,7 @@ fn export_entry<R: Region, K: Sink>(
     let inode = get(region, ino);
     match inode.kind {
         Kind::File => export_name(alloc, region, ino, Tree::of(&inode), counts, work, out)?,
-        Kind::Dir => tell(Call::Mkdir(&work.path), &mut work.replies, out)?,
+        Kind::Dir => report(Call::Mkdir(&work.path), &mut work.replies, out)?,
     }
     Ok(inode.kind)
 }

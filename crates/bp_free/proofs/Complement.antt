@@ -8,7 +8,7 @@ use Rattle.std.proofs.lemmas.Bool.{cases_eq}
 use Rattle.std.proofs.lemmas.List.{get_or-set_same, length-set}
 use Rattle.std.proofs.lemmas.Nat.Bits.{bit_at_and, bit_at_not, bit_at_ones, bit_at_ones_above, bit_at-lt}
 use Rattle.bp_free.specs.Set.{Set, has, members, IsComplement}
-use Rattle.bp_free.specs.Words.{set_in, HoldRoom, IsTurnedOver, ComplementsWord, TellsEmpty, IsSummary, IsCounted, IsCountedBelow}
+use Rattle.bp_free.specs.Words.{set_in, HoldRoom, IsTurnedOver, ComplementsWord, ReportsEmpty, IsSummary, IsCounted, IsCountedBelow}
 use Rattle.bp_free.proofs.Words.{length_in, has_in, room_seen, word_here, word_there, word_is, alone_by}
 
 -- ---- a word
@@ -45,11 +45,11 @@ turned_holds words room word old count bits hold low size_is turned =
       fits = hold.fits;
       long = omega (arith, hold.long, size);
       short = omega (arith, hold.short, size);
-      behind = λ k high. elim (cases_eq (k / 64) word) [
+      beyond = λ k high. elim (cases_eq (k / 64) word) [
         | inl here ↦
-            let behind : count ≤ k % 64 = omega (arith, high, here, size_is) in
-            word_here words word bits k at here ∙ ap (λ n. eqb n 1) (turned.high (k % 64) behind)
-        | inr there ↦ word_there words word bits k there ∙ hold.behind k high
+            let beyond : count ≤ k % 64 = omega (arith, high, here, size_is) in
+            word_here words word bits k at here ∙ ap (λ n. eqb n 1) (turned.high (k % 64) beyond)
+        | inr there ↦ word_there words word bits k there ∙ hold.beyond k high
       ];
     }
 
@@ -77,8 +77,8 @@ turned_seen words others room room_other word old count bits seen other hold vie
     }
 
 -- a word that is 0 is empty, and another one is not
-pub turned_tells : (words : List ℕ) (room word old count bits : ℕ) → HoldRoom words room → 64 * word < room → bits < 2 ^ 64 → count ≡ min (room - 64 * word) 64 → IsTurnedOver old count bits → TellsEmpty (set_in (set words word bits) room) word (eqb bits 0)
-turned_tells words room word old count bits hold low fits size_is turned =
+pub turned_reports : (words : List ℕ) (room word old count bits : ℕ) → HoldRoom words room → 64 * word < room → bits < 2 ^ 64 → count ≡ min (room - 64 * word) 64 → IsTurnedOver old count bits → ReportsEmpty (set_in (set words word bits) room) word (eqb bits 0)
+turned_reports words room word old count bits hold low fits size_is turned =
     let at : word < length words = omega (arith, low, hold.long) in
     alone_by (set words word bits) room (set_in (set words word bits) room) word bits
     (turned_holds words room word old count bits hold low size_is turned) refl
@@ -86,20 +86,20 @@ turned_tells words room word old count bits hold low fits size_is turned =
 
 -- ---- word by word
 
--- the words below one have the numbers that another set lacks, and used tells which of these words are not empty
+-- the words below one have the numbers that another set lacks, and used reports which of these words are not empty
 pub record IsMidway (other now used : Set) (word : ℕ) : Type 0 where
   pub room : length now ≡ length other
   pub words : length used ≡ (length other + 63) / 64
   pub each : (i : ℕ) → i / 64 < word → i < length other → has now i ≡ not (has other i)
-  pub told : (at : ℕ) → at < word → TellsEmpty now at (not (has used at))
+  pub reported : (at : ℕ) → at < word → ReportsEmpty now at (not (has used at))
 
 twice : (b : Bool) → not (not b) ≡ b
 twice true = refl
 twice false = refl
 
-in_use : (s : Set) (word i : ℕ) (b : Bool) → TellsEmpty s word (not b) → i / 64 ≡ word → has s i ≡ true → b ≡ true
-in_use s word i true tells here there = refl
-in_use s word i false tells here there = absurd (cc (there, tells i here))
+in_use : (s : Set) (word i : ℕ) (b : Bool) → ReportsEmpty s word (not b) → i / 64 ≡ word → has s i ≡ true → b ≡ true
+in_use s word i true reports here there = refl
+in_use s word i false reports here there = absurd (cc (there, reports i here))
 
 -- ---- how many
 

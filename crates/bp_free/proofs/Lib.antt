@@ -2,4 +2,4 @@ pub mod Members
 pub mod Words
 pub mod Summary
 pub mod Complement
-pub mod Fronts
+pub mod Prefixes

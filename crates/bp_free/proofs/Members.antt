@@ -144,8 +144,8 @@ members_all s i low there =
 pub members_has : (s : Set) (i : ℕ) → Contains (members s) i → has s i ≡ true
 members_has s i there = All-contains (λ k. has s k ≡ true) (members s) i (filter_passes (has s) (range_with_len 0 (length s))) there
 
-pub members_tell : (s : Set) (i : ℕ) → i < length s → Contains (members s) i ↔ (has s i ≡ true)
-members_tell s i low = (members_has s i, members_all s i low)
+pub members_report : (s : Set) (i : ℕ) → i < length s → Contains (members s) i ↔ (has s i ≡ true)
+members_report s i low = (members_has s i, members_all s i low)
 
 -- the members rise
 pub members_rise : (s : Set) → IsStrictlyIncreasing (members s)
@@ -231,7 +231,7 @@ count_filled from to old new order within none fills =
     let within_new : to ≤ length new = omega (arith, within, fills.room) in
     let now = members_parts new from to order within_new in
     let before = members_parts old from to order within in
-    let front : filter (has new) (range_with_len 0 from) ≡ filter (has old) (range_with_len 0 from) =
+    let prefix : filter (has new) (range_with_len 0 from) ≡ filter (has old) (range_with_len 0 from) =
     filter_same (has new) (has old) 0 from (λ k low high. fills.below k (omega (arith, high))) in
     let middle : filter (has new) (range_with_len from (to - from)) ≡ range_with_len from (to - from) =
     filter_all (has new) from (to - from) (λ k low high. fills.inside k low (omega (arith, low, high, order))) in
@@ -240,8 +240,8 @@ count_filled from to old new order within none fills =
     let back : filter (has new) (range_with_len to (length new - to)) ≡ filter (has old) (range_with_len to (length old - to)) =
     ap (λ n. filter (has new) (range_with_len to (n - to))) fills.room
     ∙ filter_same (has new) (has old) to (length old - to) (λ k low high. fills.above k low) in
-    let front_size = ap length front in
+    let prefix_size = ap length prefix in
     let middle_size : length (filter (has new) (range_with_len from (to - from))) ≡ to - from = ap length middle ∙ length-range_with_len from (to - from) in
     let middle_none : length (filter (has old) (range_with_len from (to - from))) ≡ 0 = ap length middle_old in
     let back_size = ap length back in
-    omega (arith, now, before, front_size, middle_size, middle_none, back_size)
+    omega (arith, now, before, prefix_size, middle_size, middle_none, back_size)

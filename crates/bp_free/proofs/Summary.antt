@@ -3,7 +3,7 @@ use Rattle.std.proofs.Common.{◌≡◌, ◌⊎◌, ℕ, ◌+◌, ◌-◌, ◌/�
 use Rattle.std.proofs.lemmas.Bool.{cases_eq, cases_lt}
 use Rattle.std.proofs.lemmas.List.{length-set, length-replicate, get_or-replicate}
 use Rattle.bp_free.specs.Set.{Set, has, members, with, without, empty, IsLeast, Fills}
-use Rattle.bp_free.specs.Words.{IsSummary, IsCounted, IsCountedBelow, IsEmptyWord, TellsAlone}
+use Rattle.bp_free.specs.Words.{IsSummary, IsCounted, IsCountedBelow, IsEmptyWord, ReportsAlone}
 use Rattle.bp_free.proofs.Members.{has_past, has_with_same, has_with_other, has_without_same, has_without_other, members_empty, members_none, count_with, count_without, count_less, count_most, count_filled}
 
 -- ---- cases
@@ -78,7 +78,7 @@ summary_without_last s used i sum low none =
           (found.0, found.1, has_without_other s i found.0 apart ∙ found.2);
     }
 
-summary_without : (s used : Set) (i : ℕ) → IsSummary s used → i < length s → TellsAlone s i false → IsSummary (without s i) used
+summary_without : (s used : Set) (i : ℕ) → IsSummary s used → i < length s → ReportsAlone s i false → IsSummary (without s i) used
 summary_without s used i sum low other_is =
     let long = length-set s i false in
     record {
@@ -119,7 +119,7 @@ counted_with s used new new_used count i counted is used_is low out =
       summary = summary_with s used i counted.summary low;
     })
 
-pub counted_without_last : (s used new new_used : Set) (count i : ℕ) → IsCounted s used count → new ≡ without s i → new_used ≡ without used (i / 64) → i < length s → has s i ≡ true → TellsAlone s i true → IsCounted new new_used (count - 1)
+pub counted_without_last : (s used new new_used : Set) (count i : ℕ) → IsCounted s used count → new ≡ without s i → new_used ≡ without used (i / 64) → i < length s → has s i ≡ true → ReportsAlone s i true → IsCounted new new_used (count - 1)
 counted_without_last s used new new_used count i counted is used_is low there none =
     let less = count_without s i low there in
     let long = length-set s i false in
@@ -129,7 +129,7 @@ counted_without_last s used new new_used count i counted is used_is low there no
       summary = summary_without_last s used i counted.summary low none;
     })
 
-pub counted_without : (s used new : Set) (count i : ℕ) → IsCounted s used count → new ≡ without s i → i < length s → has s i ≡ true → TellsAlone s i false → IsCounted new used (count - 1)
+pub counted_without : (s used new : Set) (count i : ℕ) → IsCounted s used count → new ≡ without s i → i < length s → has s i ≡ true → ReportsAlone s i false → IsCounted new used (count - 1)
 counted_without s used new count i counted is low there other_is =
     let less = count_without s i low there in
     let long = length-set s i false in

@@ -10,7 +10,7 @@ use Rattle.std.proofs.lemmas.Nat.Bits.{bit_at-zero, bit_at-trailing_zeros, shr_a
 use Rattle.std.proofs.Math.Nat.{le-mul_of_pos_right}
 use Rattle.std.proofs.lemmas.Nat.{and_le_r, pow_pos, pow-add}
 use Rattle.bp_free.specs.Set.{Set, has, with, without, empty, IsLeast, Fills}
-use Rattle.bp_free.specs.Words.{word_has, set_in, HoldRoom, IsLowestBit, IsLeastInWord, IsEmptyWord, TellsEmpty, TellsAlone}
+use Rattle.bp_free.specs.Words.{word_has, set_in, HoldRoom, IsLowestBit, IsLeastInWord, IsEmptyWord, ReportsEmpty, ReportsAlone}
 
 -- the word of number i with its bit set, and with it cleared
 abbrev pub set_bit : List ℕ → ℕ → ℕ
@@ -33,7 +33,7 @@ has_in words room hold i =
       | inl low ↦ has_low words room i low
       | inr high ↦
           let long : length (set_in words room) ≡ room = length_in words room in
-          get_or_past (set_in words room) i false (omega (arith, long, high)) ∙ sym (hold.behind i high)
+          get_or_past (set_in words room) i false (omega (arith, long, high)) ∙ sym (hold.beyond i high)
     ]
 
 -- ---- one bit
@@ -95,7 +95,7 @@ changed_room old new room i b hold low change = record {
   fits = hold.fits;
   long = omega (arith, change.length, hold.long);
   short = omega (arith, change.length, hold.short);
-  behind = λ k high. change.others k (λ same. absurd (omega (arith, same, high, low))) ∙ hold.behind k high;
+  beyond = λ k high. change.others k (λ same. absurd (omega (arith, same, high, low))) ∙ hold.beyond k high;
 }
 
 pub changed_set : (old new : List ℕ) (room i : ℕ) (b : Bool) → i < room → Changes old new i b → set_in new room ≡ set (set_in old room) i b
@@ -161,7 +161,7 @@ least_in_word words room word w bit hold value lowest =
     ∙ ap (λ d. eqb (bit_at w d) 1) digit ∙ ap (λ n. eqb n 1) lowest.is_set in
     let low : i < room = elim (cases_lt i room) [
       | inl low ↦ low
-      | inr high ↦ absurd (cc (there, hold.behind i high))
+      | inr high ↦ absurd (cc (there, hold.beyond i high))
     ] in
     record {
       low = omega (arith, low, length_in words room);
@@ -230,7 +230,7 @@ empty_holds n room fits long short =
       fits = fits;
       long = omega (arith, long, length_is);
       short = omega (arith, short, length_is);
-      behind = λ i _. no_word n i;
+      beyond = λ i _. no_word n i;
     }
 
 not_fits : (n : ℕ) → bit_not w64 n < 2 ^ 64
@@ -241,7 +241,7 @@ above_zero zero none = absurd (cc none)
 above_zero (suc n) none = omega arith
 
 -- the word without one of its numbers is 0 where that number is alone
-pub alone_by : (words : List ℕ) (room : ℕ) (left : Set) (word rest : ℕ) → HoldRoom words room → set_in words room ≡ left → rest ≡ get_or words word 0 → rest < 2 ^ 64 → (b : Bool) → eqb rest 0 ≡ b → TellsEmpty left word b
+pub alone_by : (words : List ℕ) (room : ℕ) (left : Set) (word rest : ℕ) → HoldRoom words room → set_in words room ≡ left → rest ≡ get_or words word 0 → rest < 2 ^ 64 → (b : Bool) → eqb rest 0 ≡ b → ReportsEmpty left word b
 alone_by words room left word rest hold view value fits true none =
     subst (λ s. IsEmptyWord s word) view (empty_word words room word hold (sym value ∙ eqb-true _ _ none))
 alone_by words room left word rest hold view value fits false more =
@@ -249,9 +249,9 @@ alone_by words room left word rest hold view value fits false more =
     let least = least_in_word words room word rest _ hold value (lowest_bit rest some fits) in
     (64 * word + trailing_zeros w64 rest, least.place, sym (ap (λ s. has s (64 * word + trailing_zeros w64 rest)) view) ∙ least.is_in)
 
-pub alone_tells : (words : List ℕ) (room : ℕ) (seen : Set) (i v : ℕ) → HoldRoom words room → set_in words room ≡ seen → i < length seen → v ≡ get_or words (i / 64) v →
-    TellsAlone seen i (eqb (bit_and v (bit_not w64 (1 * 2 ^ (i % 64) % 2 ^ 64))) 0)
-alone_tells words room seen i v hold view low read =
+pub alone_reports : (words : List ℕ) (room : ℕ) (seen : Set) (i v : ℕ) → HoldRoom words room → set_in words room ≡ seen → i < length seen → v ≡ get_or words (i / 64) v →
+    ReportsAlone seen i (eqb (bit_and v (bit_not w64 (1 * 2 ^ (i % 64) % 2 ^ 64))) 0)
+alone_reports words room seen i v hold view low read =
     let rest : ℕ = bit_and v (bit_not w64 (1 * 2 ^ (i % 64) % 2 ^ 64)) in
     let new : List ℕ = set words (i / 64) rest in
     let less : rest ≤ bit_not w64 (1 * 2 ^ (i % 64) % 2 ^ 64) = and_le_r v (bit_not w64 (1 * 2 ^ (i % 64) % 2 ^ 64)) in
@@ -260,13 +260,13 @@ alone_tells words room seen i v hold view low read =
     (sym (get_or-set_same words (i / 64) rest 0 (word_seen words room seen i hold view low)))
     (omega (arith, less, not_fits (1 * 2 ^ (i % 64) % 2 ^ 64))) (eqb rest 0) refl
 
-pub alone_tells_at : (words : List ℕ) (room : ℕ) (seen : Set) (word bit v : ℕ) → HoldRoom words room → set_in words room ≡ seen → 64 * word + bit < length seen → bit < 64 → v ≡ get_or words word v →
-    TellsAlone seen (64 * word + bit) (eqb (bit_and v (bit_not w64 (1 * 2 ^ bit % 2 ^ 64))) 0)
-alone_tells_at words room seen word bit v hold view low low_bit read =
+pub alone_reports_at : (words : List ℕ) (room : ℕ) (seen : Set) (word bit v : ℕ) → HoldRoom words room → set_in words room ≡ seen → 64 * word + bit < length seen → bit < 64 → v ≡ get_or words word v →
+    ReportsAlone seen (64 * word + bit) (eqb (bit_and v (bit_not w64 (1 * 2 ^ bit % 2 ^ 64))) 0)
+alone_reports_at words room seen word bit v hold view low low_bit read =
     let place : (64 * word + bit) / 64 ≡ word = omega (arith, low_bit) in
     let digit : (64 * word + bit) % 64 ≡ bit = omega (arith, low_bit) in
-    subst (λ d. TellsAlone seen (64 * word + bit) (eqb (bit_and v (bit_not w64 (1 * 2 ^ d % 2 ^ 64))) 0)) digit
-    (alone_tells words room seen (64 * word + bit) v hold view low (subst (λ w. v ≡ get_or words w v) (sym place) read))
+    subst (λ d. ReportsAlone seen (64 * word + bit) (eqb (bit_and v (bit_not w64 (1 * 2 ^ d % 2 ^ 64))) 0)) digit
+    (alone_reports words room seen (64 * word + bit) v hold view low (subst (λ w. v ≡ get_or words w v) (sym place) read))
 
 -- the least number of a set is that of the first word that is not empty
 pub least_seen : (seen : Set) (word i : ℕ) → ((k : ℕ) → k / 64 < word → has seen k ≡ false) → IsLeastInWord seen word i → IsLeast seen i
@@ -361,7 +361,7 @@ run_holds words room seen first count v hold view some low one_word read =
       fits = hold.fits;
       long = omega (arith, joins.length, hold.long);
       short = omega (arith, joins.length, hold.short);
-      behind = λ k high. joins.above k (omega (arith, low, long, high)) ∙ hold.behind k high;
+      beyond = λ k high. joins.above k (omega (arith, low, long, high)) ∙ hold.beyond k high;
     }
 
 pub run_seen : (words : List ℕ) (room : ℕ) (seen : Set) (first count v : ℕ) → HoldRoom words room → set_in words room ≡ seen → 0 < count → first + count ≤ length seen → first % 64 + count ≤ 64 → v ≡ get_or words (first / 64) v →
@@ -419,11 +419,11 @@ pub none_seen : (words : List ℕ) (room : ℕ) (seen : Set) (first count v : �
 none_seen words room seen first count v hold view some low one_word read =
     let at = word_seen words room seen first hold view (omega (arith, some, low)) in
     let value : v ≡ get_or words (first / 64) 0 = get_or_read words (first / 64) v at read 0 in
-    let told : (k : ℕ) → first ≤ k → k < first + count → has seen k ≡ eqb (bit_at v (k % 64)) 1 = λ k from to.
+    let reported : (k : ℕ) → first ≤ k → k < first + count → has seen k ≡ eqb (bit_at v (k % 64)) 1 = λ k from to.
     sym (ap (λ s. has s k) view) ∙ has_in words room hold k ∙ word_is words (first / 64) k (omega (arith, from, to, one_word))
     ∙ ap (λ n. eqb (bit_at n (k % 64)) 1) (sym value) in (
-      λ none k from to. told k from to ∙ ap (λ n. eqb n 1) (none_there v first count k none from to one_word),
-      λ none. none_common v first count one_word (λ k from to. one_or_none (bit_at v (k % 64)) (bit_at-lt v (k % 64)) (sym (told k from to) ∙ none k from to)),
+      λ none k from to. reported k from to ∙ ap (λ n. eqb n 1) (none_there v first count k none from to one_word),
+      λ none. none_common v first count one_word (λ k from to. one_or_none (bit_at v (k % 64)) (bit_at-lt v (k % 64)) (sym (reported k from to) ∙ none k from to)),
     )
 
 -- a number of a word that is not stored, since each word from `stored` on is 0, is no member

@@ -1,4 +1,4 @@
--- A list of which only a front is stored, in a vector.
+-- A list of which only a prefix is stored, in a vector.
 use Rattle.std.specs.Prelude.{ℕ, ◌≡◌, ◌≤◌, ◌-◌, ◌++◌, List, Vec, length, replicate, vec_capacity}
 
 -- The entries that are stored, and a blank one for each that is not.

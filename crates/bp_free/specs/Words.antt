@@ -17,7 +17,7 @@ pub record HoldRoom (words : List ℕ) (room : ℕ) : Type 0 where
   pub fits : room < 2 ^ 64
   pub long : room ≤ 64 * length words
   pub short : 64 * length words < room + 64
-  pub behind : (i : ℕ) → room ≤ i → word_has words i ≡ false
+  pub beyond : (i : ℕ) → room ≤ i → word_has words i ≡ false
 
 -- The position of the lowest bit of a word that is set.
 pub record IsLowestBit (word bit : ℕ) : Type 0 where
@@ -46,13 +46,13 @@ abbrev pub IsEmptyBelow : Set → ℕ → Type 0
 IsEmptyBelow set word = (k : ℕ) → k / 64 < word → has set k ≡ false
 
 -- Whether a word is empty. If it is not, it has a member.
-abbrev pub TellsEmpty : Set → ℕ → Bool → Type 0
-TellsEmpty set word true = IsEmptyWord set word
-TellsEmpty set word false = (k : ℕ) × (k / 64 ≡ word) × (has set k ≡ true)
+abbrev pub ReportsEmpty : Set → ℕ → Bool → Type 0
+ReportsEmpty set word true = IsEmptyWord set word
+ReportsEmpty set word false = (k : ℕ) × (k / 64 ≡ word) × (has set k ≡ true)
 
 -- Whether no other number of i's word is a member.
-abbrev pub TellsAlone : Set → ℕ → Bool → Type 0
-TellsAlone set i alone = TellsEmpty (without set i) (i / 64) alone
+abbrev pub ReportsAlone : Set → ℕ → Bool → Type 0
+ReportsAlone set i alone = ReportsEmpty (without set i) (i / 64) alone
 
 -- A word has the numbers that another set lacks, and the other words are as before.
 pub record ComplementsWord (other old new : Set) (word : ℕ) : Type 0 where

@@ -2,7 +2,7 @@
 
 ghost use Rattle.std.specs.Prelude.{◌≡◌, ℕ, ◌+◌, ◌-◌, ◌*◌, ◌/◌, ◌%◌, ◌<◌, ◌≤◌, ◌↔◌, ◌^◌, false, length, IsTrue, IfOk, IfSome, MatchOption};
 ghost use Rattle.bp_free.specs.Set.{Set, has, with, without, empty, IsLeast, Fills, IsComplement};
-ghost use Rattle.bp_free.specs.Words.{IsEmptyBelow, IsLowestBit, IsTurnedOver, IsLeastInWord, IsEmptyWord, TellsEmpty, TellsAlone, ComplementsWord, IsSummary};
+ghost use Rattle.bp_free.specs.Words.{IsEmptyBelow, IsLowestBit, IsTurnedOver, IsLeastInWord, IsEmptyWord, ReportsEmpty, ReportsAlone, ComplementsWord, IsSummary};
 
 use crate::padded::Padded;
 use crate::steps::Looks;
@@ -152,7 +152,7 @@ impl Bits {
     pub fn member<C: Looks>(&self, i: usize, counter: &mut C) -> Member
         requires { i < length self.now }
         ensures number { result.number ≡ i }
-        ensures alone { TellsAlone self.now i result.alone }
+        ensures alone { ReportsAlone self.now i result.alone }
         ensures look { C.taken counter.new ≤ C.taken counter.old + 1 }
     {
         counter.look();
@@ -168,7 +168,7 @@ impl Bits {
         requires { WORD * word < length self.now }
         ensures least { MatchOption result (IsEmptyWord self.now word)
             (λ least. IsLeastInWord self.now word least.number) }
-        ensures alone { IfSome result (λ least. TellsAlone self.now least.number least.alone) }
+        ensures alone { IfSome result (λ least. ReportsAlone self.now least.number least.alone) }
         ensures look { C.taken counter.new ≤ C.taken counter.old + 1 }
     {
         counter.look();
@@ -207,7 +207,7 @@ impl Bits {
         requires room { length other.now ≡ length self.old }
         requires in_range { WORD * word < length self.old }
         ensures numbers { ComplementsWord other.now self.old self.new word }
-        ensures empty { TellsEmpty self.new word result }
+        ensures empty { ReportsEmpty self.new word result }
     {
         let count = (self.room - WORD * word).min(WORD);
         let bits = turned_over(other.words.get(word), count);

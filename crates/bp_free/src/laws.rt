@@ -53,9 +53,9 @@ pub fn claims_one<K: Kind>(free: &mut Numbers<K>, i: u32)
 }
 
 /// States that the list is increasing and has exactly the free numbers.
-#[tactic(auto, using(crate::proofs::Members::members_rise, crate::proofs::Members::members_tell))]
+#[tactic(auto, using(crate::proofs::Members::members_rise, crate::proofs::Members::members_report))]
 pub fn lists_the_free<K: Kind>(free: &Numbers<K>, i: u32)
     requires { i < length free.now }
     ensures rising { IsStrictlyIncreasing (members free.now) }
-    ensures tells { Contains (members free.now) i ↔ (has free.now i ≡ true) }
+    ensures reports { Contains (members free.now) i ↔ (has free.now i ≡ true) }
 {}

@@ -5,7 +5,7 @@ ghost use Rattle.std.specs.Int.{div_ceil};
 ghost use Rattle.std.proofs.Common.{arith};
 ghost use Rattle.bp_free.specs.Looks.{looks};
 ghost use Rattle.bp_free.specs.Set.{Set, has, members, with, without, empty, IsLeast, TakesLeast, TakesOne, Fills, IsComplement};
-ghost use Rattle.bp_free.specs.Words.{TellsAlone, IsCounted};
+ghost use Rattle.bp_free.specs.Words.{ReportsAlone, IsCounted};
 
 use crate::bits::{Bits, Member, WORD};
 use crate::hints::Hints;
@@ -92,7 +92,7 @@ fn remove_from(free: &mut Bits, summary: &mut Summary, count: &mut usize, member
     requires counted { IsCounted free.old summary.old.words count.old }
     requires in_range { member.number < length free.old }
     requires free { has free.old member.number ≡ true }
-    requires alone { TellsAlone free.old member.number member.alone }
+    requires alone { ReportsAlone free.old member.number member.alone }
     ensures counted { IsCounted free.new summary.new.words count.new }
     ensures free { free.new ≡ without free.old member.number }
     ensures from { summary.new.from ≡ summary.old.from }

@@ -1,4 +1,4 @@
-//! A list of which only a front is stored.
+//! A list of which only a prefix is stored.
 
 ghost use Rattle.std.specs.Prelude.{◌≡◌, ℕ, ◌<◌, ◌≤◌, IfOk, length, replicate, slice_index_or, slice_set, vec_capacity};
 ghost use Rattle.bp_free.specs.Padded.{padded, AddsBlanks, HasRoomForAll};
@@ -36,7 +36,7 @@ impl Blank for u64 {
 }
 
 /// A list of a fixed length. Memory for all entries is reserved when it is made. The entries up to the last one that
-/// was ever set are stored, and the others are blank. So if only entries in front are set, little of that memory is
+/// was ever set are stored, and the others are blank. So if only entries in prefix are set, little of that memory is
 /// touched.
 #[derive(Drop)]
 pub(crate) struct Padded<T: Blank> {
@@ -70,7 +70,7 @@ fn grow<T: Blank>(stored: &mut Vec<T>, wanted: usize, room: usize)
 }
 
 /// Stores at least the wanted number of entries.
-#[tactic(auto, using(crate::proofs::Fronts::padded_more))]
+#[tactic(auto, using(crate::proofs::Prefixes::padded_more))]
 fn cover<T: Blank>(stored: &mut Vec<T>, wanted: usize, room: usize)
     requires wanted { wanted ≤ room }
     requires room { HasRoomForAll stored.old room }

@@ -21,7 +21,7 @@ pub(crate) struct Summary {
 }
 
 impl Summary {
-    /// Makes the summary of an empty set of so many words.
+    /// Makes the summary of an empty set of as many words.
     ///
     /// # Errors
     ///

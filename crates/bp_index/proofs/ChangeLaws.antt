@@ -23,7 +23,7 @@ keeps_same old old_root new new_root slot inumber name = record {
   name = λ live. name (λ none. live (inumber ∙ none));
 }
 
--- what an index tells of an entry it tells of one that keeps its name
+-- what an index describes an entry it describes one that keeps its name
 pub indexed_kept : (old : Image) (old_root : ℕ) (new : Image) (new_root slot : ℕ) (index : Index) → KeepsName old old_root new new_root slot →
     IsIndexed old old_root slot index → IsIndexed new new_root slot index
 indexed_kept old old_root new new_root slot index keeps is = record {
@@ -32,8 +32,8 @@ indexed_kept old old_root new new_root slot index keeps is = record {
   empty = λ none. is.empty (keeps.empty none);
 }
 
--- what a call tells by true, of the same name
-pub entered_as : (before after : Index) (name same : Name) (slot : ℕ) (told : Bool) → OnTrue told (EntersSlot before after name slot) → told ≡ true → name ≡ same →
+-- what a call reports by true, of the same name
+pub entered_as : (before after : Index) (name same : Name) (slot : ℕ) (reported : Bool) → OnTrue reported (EntersSlot before after name slot) → reported ≡ true → name ≡ same →
     EntersSlot before after same slot
 entered_as before after name same slot true enters is spelled = subst (λ n. EntersSlot before after n slot) spelled enters
 entered_as before after name same slot false enters is spelled = absurd (cc)
@@ -91,7 +91,7 @@ module _ (old : Image) (old_root old_size : ℕ) (new : Image) (new_root new_siz
   }
 
   module _ (name : Name) (slot : ℕ) (after : Index) where
-    -- a name comes to a slot that was empty, or lies behind the last
+    -- a name comes to a slot that was empty, or lies after the last
     pub right_entered : KeepsNames old old_root old_size new new_root new_size (λ touched. touched ≡ slot) → EntersSlot before after name slot →
         HasName new new_root slot name → IsIndexOf new new_root new_size after
     right_entered keeps enters has_name = record { each = λ other live. go other live (cases_eq other slot) }
@@ -102,15 +102,15 @@ module _ (old : Image) (old_root old_size : ℕ) (new : Image) (new_root new_siz
             others_entered new new_root before after name slot enters other apart
             (indexed_kept old old_root new new_root other before (keeps.keeps other live apart) (right.each other (keeps.live other live apart)))
 
-    -- what the index tells of a slot with a name
-    told : slot < old_size / 256 → HasName old old_root slot name → get nat_eq before.slots (hash_of name) ≡ Some slot
-    told live has_name = ap (λ n. get nat_eq before.slots (hash_of n)) (sym has_name.spelled) ∙ (right.each slot live).named has_name.live
+    -- what the index describes a slot with a name
+    reported : slot < old_size / 256 → HasName old old_root slot name → get nat_eq before.slots (hash_of name) ≡ Some slot
+    reported live has_name = ap (λ n. get nat_eq before.slots (hash_of n)) (sym has_name.spelled) ∙ (right.each slot live).named has_name.live
 
-    -- the other entries are told still when a name leaves
-    others_told : slot < old_size / 256 → HasName old old_root slot name → LeavesSlot before after name slot →
+    -- the other entries are reported still when a name leaves
+    others_reported : slot < old_size / 256 → HasName old old_root slot name → LeavesSlot before after name slot →
         (other : ℕ) → other ≢ slot → other < old_size / 256 → KeepsName old old_root new new_root other → IsIndexed new new_root other after
-    others_told live has_name leaves other apart was keeps =
-        others_left new new_root before after name slot leaves (told live has_name) (right.each slot live).room other apart
+    others_reported live has_name leaves other apart was keeps =
+        others_left new new_root before after name slot leaves (reported live has_name) (right.each slot live).room other apart
         (indexed_kept old old_root new new_root other before keeps (right.each other was))
 
     -- a name leaves its slot, which is empty then
@@ -120,10 +120,10 @@ module _ (old : Image) (old_root old_size : ℕ) (new : Image) (new_root new_siz
       where
         go : (other : ℕ) → other < new_size / 256 → (other ≡ slot) ⊎ (other ≡ slot → ⊥) → IsIndexed new new_root other after
         go other live (inl here) = subst (λ s. IsIndexed new new_root s after) (sym here) (indexed_left new new_root before after name slot leaves (right.each slot was).room none)
-        go other live (inr apart) = others_told was has_name leaves other apart (keeps.live other live apart) (keeps.keeps other live apart)
+        go other live (inr apart) = others_reported was has_name leaves other apart (keeps.live other live apart) (keeps.keeps other live apart)
 
     module _ (spelled : Name) (last : Index) where
-      -- the entry in a slot is spelled anew
+      -- the entry in a slot is spelled again
       pub right_respelled : KeepsNames old old_root old_size new new_root new_size (λ touched. touched ≡ slot) → slot < old_size / 256 → HasName old old_root slot name →
           LeavesSlot before after name slot → EntersSlot after last spelled slot → HasName new new_root slot spelled → IsIndexOf new new_root new_size last
       right_respelled keeps was has_name leaves enters has_new = record { each = λ other live. go other live (cases_eq other slot) }
@@ -132,7 +132,7 @@ module _ (old : Image) (old_root old_size : ℕ) (new : Image) (new_root new_siz
           go other live (inl here) = subst (λ s. IsIndexed new new_root s last) (sym here) (indexed_entered new new_root after last spelled slot enters has_new)
           go other live (inr apart) =
               others_entered new new_root after last spelled slot enters other apart
-              (others_told was has_name leaves other apart (keeps.live other live apart) (keeps.keeps other live apart))
+              (others_reported was has_name leaves other apart (keeps.live other live apart) (keeps.keeps other live apart))
 
       -- the entry in a slot moves to another one of the same directory, under any name
       pub right_moved : (target : ℕ) → target ≢ slot → KeepsNames old old_root old_size new new_root new_size (λ touched. (touched ≡ slot) ⊎ (touched ≡ target)) →
@@ -151,4 +151,4 @@ module _ (old : Image) (old_root old_size : ℕ) (new : Image) (new_root new_siz
               (subst (λ s. IsIndexed new new_root s after) (sym here) (indexed_left new new_root before after name slot leaves (right.each slot was).room none))
           go other live (inr apart) (inr beside) =
               others_entered new new_root after last spelled target enters other beside
-              (others_told was has_name leaves other apart (keeps.live other live (untouched other apart beside)) (keeps.keeps other live (untouched other apart beside)))
+              (others_reported was has_name leaves other apart (keeps.live other live (untouched other apart beside)) (keeps.keeps other live (untouched other apart beside)))

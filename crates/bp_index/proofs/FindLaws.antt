@@ -1,4 +1,4 @@
--- What the hash of a name tells of the slot that has it.
+-- What the hash of a name describes the slot that has it.
 use Rattle.std.proofs.Common.{◌≡◌, ◌≢◌, ℕ, ◌/◌, ◌<◌, Bool, true, false, nat_eq, Option, None, Some, bytes_eq, refl, sym, ◌∙◌, ap, arith}
 use Rattle.std.specs.Prelude.{IfSome, IfNone}
 use Rattle.std.specs.HashMap.{get}

@@ -1,4 +1,4 @@
--- What the slots that may be empty tell of those that are.
+-- What the slots that may be empty describe those that are.
 use Rattle.std.proofs.Common.{◌≡◌, ◌≢◌, ℕ, ◌/◌, ◌<◌, ◌≤◌, ◌==◌, true, false, ◌⊎◌, inl, inr, [], length, None, Some, sym, ◌∙◌, ap, arith}
 use Rattle.std.proofs.Math.ListN.{length-set}
 use Rattle.std.proofs.lemmas.Bool.{eqb-true, eq-eqb, false_from_ne_true, cases_eq, both_ways}

@@ -13,7 +13,7 @@ ghost use Rattle.bp_limits.specs.CallLimits.{max_name};
 ghost use Rattle.pm_region.specs.Memory.{words_in};
 
 use crate::entry::{find_at, live_entry};
-use crate::hashing::hash_of;
+use crate::hash::hash_of;
 use crate::slots::{SlotNumbers, put_in, take_out};
 use bp_dirs::{EntryView, Found, Spot, inumber};
 use bp_free::Numbers;

@@ -5,7 +5,7 @@
 #![tactic(auto)]
 
 mod entry;
-mod hashing;
+mod hash;
 mod index;
 mod slots;
 

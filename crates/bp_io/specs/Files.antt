@@ -82,10 +82,10 @@ BecomesMixed f (Some (Some bytes)) (Some None) = ⊥
 BecomesMixed f (Some (Some bytes)) (Some (Some found)) = IsMixed found bytes (f bytes)
 
 -- P holds of the bytes of an existing file, if they are known.
-abbrev pub TellsFile : Known → (List ℕ → Type 0) → Type 0
-TellsFile None p = ⊤
-TellsFile (Some None) p = ⊤
-TellsFile (Some (Some bytes)) p = p bytes
+abbrev pub FileSatisfies : Known → (List ℕ → Type 0) → Type 0
+FileSatisfies None p = ⊤
+FileSatisfies (Some None) p = ⊤
+FileSatisfies (Some (Some bytes)) p = p bytes
 
 -- The result of an attach: `None` only if no file has the name and none is to be created; otherwise the file's length,
 -- which is 0 for a new file.
@@ -162,20 +162,20 @@ pub record KeepsSize (old new : View) : Type 0 where
   pub blocks : new.blocks ≡ old.blocks
 
 -- The attached file changes to n blocks, of which the first are these, and all blocks after them are zeros.
-pub record Replaces (front : List ℕ) (n : ℕ) (old new : View) : Type 0 where
-  pub bytes : ChangesBytes (λ was. resized_file (block_size * n) front) old new
+pub record Replaces (prefix : List ℕ) (n : ℕ) (old new : View) : Type 0 where
+  pub bytes : ChangesBytes (λ was. resized_file (block_size * n) prefix) old new
   pub blocks : new.blocks ≡ n
 
 -- The attached file changes partly to n blocks, of which the first are these, and all blocks after them are zeros.
-pub record ReplacesPartly (front : List ℕ) (n : ℕ) (old new : View) : Type 0 where
+pub record ReplacesPartly (prefix : List ℕ) (n : ℕ) (old new : View) : Type 0 where
   pub bytes : (name : List ℕ) → old.is_attached name ≡ true
-      → BecomesPartly (resized_file (block_size * n) front) (old.contents name) (new.contents name)
+      → BecomesPartly (resized_file (block_size * n) prefix) (old.contents name) (new.contents name)
   pub blocks : (new.blocks ≡ old.blocks) ⊎ (new.blocks ≡ n)
 
 -- These are the bytes of `count` blocks of the attached file, from one on, if they are known.
 abbrev pub AreBytesOfBlocks : View → ℕ → ℕ → List ℕ → Type 0
 AreBytesOfBlocks old first count read = (name : List ℕ) → old.is_attached name ≡ true
-    → TellsFile (old.contents name) (λ bytes. read ≡ blocks_of bytes first count)
+    → FileSatisfies (old.contents name) (λ bytes. read ≡ blocks_of bytes first count)
 
 -- Nothing that is known changes, except the count of faults.
 pub record Reads (old new : View) : Type 0 where

@@ -4,9 +4,9 @@ ghost use Rattle.std.specs.Prelude.{◌≡◌, ◌/◌, List, ℕ, IfOk, None, t
 ghost use Rattle.bp_io.specs.Files.{makes, may_change};
 ghost use Rattle.bp_limits.specs.Limits.{block_size};
 
+use crate::exclusive_open::open;
 use crate::faults::SystemFaults;
-use crate::opening::open;
-use crate::saving::Saver;
+use crate::save::Saver;
 use crate::temp_file::Names;
 use crate::{Access, BLOCK, Failed, files};
 use bp_limits::BLOCK_SIZE;
@@ -63,7 +63,7 @@ use std::{io, rt};
 /// was given since. A change between the last look and the renaming of the second file is not noticed.
 ///
 /// **A replace takes little time**: a second file has zeros by its length alone, and nothing is copied to it. Most
-/// file systems allocate no room on the disk for such zeros until they are written. In place, `front` is written, and
+/// file systems allocate no room on the disk for such zeros until they are written. In place, `prefix` is written, and
 /// zeros where the file had bytes after it.
 ///
 /// **A fault loses what was written since the last flush**: the file is as it was then, or, in place, each of its
@@ -233,11 +233,11 @@ impl<R: rt::Files<File = File> + Drop> files::Files for DiskFiles<R> {
         Ok(())
     }
 
-    fn replace(&mut self, front: &[u8], n: u32) -> Result<(), Failed> {
+    fn replace(&mut self, prefix: &[u8], n: u32) -> Result<(), Failed> {
         self.is_flushed = false;
         let file = attached(&self.file);
         let length = BLOCK_SIZE * u64::from(n);
-        let done = self.saver.replace(&self.runtime, file, front, length);
+        let done = self.saver.replace(&self.runtime, file, prefix, length);
         self.faults.or_fault(done)?;
         self.blocks = u64::from(n);
         Ok(())

@@ -87,9 +87,9 @@ impl Files for FairFiles {
         Ok(())
     }
 
-    fn replace(&mut self, front: &[u8], n: u32) -> Result<(), Failed> {
+    fn replace(&mut self, prefix: &[u8], n: u32) -> Result<(), Failed> {
         self.is_flushed = false;
-        self.image.replace(front, n);
+        self.image.replace(prefix, n);
         Ok(())
     }
 

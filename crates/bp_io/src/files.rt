@@ -113,21 +113,21 @@ pub trait Files {
         ensures flushed { (view self.new).is_flushed ≡ false }
         ensures cause { HasCause (view self.old).faults (view self.new).faults result };
 
-    /// Replaces the attached file by `n` blocks, whatever its contents were: its first blocks are those of `front`,
+    /// Replaces the attached file by `n` blocks, whatever its contents were: its first blocks are those of `prefix`,
     /// and all blocks after them are zeros.
     ///
     /// # Errors
     ///
     /// `Failed`: the environment failed in this call. The file has its old length or the new one, and each of its
     /// blocks is as before, or as before and padded with zeros, or the new one.
-    fn replace(&mut self, front: &[u8], n: u32) -> Result<(), Failed>
+    fn replace(&mut self, prefix: &[u8], n: u32) -> Result<(), Failed>
         requires attached { (name : List ℕ) × ((view self.old).is_attached name ≡ true) }
         requires may_write { (view self.old).may_write ≡ true }
-        requires whole { length front.now % BLOCK_SIZE ≡ 0 }
-        requires inside { length front.now / BLOCK_SIZE ≤ n }
+        requires whole { length prefix.now % BLOCK_SIZE ≡ 0 }
+        requires inside { length prefix.now / BLOCK_SIZE ≤ n }
         requires fits { n ≤ MAX_FILE_BLOCKS }
-        ensures replaced { OnOk result (Replaces front.now n (view self.old) (view self.new)) }
-        ensures failed { OnErr result (ReplacesPartly front.now n (view self.old) (view self.new)) }
+        ensures replaced { OnOk result (Replaces prefix.now n (view self.old) (view self.new)) }
+        ensures failed { OnErr result (ReplacesPartly prefix.now n (view self.old) (view self.new)) }
         ensures others { KeepsOthers (view self.old) (view self.new) }
         ensures attached { (name : List ℕ) → (view self.new).is_attached name ≡ (view self.old).is_attached name }
         ensures may_write { (view self.new).may_write ≡ (view self.old).may_write }

@@ -78,15 +78,15 @@ impl Image {
         }
     }
 
-    pub(crate) fn replace(&mut self, front: &[u8], n: u32)
-        requires whole { length front.now % block_size ≡ 0 }
-        requires inside { length front.now / block_size ≤ n }
+    pub(crate) fn replace(&mut self, prefix: &[u8], n: u32)
+        requires whole { length prefix.now % block_size ≡ 0 }
+        requires inside { length prefix.now / block_size ≤ n }
         requires fits { n ≤ MAX_FILE_BLOCKS }
-        ensures bytes { self.new.bytes.items ≡ resized_file (block_size * n) front.now }
+        ensures bytes { self.new.bytes.items ≡ resized_file (block_size * n) prefix.now }
         ensures length { length self.new.bytes.items ≡ block_size * n }
     {
         self.bytes.clear();
-        match self.bytes.extend_from_slice(front) {
+        match self.bytes.extend_from_slice(prefix) {
             Ok(()) => (),
             Err(_) => unreachable!(),
         }

@@ -4,15 +4,15 @@
 
 mod access;
 mod disk_files;
+mod exclusive_open;
 mod fair_files;
 mod faults;
 mod files;
-mod held;
+mod held_blocks;
 mod image;
 mod mem_files;
 mod memory_streams;
-mod opening;
-mod saving;
+mod save;
 mod std_streams;
 mod streams;
 mod temp_file;

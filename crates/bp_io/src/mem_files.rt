@@ -200,14 +200,14 @@ impl Files for MemFiles<'_> {
         Ok(())
     }
 
-    fn replace(&mut self, front: &[u8], n: u32) -> Result<(), Failed>
+    fn replace(&mut self, prefix: &[u8], n: u32) -> Result<(), Failed>
         requires attached { (name : List ℕ) × ((mem_view self.old).is_attached name ≡ true) }
         requires may_write { (mem_view self.old).may_write ≡ true }
-        requires whole { length front.now % BLOCK_SIZE ≡ 0 }
-        requires inside { length front.now / BLOCK_SIZE ≤ n }
+        requires whole { length prefix.now % BLOCK_SIZE ≡ 0 }
+        requires inside { length prefix.now / BLOCK_SIZE ≤ n }
         requires fits { n ≤ MAX_FILE_BLOCKS }
-        ensures replaced { OnOk result (Replaces front.now n (mem_view self.old) (mem_view self.new)) }
-        ensures failed { OnErr result (ReplacesPartly front.now n (mem_view self.old) (mem_view self.new)) }
+        ensures replaced { OnOk result (Replaces prefix.now n (mem_view self.old) (mem_view self.new)) }
+        ensures failed { OnErr result (ReplacesPartly prefix.now n (mem_view self.old) (mem_view self.new)) }
         ensures others { KeepsOthers (mem_view self.old) (mem_view self.new) }
         ensures attached { (name : List ℕ) →
             (mem_view self.new).is_attached name ≡ (mem_view self.old).is_attached name }
@@ -221,7 +221,7 @@ impl Files for MemFiles<'_> {
     {
         self.is_flushed = false;
         self.plan.call()?;
-        self.image.replace(front, n);
+        self.image.replace(prefix, n);
         Ok(())
     }
 

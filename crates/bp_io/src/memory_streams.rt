@@ -42,8 +42,8 @@ impl Source for FairSource<'_> {
         ensures count { IfOk result (λ n. n ≡ min (length into.new) (length (fair_left self.old))) }
     {
         let count = into.len().min(self.rest.len());
-        let (front, back) = self.rest.split_at(count);
-        into[..count].copy_from_slice(front);
+        let (prefix, back) = self.rest.split_at(count);
+        into[..count].copy_from_slice(prefix);
         self.rest = back;
         Ok(count)
     }
@@ -96,8 +96,8 @@ impl Source for MemSource<'_> {
     {
         self.plan.call()?;
         let count = into.len().min(self.rest.len()).min(self.most);
-        let (front, back) = self.rest.split_at(count);
-        into[..count].copy_from_slice(front);
+        let (prefix, back) = self.rest.split_at(count);
+        into[..count].copy_from_slice(prefix);
         self.rest = back;
         Ok(count)
     }

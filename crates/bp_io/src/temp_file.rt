@@ -3,8 +3,8 @@
 ghost use Rattle.std.specs.Prelude.{◌<◌, ◌≤◌, ◌+◌, ◌^◌, length};
 
 use crate::Access;
-use crate::held::{Held, HeldBlocks, TOLD_APART};
-use crate::opening::{check_length, check_name, in_use, lock};
+use crate::exclusive_open::{check_length, check_name, in_use, lock};
+use crate::held_blocks::{Held, HeldBlocks, TRACKED_BYTES};
 use crate::window::Window;
 use std::alloc::Global;
 use std::fs::{File, Metadata, OpenOptions, TryLockError};
@@ -294,11 +294,11 @@ fn write_zeros(file: &File, start: u64, end: u64) -> io::Result<()> {
 
 /// Replaces a file by these bytes in place, and zeros after them up to its new length. The file frees no room on the
 /// disk that it still needs, and never has a third length.
-pub(crate) fn fill_in_place(file: &File, front: &[u8], length: u64) -> io::Result<()> {
+pub(crate) fn fill_in_place(file: &File, prefix: &[u8], length: u64) -> io::Result<()> {
     let had = file.metadata()?.len();
     file.set_len(length)?;
-    file.write_all_at(front, 0)?;
-    write_zeros(file, front.len() as u64, had.min(length))
+    file.write_all_at(prefix, 0)?;
+    write_zeros(file, prefix.len() as u64, had.min(length))
 }
 
 /// Makes a file of this name, in place of one that a killed process left.
@@ -320,7 +320,7 @@ fn prepare(file: &File, first: &File, metadata: &Metadata) -> io::Result<()> {
     copy_bytes(
         first,
         file,
-        TOLD_APART,
+        TRACKED_BYTES,
         metadata.len(),
         &mut [0; PIECE],
         None,
@@ -424,7 +424,7 @@ impl TempFile {
     /// Sets the length: the file is truncated, or padded with zeros.
     pub(crate) fn set_len(&mut self, held: &mut HeldBlocks, length: u64) -> io::Result<()> {
         self.file.set_len(length)?;
-        held.set_zeros_behind(self.length.min(length));
+        held.set_zeros_after(self.length.min(length));
         self.kept = self.kept.min(length);
         self.length = length;
         Ok(())
@@ -435,16 +435,16 @@ impl TempFile {
     pub(crate) fn replace(
         &mut self,
         held: &mut HeldBlocks,
-        front: &[u8],
+        prefix: &[u8],
         length: u64,
     ) -> io::Result<()> {
         // Zeros by the length alone take no time, and on most file systems no room.
         self.file.set_len(0)?;
         self.file.set_len(length)?;
-        held.set_zeros_behind(0);
+        held.set_zeros_after(0);
         self.kept = 0;
         self.length = length;
-        self.write(held, front, 0)
+        self.write(held, prefix, 0)
     }
 
     /// Reads from the file, which must be complete.
@@ -466,7 +466,14 @@ impl TempFile {
             copy_bytes(&self.file, first, run.start, end, &mut piece, None)?;
             at = run.next;
         }
-        copy_bytes(&self.file, first, TOLD_APART, self.length, &mut piece, None)
+        copy_bytes(
+            &self.file,
+            first,
+            TRACKED_BYTES,
+            self.length,
+            &mut piece,
+            None,
+        )
     }
 
     /// Writes zeros to the first file where this one has them by its length alone, up to a byte.

@@ -15,7 +15,7 @@ use Rattle.bp_layout.proofs.Finding.{map-same}
 use Rattle.bp_layout.proofs.TreeLaws.{KeepsPointers, sound-kept, full-kept, has_block-kept}
 use Rattle.bp_layout.proofs.View.{SameView, find_one-same, shown-same}
 
--- the second image has the words of the first, but for some of the first block
+-- the second image has the words of the first, except for some of the first block
 pub record SameTrees (old new : Image) : Type 0 where
   pub whole : length new ≡ length old
   pub root : word new 2 ≡ word old 2
@@ -86,7 +86,7 @@ module _ (old new : Image) (same : SameTrees old new) where
   pub block_back : (t b : ℕ) → HasBlock new (root_of new t) (size_of new t) b → HasBlock old (root_of old t) (size_of old t) b
   block_back t b has = has_block-kept old new (root_of old t) (size_of old t) (keeps t) b (subst₂ (λ r z. HasBlock new r z b) (root-same t) (size-same t) has)
 
-  -- it is one in the version that its magic number tells, if that has room for the trees
+  -- it is one in the version that its magic number reports, if that has room for the trees
   pub still_well_formed : IsWellFormed old → IsFormatted new → greatest_height (version_of old) ≤ greatest_height (version_of new) → IsWellFormed new
   still_well_formed wf formatted room = record {
     formatted = formatted;

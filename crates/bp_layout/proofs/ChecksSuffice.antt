@@ -18,7 +18,7 @@ use Rattle.bp_layout.specs.declared.check.Check.TheVariants.{Height, PointerBits
 use Rattle.bp_layout.specs.Checks.Fails.{height, root_bits, pointer_bits, range, twice, hole, inode_file_size, inumber, root_named, inode_twice, kind, root_kind, directory_size, capacity, name_form, name_twice}
 use Rattle.bp_layout.proofs.TreeLaws.{live_above, live_pointer_word, live_content, tree_word-suc}
 use Rattle.bp_layout.proofs.OnePlace.{SamePointer, same_block, low_slot}
-use Rattle.bp_layout.proofs.OncePointer.{TellsBlocks, once_pointer}
+use Rattle.bp_layout.proofs.OncePointer.{SeparatesPointers, once_pointer}
 
 not_less : (a b : ℕ) → (a < b → ⊥) → b ≤ a
 not_less a b h = ⊎_elim (λ lt. absurd (h lt)) (λ le. le) (cases_lt a b)
@@ -92,8 +92,8 @@ module _ (image : Image) (none : NoneFails image) where
   some_inodes : 4096 ≤ size_of image 0
   some_inodes = not_less _ _ (λ small. none.none InodeFileSize 3 (inode_file_size (inr small)))
 
-  tells : TellsBlocks image (IsFound image)
-  tells = record {
+  reports : SeparatesPointers image (IsFound image)
+  reports = record {
     some = some_inodes;
     first = inode_file;
     fits = fits;
@@ -103,7 +103,7 @@ module _ (image : Image) (none : NoneFails image) where
   once : (t d k u e l : ℕ) → IsFound image t → IsFound image u → IsLivePointer (root_of image t) (size_of image t) d k → IsLivePointer (root_of image u) (size_of image u) e l →
       node image (root_of image t) d k ≢ 0 → node image (root_of image t) d k ≡ node image (root_of image u) e l → (t ≡ u) × (d ≡ e) × (k ≡ l)
   once t d k u e l found also live lives present same =
-      let all : SamePointer t d k u e l = once_pointer image (IsFound image) tells t found d k u e l also (pointer_at t d k found live present) (pointer_at u e l also lives (λ null. present (same ∙ null))) present same in
+      let all : SamePointer t d k u e l = once_pointer image (IsFound image) reports t found d k u e l also (pointer_at t d k found live present) (pointer_at u e l also lives (λ null. present (same ∙ null))) present same in
       (all.tree, all.depth, all.index)
 
   sound : 8 ≤ block_count image → (t : ℕ) → IsFound image t → IsSound image (root_of image t) (size_of image t)

@@ -56,7 +56,7 @@ module _ (image : Image) (wf : IsWellFormed image) where
   names_at None = []
   names_at (Some i) = map (name_at image i) (slots (size_of image i))
 
-  -- paths of so many names, among them all that exist
+  -- paths of as many names, among them all that exist
   pub paths_of : ℕ → List Path
   paths_of zero = [] ∷ []
   paths_of (suc n) = flat_map (λ p. map (λ name. p ++ name ∷ []) (names_at (lookup image p))) (paths_of n)

@@ -1,4 +1,4 @@
--- Slots of names that are known, told by entries.
+-- Slots of names that are known, stated by entries.
 use Rattle.std.proofs.Common.{◌≡◌, ◌≢◌, ◌⊎◌, ℕ, ◌<◌, Bool, true, false, Option, None, Some, bytes_eq, refl, sym, ◌∙◌, ap, ap₂, arith, inl, inr}
 use Rattle.std.specs.FinMap.{get, empty, get-empty}
 use Rattle.std.proofs.lemmas.Bool.{cases_eq}
@@ -76,10 +76,10 @@ right-learned image before after name slot right of learns other s is = go (same
     go (inr differs) = right other s (learns.others other s differs is)
 
 -- whether it was learned or not
-pub right-told : (image : Image) (before after : Known) (name : NameIn) (slot : ℕ) (told : Bool) → AreRight image before → IsSlotOf image name slot →
-    (told ≡ true → Learns before after name slot) → (told ≡ false → after ≡ before) → AreRight image after
-right-told image before after name slot true right of learned unlearned = right-learned image before after name slot right of (learned refl)
-right-told image before after name slot false right of learned unlearned = right-same image before after right (unlearned refl)
+pub right-reported : (image : Image) (before after : Known) (name : NameIn) (slot : ℕ) (reported : Bool) → AreRight image before → IsSlotOf image name slot →
+    (reported ≡ true → Learns before after name slot) → (reported ≡ false → after ≡ before) → AreRight image after
+right-reported image before after name slot true right of learned unlearned = right-learned image before after name slot right of (learned refl)
+right-reported image before after name slot false right of learned unlearned = right-same image before after right (unlearned refl)
 
 -- nothing is known
 pub right-empty : (image : Image) → AreRight image empty

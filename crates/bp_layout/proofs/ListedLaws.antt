@@ -1,4 +1,4 @@
--- The names of a listing stay where another is added, and what is told of them in order is told of their bytes.
+-- The names of a listing stay where another is added, and what is stated of them in order is stated of their bytes.
 use Rattle.std.proofs.Common.{◌≡◌, ℕ, ◌+◌, ◌<◌, ◌≤◌, List, [], ◌∷◌, ◌++◌, length, map, take, drop, Bool, refl, ◌∙◌, ap, ap₂, arith, IsSortedBy}
 use Rattle.std.proofs.Math.Seq.{drop-append_seam, take-length}
 use Rattle.std.proofs.lemmas.List.{drop-append-le, take-append-le, length-drop, length-map, map-append, get_or-map}
@@ -13,7 +13,7 @@ name_stays bytes more entry within =
     let len : entry.len ≤ length (drop entry.first bytes) = omega (arith, within, length-drop entry.first bytes) in
     ap (λ xs. (entry.kind, xs)) (ap (take entry.len) (drop-append-le entry.first bytes more first) ∙ take-append-le entry.len (drop entry.first bytes) more len)
 
--- a list with other bytes behind its own
+-- a list with other bytes after its own
 pub names_kept : (bytes more : List ℕ) (entries : List Listed) → AreWithin bytes entries → listed_names (bytes ++ more) entries ≡ listed_names bytes entries
 names_kept bytes more [] within = refl
 names_kept bytes more (entry ∷ entries) within =
@@ -32,7 +32,7 @@ names_pushed bytes name entries entry within first len =
     map-append (listed_name (bytes ++ name)) entries (entry ∷ [])
     ∙ ap₂ (λ xs x. xs ++ x ∷ []) (names_kept bytes name entries within) (name_added bytes name entry first len)
 
--- what is sorted stays so where each element is told by another
+-- what is sorted stays so where each element is stated by another
 pub sorted-map : {A B : Type 0} (f : A → B) (before : B → B → Bool) (xs : List A) → IsSortedBy (λ x y. before (f x) (f y)) xs → IsSortedBy before (map f xs)
 sorted-map f before [] up k d low high = absurd (omega (arith, high))
 sorted-map f before (x ∷ xs) up k d low high =

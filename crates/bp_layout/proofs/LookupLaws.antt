@@ -1,4 +1,4 @@
--- What a directory shows at a name, told by its entries.
+-- What a directory shows at a name, stated by its entries.
 use Rattle.std.proofs.Common.{◌≡◌, ◌≢◌, ◌⊎◌, ℕ, zero, suc, ◌+◌, ◌<◌, ◌≤◌, Bool, true, false, not, ◌&&◌, ◌==◌, Option, None, Some, find, bytes_eq, refl, sym, ◌∙◌, ap, arith, true≢false, inl, inr}
 use Rattle.std.specs.Option.{option_map}
 use Rattle.std.specs.List.{range_with_len}

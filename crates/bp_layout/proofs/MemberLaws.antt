@@ -6,14 +6,14 @@ use Rattle.bp_layout.specs.Members.{Has, Each, AreApart}
 
 -- ---- members
 
-pub has-front : {A : Type 0} (xs ys : List A) (x : A) → Has xs x → Has (xs ++ ys) x
-has-front [] ys x has = absurd has
-has-front (y ∷ xs) ys x (inl e) = inl e
-has-front (y ∷ xs) ys x (inr later) = inr (has-front xs ys x later)
+pub has-prefix : {A : Type 0} (xs ys : List A) (x : A) → Has xs x → Has (xs ++ ys) x
+has-prefix [] ys x has = absurd has
+has-prefix (y ∷ xs) ys x (inl e) = inl e
+has-prefix (y ∷ xs) ys x (inr later) = inr (has-prefix xs ys x later)
 
-pub has-behind : {A : Type 0} (xs ys : List A) (x : A) → Has ys x → Has (xs ++ ys) x
-has-behind [] ys x has = has
-has-behind (y ∷ xs) ys x has = inr (has-behind xs ys x has)
+pub has-after : {A : Type 0} (xs ys : List A) (x : A) → Has ys x → Has (xs ++ ys) x
+has-after [] ys x has = has
+has-after (y ∷ xs) ys x has = inr (has-after xs ys x has)
 
 pub has-either : {A : Type 0} (xs ys : List A) (x : A) → Has (xs ++ ys) x → Has xs x ⊎ Has ys x
 has-either [] ys x has = inr has
@@ -31,8 +31,8 @@ has-map f (y ∷ xs) x (inr later) = inr (has-map f xs x later)
 
 pub has-flat_map : {A B : Type 0} (f : A → List B) (xs : List A) (x : A) (y : B) → Has xs x → Has (f x) y → Has (flat_map f xs) y
 has-flat_map f [] x y has inside = absurd has
-has-flat_map f (z ∷ xs) x y (inl e) inside = has-front (f z) (flat_map f xs) y (subst (λ w. Has (f w) y) (sym e) inside)
-has-flat_map f (z ∷ xs) x y (inr later) inside = has-behind (f z) (flat_map f xs) y (has-flat_map f xs x y later inside)
+has-flat_map f (z ∷ xs) x y (inl e) inside = has-prefix (f z) (flat_map f xs) y (subst (λ w. Has (f w) y) (sym e) inside)
+has-flat_map f (z ∷ xs) x y (inr later) inside = has-after (f z) (flat_map f xs) y (has-flat_map f xs x y later inside)
 
 pub has-filter : {A : Type 0} (p : A → Bool) (xs : List A) (x : A) → Has xs x → p x ≡ true → Has (filter p xs) x
 has-filter p [] x has passes = absurd has

@@ -1,4 +1,4 @@
--- Two pointers that stand at one place are one, where the blocks above them are told apart.
+-- Two pointers that stand at one place are one, where the blocks above them are distinguished.
 use Rattle.std.proofs.Common.{◌≡◌, ◌≢◌, ℕ, zero, suc, ◌+◌, ◌*◌, ◌/◌, ◌%◌, ◌<◌, ◌≤◌, refl, sym, ◌∙◌, ap, subst, arith}
 use Rattle.bp_layout.specs.Words.{Image, height_of}
 use Rattle.bp_layout.specs.Tree.{node, covered, IsLivePointer}
@@ -49,7 +49,7 @@ same_inode i j row column = omega arith
 pub low_slot : (k : ℕ) → k % 512 < 512
 low_slot k = omega arith
 
--- the fact that tells the pointers above apart
+-- the fact that reports the pointers above apart
 abbrev pub Apart : Image → (t d k u e l : ℕ) → Type 0
 Apart image t d k u e l = (v f m r w g n s : ℕ) → IsAbove image t d k v f m r → IsAbove image u e l w g n s →
     node image (root_of image v) f m ≢ 0 → node image (root_of image v) f m ≡ node image (root_of image w) g n → SamePointer v f m w g n

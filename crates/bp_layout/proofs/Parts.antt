@@ -25,13 +25,13 @@ parts-some (b ∷ text) e = go (b == 47) refl
         onto (p ∷ ps) is = absurd (cc)
 
 -- a `/` parts
-pub parts-append : (front rest : List ℕ) → parts (front ++ 47 ∷ rest) ≡ parts front ++ parts rest
+pub parts-append : (prefix rest : List ℕ) → parts (prefix ++ 47 ∷ rest) ≡ parts prefix ++ parts rest
 parts-append [] rest = refl
-parts-append (b ∷ front) rest = go (parts-append front rest) (b == 47) refl
+parts-append (b ∷ prefix) rest = go (parts-append prefix rest) (b == 47) refl
   where
-    go : parts (front ++ 47 ∷ rest) ≡ parts front ++ parts rest → (t : Bool) → (b == 47) ≡ t → parts ((b ∷ front) ++ 47 ∷ rest) ≡ parts (b ∷ front) ++ parts rest
+    go : parts (prefix ++ 47 ∷ rest) ≡ parts prefix ++ parts rest → (t : Bool) → (b == 47) ≡ t → parts ((b ∷ prefix) ++ 47 ∷ rest) ≡ parts (b ∷ prefix) ++ parts rest
     go same true at = rw (at, same) refl
-    go same false at = rw (at, same) (onto_first-append b (parts front) (parts rest) (parts-some front))
+    go same false at = rw (at, same) (onto_first-append b (parts prefix) (parts rest) (parts-some prefix))
 
 -- a text without one is one part
 pub parts-one : (text : List ℕ) → ((k : ℕ) → k < length text → slice_index text k ≢ 47) → parts text ≡ text ∷ []
@@ -47,14 +47,14 @@ pub split_at : (text : List ℕ) (end : ℕ) → end < length text → slice_ind
 split_at text end inside slash =
     sym (take-append-drop end text) ∙ ap (λ rest. take end text ++ rest) (drop_more text end 0 inside ∙ ap (λ b. b ∷ drop (end + 1) text) slash)
 
--- the parts of a text up to its first `/` and behind it
+-- the parts of a text up to its first `/` and after it
 pub first_part : (text : List ℕ) (end : ℕ) → position (λ b. b == 47) text ≡ Some end → parts text ≡ take end text ∷ parts (drop (end + 1) text)
 first_part text end found =
     let here : (end < length text) × ((slice_index text end == 47) ≡ true) × ((k : ℕ) → k < end → (slice_index text k == 47) ≡ false) = position-Some (λ b. b == 47) text end 0 found in
-    let front : parts (take end text) ≡ take end text ∷ [] =
+    let prefix : parts (take end text) ≡ take end text ∷ [] =
     parts-one (take end text) (λ k h. let low : k < end = omega (arith, h, length-take end text) in
     rw (get_or-take end text k 0 low) (eqb-false _ _ (here.2 k low))) in
-    ap parts (split_at text end here.0 (eqb-true _ _ here.1)) ∙ parts-append (take end text) (drop (end + 1) text) ∙ ap (λ ps. ps ++ parts (drop (end + 1) text)) front
+    ap parts (split_at text end here.0 (eqb-true _ _ here.1)) ∙ parts-append (take end text) (drop (end + 1) text) ∙ ap (λ ps. ps ++ parts (drop (end + 1) text)) prefix
 
 -- where there is none
 no_slash : (text : List ℕ) → position (λ b. b == 47) text ≡ None → (k : ℕ) → k < length text → (slice_index text k == 47) ≡ false

@@ -21,7 +21,7 @@ pub data ByLast : Path → Type 0 where
 
 onto : (name : Name) (path : Path) → ByLast path → ByLast (name ∷ path)
 onto name _ none = more none name
-onto name _ (more {path = front} before last) = more (onto name front before) last
+onto name _ (more {path = prefix} before last) = more (onto name prefix before) last
 
 pub by_last : (path : Path) → ByLast path
 by_last [] = none

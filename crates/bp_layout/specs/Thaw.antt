@@ -65,21 +65,21 @@ none_in_snapshot b = false
 abbrev pub is_in_snapshot_at : Image → (ℕ → Bool) → WordPath → Bool
 is_in_snapshot_at image in_snapshot path = is_there_now image path && in_snapshot (block_of (word image (address image path)))
 
--- the path `front` is a proper prefix of the other path
-abbrev pub is_front : WordPath → WordPath → Bool
-is_front front path = is_prefix front path && nat_lt (length front) (length path)
+-- the path `prefix` is a proper prefix of the other path
+abbrev pub is_proper_prefix : WordPath → WordPath → Bool
+is_proper_prefix prefix path = is_prefix prefix path && nat_lt (length prefix) (length path)
 
 -- The pointers on the paths to some words: the proper prefixes of the paths. Each counts once, at the first path of
 -- which it is a proper prefix. A path that is itself a target, such as the root word of a tree, counts if a later path
 -- goes below it.
-abbrev pub fronts_of : List WordPath → List WordPath → List WordPath
-fronts_of earlier [] = []
-fronts_of earlier (path ∷ paths) =
-    filter (λ front. not (list_any (is_front front) earlier)) (prefixes_from 0 path) ++ fronts_of (path ∷ earlier) paths
+abbrev pub proper_prefixes_of : List WordPath → List WordPath → List WordPath
+proper_prefixes_of earlier [] = []
+proper_prefixes_of earlier (path ∷ paths) =
+    filter (λ prefix. not (list_any (is_proper_prefix prefix) earlier)) (prefixes_from 0 path) ++ proper_prefixes_of (path ∷ earlier) paths
 
 -- the pointers among them that lead to blocks of the snapshot
 abbrev pub thawed_on : Image → (ℕ → Bool) → List WordPath → List WordPath
-thawed_on image in_snapshot paths = filter (is_in_snapshot_at image in_snapshot) (fronts_of [] paths)
+thawed_on image in_snapshot paths = filter (is_in_snapshot_at image in_snapshot) (proper_prefixes_of [] paths)
 
 abbrev pub thawed : Image → (ℕ → Bool) → Change → List WordPath
 thawed image in_snapshot change = thawed_on image in_snapshot (targets image change)

@@ -52,20 +52,20 @@ other-forgot other name (e ∷ es) differs = go (other-forgot other name es diff
 slot-recalled : (other name : NameIn) (es : Pairs) → slot_in other (recalled name es) ≡ slot_in other es
 slot-recalled other name es = go (lookup_entry (is_same name) es) refl
   where
-    in_front : (e : NameIn × ℕ) → name ≡ e.0 → slot_in name es ≡ Some e.1 → (b : Bool) → is_same other e.0 ≡ b → slot_in other (e ∷ forgot name es) ≡ slot_in other es
-    in_front e same has true at = let here : other ≡ name = same_names other e.0 at ∙ sym same in rw at (sym (ap (λ n. slot_in n es) here ∙ has))
-    in_front e same has false at = rw at (other-forgot other name es (ap (is_same other) same ∙ at))
+    in_prefix : (e : NameIn × ℕ) → name ≡ e.0 → slot_in name es ≡ Some e.1 → (b : Bool) → is_same other e.0 ≡ b → slot_in other (e ∷ forgot name es) ≡ slot_in other es
+    in_prefix e same has true at = let here : other ≡ name = same_names other e.0 at ∙ sym same in rw at (sym (ap (λ n. slot_in n es) here ∙ has))
+    in_prefix e same has false at = rw at (other-forgot other name es (ap (is_same other) same ∙ at))
 
     go : (o : Option (NameIn × ℕ)) → lookup_entry (is_same name) es ≡ o → slot_in other (recalled name es) ≡ slot_in other es
     go None at = rw at refl
     go (Some e) at =
         let there = Contains-lookup_entry (is_same name) es e at in
-        rw at (in_front e (same_names name e.0 there.1) (some-slot name es e at) (is_same other e.0) refl)
+        rw at (in_prefix e (same_names name e.0 there.1) (some-slot name es e at) (is_same other e.0) refl)
 
-from_front : (other : NameIn) (slot n : ℕ) (es : Pairs) → slot_in other (take n es) ≡ Some slot → slot_in other es ≡ Some slot
-from_front other slot zero es has = let none : ◌≡◌ {A = Option ℕ} None (Some slot) = has in absurd (cc)
-from_front other slot (suc n) [] has = has
-from_front other slot (suc n) (e ∷ es) has = go (λ h. from_front other slot n es h) (is_same other e.0) refl
+from_prefix : (other : NameIn) (slot n : ℕ) (es : Pairs) → slot_in other (take n es) ≡ Some slot → slot_in other es ≡ Some slot
+from_prefix other slot zero es has = let none : ◌≡◌ {A = Option ℕ} None (Some slot) = has in absurd (cc)
+from_prefix other slot (suc n) [] has = has
+from_prefix other slot (suc n) (e ∷ es) has = go (λ h. from_prefix other slot n es h) (is_same other e.0) refl
   where
     go : (slot_in other (take n es) ≡ Some slot → slot_in other es ≡ Some slot) → (b : Bool) → is_same other e.0 ≡ b → slot_in other (e ∷ es) ≡ Some slot
     go on true at = let here : Some e.1 ≡ Some slot = rw at at has in rw at here
@@ -80,7 +80,7 @@ in_room : (name other : NameIn) (slot s room : ℕ) (es : Pairs) → other ≢ n
 in_room name other slot s room es differs has = go (is_same other name) refl
   where
     whole : slot_in other ((name, slot) ∷ forgot name es) ≡ Some s
-    whole = from_front other s room ((name, slot) ∷ forgot name es) has
+    whole = from_prefix other s room ((name, slot) ∷ forgot name es) has
 
     go : (b : Bool) → is_same other name ≡ b → slot_in other es ≡ Some s
     go true at = absurd (differs (same_names other name at))

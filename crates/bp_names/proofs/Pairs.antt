@@ -91,15 +91,15 @@ take-all zero (x ∷ xs) low = absurd (omega (arith, low))
 take-all (suc n) [] low = refl
 take-all (suc n) (x ∷ xs) low = ap (λ rest. x ∷ rest) (take-all n xs (omega (arith, low)))
 
-take-front : {A : Type 0} (n : ℕ) (x : A) (xs : List A) → 0 < n → take n (x ∷ xs) ≡ x ∷ take (n - 1) xs
-take-front zero x xs some = absurd (omega (arith, some))
-take-front (suc n) x xs some = let e : suc n - 1 ≡ n = omega arith in rw e refl
+take-prefix : {A : Type 0} (n : ℕ) (x : A) (xs : List A) → 0 < n → take n (x ∷ xs) ≡ x ∷ take (n - 1) xs
+take-prefix zero x xs some = absurd (omega (arith, some))
+take-prefix (suc n) x xs some = let e : suc n - 1 ≡ n = omega arith in rw e refl
 
 pub put-learned : (c : LruCache NameIn ℕ) (name : NameIn) (slot : ℕ) → IsValid is_same c → put_entries is_same c name slot ≡ learned name slot c.cap c.entries
 put-learned c name slot valid = go (lookup_entry (is_same name) c.entries) refl
   where
     go : (o : Option (NameIn × ℕ)) → lookup_entry (is_same name) c.entries ≡ o → put_entries is_same c name slot ≡ learned name slot c.cap c.entries
-    go None at = rw at (sym (take-front c.cap (name, slot) (forgot name c.entries) valid.2 ∙ ap (λ rest. (name, slot) ∷ take (c.cap - 1) rest) (none-forgot name c.entries at)))
+    go None at = rw at (sym (take-prefix c.cap (name, slot) (forgot name c.entries) valid.2 ∙ ap (λ rest. (name, slot) ∷ take (c.cap - 1) rest) (none-forgot name c.entries at)))
     go (Some e) at =
         let there = Contains-lookup_entry (is_same name) c.entries e at in
         let same : name ≡ e.0 = same_names name e.0 there.1 in

@@ -1,4 +1,4 @@
--- A text is told by its parts, and the names before the last one by all names.
+-- A text is stated by its parts, and the names before the last one by all names.
 use Rattle.std.proofs.Common.{◌≡◌, ℕ, Bool, true, false, ◌==◌, List, [], ◌∷◌, ◌++◌, refl, sym, ◌∙◌, ap}
 use Rattle.std.proofs.lemmas.Bool.{eqb-true}
 use Rattle.bp_layout.specs.Paths.{onto_first, parts, Name, Path}
@@ -43,15 +43,15 @@ before_last [] = []
 before_last (name ∷ []) = []
 before_last (name ∷ next ∷ names) = name ∷ before_last (next ∷ names)
 
-before_last-is : (front : Path) (last : Name) → before_last (front ++ last ∷ []) ≡ front
+before_last-is : (prefix : Path) (last : Name) → before_last (prefix ++ last ∷ []) ≡ prefix
 before_last-is [] last = refl
 before_last-is (name ∷ []) last = refl
-before_last-is (name ∷ next ∷ front) last = ap (λ names. name ∷ names) (before_last-is (next ∷ front) last)
+before_last-is (name ∷ next ∷ prefix) last = ap (λ names. name ∷ names) (before_last-is (next ∷ prefix) last)
 
 -- paths that lead to names in one directory have one text before their last names
-pub same_front : (one other : Path) (text other_text : List ℕ) (last other_last : Name) → one ≡ path_parts text ++ last ∷ [] → other ≡ path_parts other_text ++ other_last ∷ [] →
+pub same_prefix : (one other : Path) (text other_text : List ℕ) (last other_last : Name) → one ≡ path_parts text ++ last ∷ [] → other ≡ path_parts other_text ++ other_last ∷ [] →
     AreBeside one other → text ≡ other_text
-same_front one other text other_text last other_last one_is other_is beside =
+same_prefix one other text other_text last other_last one_is other_is beside =
     let here : path_parts text ≡ beside.parent = sym (before_last-is (path_parts text) last) ∙ ap before_last (sym one_is ∙ beside.one_is) ∙ before_last-is beside.parent beside.one_last in
     let there : path_parts other_text ≡ beside.parent =
     sym (before_last-is (path_parts other_text) other_last) ∙ ap before_last (sym other_is ∙ beside.other_is) ∙ before_last-is beside.parent beside.other_last in

@@ -75,8 +75,8 @@ neither b ends = go (b == 0) (b == 47) ends
     go false false e = refl
 
 -- a text up to the first byte that is in no name, and as a whole where it has none
-pub plain_front : (text : List ℕ) (end : ℕ) → position ends_name text ≡ Some end → list_all is_plain (take end text) ≡ true
-plain_front text end found =
+pub plain_prefix : (text : List ℕ) (end : ℕ) → position ends_name text ≡ Some end → list_all is_plain (take end text) ≡ true
+plain_prefix text end found =
     let here : (end < length text) × (ends_name (slice_index text end) ≡ true) × ((k : ℕ) → k < end → ends_name (slice_index text k) ≡ false) = position-Some ends_name text end 0 found in
     all_pass is_plain (take end text) (λ k low.
     let before : k < end = omega (arith, low, length-take end text) in

@@ -43,13 +43,13 @@ start image text right = record {
 }
 
 -- one name further
-pub come_on : (image : Image) (text rest behind : List ℕ) (name : Name) (entry next : FoundEntry) → HasCome image text rest entry →
-    path_parts rest ≡ name ∷ path_parts behind → list_all is_name (path_parts behind) ≡ true →
+pub come_on : (image : Image) (text rest following : List ℕ) (name : Name) (entry next : FoundEntry) → HasCome image text rest entry →
+    path_parts rest ≡ name ∷ path_parts following → list_all is_name (path_parts following) ≡ true →
     kind_of image entry.inumber ≡ 2 → next.dir ≡ entry.inumber → slot_named image entry.inumber name ≡ Some next.slot →
-    inumber_at image entry.inumber next.slot ≡ next.inumber → 1 ≤ next.inumber → HasCome image text behind next
-come_on image text rest behind name entry next here split right kind dir slot is some = record {
+    inumber_at image entry.inumber next.slot ≡ next.inumber → 1 ≤ next.inumber → HasCome image text following next
+come_on image text rest following name entry next here split right kind dir slot is some = record {
   before = here.before ++ name ∷ [];
-  splits = here.splits ∙ ap (λ ps. here.before ++ ps) split ∙ sym (append_assoc here.before (name ∷ []) (path_parts behind));
+  splits = here.splits ∙ ap (λ ps. here.before ++ ps) split ∙ sym (append_assoc here.before (name ∷ []) (path_parts following));
   leads =
       lookup_from-append image 1 here.before name ∙ ap (option_and_then (λ k. lookup_in image k name)) here.leads ∙ lookup_in-slot image entry.inumber next.inumber next.slot name kind slot is;
   is_entry = record {
@@ -63,10 +63,10 @@ come_on image text rest behind name entry next here split right kind dir slot is
 }
 
 -- the walk fails at the name where it has come to
-pub fails : (image : Image) (text rest behind : List ℕ) (name : Name) (entry : FoundEntry) → HasCome image text rest entry →
-    path_parts rest ≡ name ∷ path_parts behind → walk_from image 1 (path_parts text) ≡ walk_from image entry.inumber (name ∷ path_parts behind)
-fails image text rest behind name entry here split =
-    ap (walk_from image 1) (here.splits ∙ ap (λ ps. here.before ++ ps) split) ∙ walk_on image 1 entry.inumber here.before (name ∷ path_parts behind) here.leads
+pub fails : (image : Image) (text rest following : List ℕ) (name : Name) (entry : FoundEntry) → HasCome image text rest entry →
+    path_parts rest ≡ name ∷ path_parts following → walk_from image 1 (path_parts text) ≡ walk_from image entry.inumber (name ∷ path_parts following)
+fails image text rest following name entry here split =
+    ap (walk_from image 1) (here.splits ∙ ap (λ ps. here.before ++ ps) split) ∙ walk_on image 1 entry.inumber here.before (name ∷ path_parts following) here.leads
 
 -- all names are gone through
 pub all_before : (image : Image) (text rest : List ℕ) (entry : FoundEntry) → (here : HasCome image text rest entry) → length rest ≡ 0 → path_parts text ≡ here.before

@@ -74,7 +74,7 @@ pub(crate) fn split_last(text: &[u8]) -> (&[u8], &[u8])
     requires some { 0 < length text.now }
     requires names { list_all is_name (path_parts text.now) ≡ true }
     ensures split { path_parts text.now ≡ path_parts result.0.now ++ result.1.now ∷ [] }
-    ensures front { list_all is_name (path_parts result.0.now) ≡ true }
+    ensures prefix { list_all is_name (path_parts result.0.now) ≡ true }
 {
     let start = last_start(text);
     (&text[..start.saturating_sub(1)], &text[start..])
@@ -93,12 +93,12 @@ pub(crate) fn is_below(text: &[u8], above: &[u8]) -> bool
         if text.is_empty() {
             return false;
         }
-        let (name, behind) = split_first(text);
+        let (name, following) = split_first(text);
         let (first, others) = split_first(above);
         if first != name {
             return false;
         }
-        text = behind;
+        text = following;
         above = others;
     }
     !text.is_empty()

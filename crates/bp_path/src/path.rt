@@ -88,7 +88,7 @@ impl<'a> Path<'a> {
         requires below { self.now ≢ [] }
         requires other { other.now ≢ [] }
         ensures beside { IsTrue result → AreBeside self.now other.now }
-        ensures told { AreBeside self.now other.now → IsTrue result }
+        ensures reported { AreBeside self.now other.now → IsTrue result }
     {
         split_last(self.text()).0 == split_last(other.text()).0
     }

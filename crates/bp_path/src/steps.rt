@@ -113,9 +113,9 @@ fn walk_names<R: Region, F: Finder>(
     };
     let mut rest = text;
     while !rest.is_empty() {
-        let (name, behind) = split_first(rest);
+        let (name, following) = split_first(rest);
         entry = step(region, entry.inumber, name, finder)?;
-        rest = behind;
+        rest = following;
     }
     Ok(entry)
 }

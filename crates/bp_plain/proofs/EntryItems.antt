@@ -1,5 +1,5 @@
--- Items for the entries of a well-formed directory, keyed by their names: the names differ, and a name finds what is told of the
--- inode that it stands for. What is told of an inode is left open: its kind, its number, or nothing.
+-- Items for the entries of a well-formed directory, keyed by their names: the names differ, and a name finds what is stated of the
+-- inode that it stands for. What is stated of an inode is left open: its kind, its number, or nothing.
 use Rattle.std.proofs.Common.{◌≡◌, ◌≢◌, ℕ, zero, suc, ◌+◌, ◌<◌, ◌≤◌, List, [], ◌∷◌, ◌++◌, map, Bool, true, false, not, cond, ◌&&◌, ◌==◌, Option, None, Some, filter_map, option_and_then, bytes_eq, refl, sym, ◌∙◌, ap, ap₂, arith}
 use Rattle.std.specs.Prelude.{if◌then◌else◌}
 use Rattle.std.specs.Option.{option_map}
@@ -90,7 +90,7 @@ module _ (image : Image) (wf : IsWellFormed image) (i : ℕ) (reached : IsReache
           ∙ ap (λ b. cond b (Some (of (inumber_at image i slot))) (option_map (λ s. of (inumber_at image i s)) o)) (tied-names name (name_at image i slot))
           ∙ pushed (bytes_eq (name_at image i slot) name) o
 
-  -- so it finds what is told of its inode
+  -- so it finds what is stated of its inode
   pub find-items : (name : Name) → find by_bytes name (items_from 0 (entry_count image i)) ≡ option_map of (lookup_in image i name)
   find-items name =
       find-at name (range_with_len 0 (entry_count image i))
@@ -102,13 +102,13 @@ module _ (image : Image) (wf : IsWellFormed image) (i : ℕ) (reached : IsReache
       go (Some slot) = refl
 
   -- and that is what the tree has there
-  pub find-shown : (told : Kind → A) → ((j : ℕ) → of j ≡ value_of told (node_of image j)) → (tree : PathMap) → Shows image tree → (here : Path) → lookup image here ≡ Some i →
-      (name : Name) → find by_bytes name (items_from 0 (entry_count image i)) ≡ option_map (value_of told) (get tree.nodes (here ++ name ∷ []))
-  find-shown told tells tree shows here at name =
+  pub find-shown : (reported : Kind → A) → ((j : ℕ) → of j ≡ value_of reported (node_of image j)) → (tree : PathMap) → Shows image tree → (here : Path) → lookup image here ≡ Some i →
+      (name : Name) → find by_bytes name (items_from 0 (entry_count image i)) ≡ option_map (value_of reported) (get tree.nodes (here ++ name ∷ []))
+  find-shown reported reports tree shows here at name =
       find-items name ∙ go (lookup_in image i name)
-      ∙ ap (λ found. option_map (value_of told) (option_map (node_of image) found)) (sym (lookup_from-append image 1 here name ∙ ap (option_and_then (λ k. lookup_in image k name)) at))
-      ∙ ap (option_map (value_of told)) (sym (shows.shows (here ++ name ∷ [])))
+      ∙ ap (λ found. option_map (value_of reported) (option_map (node_of image) found)) (sym (lookup_from-append image 1 here name ∙ ap (option_and_then (λ k. lookup_in image k name)) at))
+      ∙ ap (option_map (value_of reported)) (sym (shows.shows (here ++ name ∷ [])))
     where
-      go : (o : Option ℕ) → option_map of o ≡ option_map (value_of told) (option_map (node_of image) o)
+      go : (o : Option ℕ) → option_map of o ≡ option_map (value_of reported) (option_map (node_of image) o)
       go None = refl
-      go (Some j) = ap Some (tells j)
+      go (Some j) = ap Some (reports j)

@@ -99,18 +99,18 @@ module _ (image : Image) (stands : (tree_map : PathMap) × Shows image tree_map)
       way : HasWay now.nodes path
       way = map_has_way now (shows_path_map image now stands.1) path node at
 
-      last : (front : Path) (name : Name) (other : Node) → get now.nodes (front ++ name ∷ []) ≡ Some other → are_bytes name ≡ true
-      last front name other there =
-          let step = step_at image now stands.1 front name other (sym (stands.1.shows (front ++ name ∷ [])) ∙ there) in
+      last : (prefix : Path) (name : Name) (other : Node) → get now.nodes (prefix ++ name ∷ []) ≡ Some other → are_bytes name ≡ true
+      last prefix name other there =
+          let step = step_at image now stands.1 prefix name other (sym (stands.1.shows (prefix ++ name ∷ [])) ∙ there) in
           subst (λ n. are_bytes n ≡ true) step.1.shows.spelled (bytes_all _ (λ x. byte_low image (root_of image step.1.parent) _) _)
 
-      here : (front : Path) (name : Name) (rest : Path) → path ≡ front ++ name ∷ rest → are_bytes name ≡ true
-      here front name [] cut = last front name node (ap (get now.nodes) (sym cut) ∙ at)
-      here front name (other ∷ rest) cut = last front name dir (way (front ++ name ∷ []) other rest (cut ∙ sym (append_assoc front (name ∷ []) (other ∷ rest))))
+      here : (prefix : Path) (name : Name) (rest : Path) → path ≡ prefix ++ name ∷ rest → are_bytes name ≡ true
+      here prefix name [] cut = last prefix name node (ap (get now.nodes) (sym cut) ∙ at)
+      here prefix name (other ∷ rest) cut = last prefix name dir (way (prefix ++ name ∷ []) other rest (cut ∙ sym (append_assoc prefix (name ∷ []) (other ∷ rest))))
 
-      go : (front rest : Path) → path ≡ front ++ rest → list_all are_bytes rest ≡ true
-      go front [] cut = refl
-      go front (name ∷ rest) cut = both_true _ _ (here front name rest cut) (go (front ++ name ∷ []) rest (cut ∙ sym (append_assoc front (name ∷ []) rest)))
+      go : (prefix rest : Path) → path ≡ prefix ++ rest → list_all are_bytes rest ≡ true
+      go prefix [] cut = refl
+      go prefix (name ∷ rest) cut = both_true _ _ (here prefix name rest cut) (go (prefix ++ name ∷ []) rest (cut ∙ sym (append_assoc prefix (name ∷ []) rest)))
 
 pub image_exportable : (image : Image) (tree : FileTree) → Stands image tree → HasShortPaths tree → IsExportable tree × IsOfBytes tree
 image_exportable image tree stands short = (

@@ -20,12 +20,12 @@ use Rattle.bp_plain.proofs.FirstPaths.{first_before, first_there, has, none_pass
 use Rattle.bp_plain.proofs.Kernels.{any_path, by_bools, pairs_of-any, paths_of-any, same_by_cmp, tie_paths}
 use Rattle.bp_plain.proofs.PathOrder.{pair_cmp-IsAntisymmetric, pair_cmp-IsTotalOrder, path_cmp-IsAntisymmetric, path_cmp-IsTotalOrder, same_path_from}
 use Rattle.bp_plain.proofs.PathTexts.{parse-path_text}
-use Rattle.bp_plain.proofs.PathWays.{Entry, HasWay, all_named, below_back, below_further, below_longer, below_middle, both_hold, find_back, find_below, find_front, is_less, left_holds, map_has_way, new_path, right_holds, walks, walks_parent}
+use Rattle.bp_plain.proofs.PathWays.{Entry, HasWay, all_named, below_back, below_further, below_longer, below_middle, both_hold, find_back, find_below, find_prefix, is_less, left_holds, map_has_way, new_path, right_holds, walks, walks_parent}
 
 -- a path of an entry before another one is below it
-front_less : (q : Path) (xs : List Entry) (e : Entry) (ys : List Entry) → T (is_sorted path_cmp (xs ++ e ∷ ys)) → has q xs ≡ true → path_cmp q e.0 ≡ Less
-front_less q [] e ys sorted there = absurd (true≢false (sym there))
-front_less q (x ∷ xs) e ys sorted there = go (eq_by_cmp path_cmp q x.0) refl (λ later. front_less q xs e ys (right_holds _ _ sorted) later)
+prefix_less : (q : Path) (xs : List Entry) (e : Entry) (ys : List Entry) → T (is_sorted path_cmp (xs ++ e ∷ ys)) → has q xs ≡ true → path_cmp q e.0 ≡ Less
+prefix_less q [] e ys sorted there = absurd (true≢false (sym there))
+prefix_less q (x ∷ xs) e ys sorted there = go (eq_by_cmp path_cmp q x.0) refl (λ later. prefix_less q xs e ys (right_holds _ _ sorted) later)
   where
     go : (b : Bool) → eq_by_cmp path_cmp q x.0 ≡ b → (has q xs ≡ true → path_cmp q e.0 ≡ Less) → path_cmp q e.0 ≡ Less
     go true same rest = ap (λ y. path_cmp y e.0) (same_path_from q x.0 same) ∙ below_middle x.0 xs e ys (left_holds _ _ sorted)
@@ -68,12 +68,12 @@ module _ (tree : FileTree) (can : IsExportable tree) where
   spelled name rest node at = parse-path_text name rest (all_named now is (name ∷ rest) node at) (can.spelled (name ∷ rest) node at)
 
   -- What is there after some entries: their nodes, and the pairs among their paths.
-  pub record IsFront (front : List Entry) (made : PathMap) : Type 0 where
-    pub nodes : (q : Path) → get made.nodes q ≡ entry.find path_cmp q front
-    pub pairs : (p q : Path) → is_one made.one p q ≡ (has p front && (has q front && one p q))
+  pub record IsPrefix (prefix : List Entry) (made : PathMap) : Type 0 where
+    pub nodes : (q : Path) → get made.nodes q ≡ entry.find path_cmp q prefix
+    pub pairs : (p q : Path) → is_one made.one p q ≡ (has p prefix && (has q prefix && one p q))
 
-  root_front : IsFront (([], dir) ∷ []) empty_map
-  root_front = record {
+  root_prefix : IsPrefix (([], dir) ∷ []) empty_map
+  root_prefix = record {
     nodes = λ q. get-insert path_cmp-IsTotalOrder finite.empty [] dir q ∙ ap (cond (eq_by_cmp path_cmp q []) (Some dir)) (get-empty path_cmp q);
     pairs = λ p q. contains-empty pair_cmp (p, q) ∙ sym (none p q (eq_by_cmp path_cmp p []) refl);
   }
@@ -85,11 +85,11 @@ module _ (tree : FileTree) (can : IsExportable tree) where
       none p q false at = rw at refl
 
   -- all entries
-  whole_front : (made : PathMap) → IsFront (entries now.nodes) made → made ≡ now
-  whole_front made front = λ i. record { nodes = same_nodes i; one = same_pairs i }
+  whole_prefix : (made : PathMap) → IsPrefix (entries now.nodes) made → made ≡ now
+  whole_prefix made prefix = λ i. record { nodes = same_nodes i; one = same_pairs i }
     where
       same_nodes : made.nodes ≡ now.nodes
-      same_nodes = same_map path_cmp-IsTotalOrder path_cmp-IsAntisymmetric made.nodes now.nodes (λ q. front.nodes q ∙ sym (get-entries now.nodes q))
+      same_nodes = same_map path_cmp-IsTotalOrder path_cmp-IsAntisymmetric made.nodes now.nodes (λ q. prefix.nodes q ∙ sym (get-entries now.nodes q))
 
       there : (p : Path) (content : List ℕ) → get now.nodes p ≡ Some (file content) → has p (entries now.nodes) ≡ true
       there p content at = ap is_some (sym (get-entries now.nodes p) ∙ at)
@@ -99,36 +99,36 @@ module _ (tree : FileTree) (can : IsExportable tree) where
       each p q false e = rw e (ap (λ x. has p (entries now.nodes) && x) (and_false _) ∙ and_false _)
 
       same_pairs : made.one ≡ now.one
-      same_pairs = same_set pair_cmp-IsTotalOrder pair_cmp-IsAntisymmetric made.one now.one (λ pair. front.pairs pair.0 pair.1 ∙ each pair.0 pair.1 (one pair.0 pair.1) refl)
+      same_pairs = same_set pair_cmp-IsTotalOrder pair_cmp-IsAntisymmetric made.one now.one (λ pair. prefix.pairs pair.0 pair.1 ∙ each pair.0 pair.1 (one pair.0 pair.1) refl)
 
   -- ---- one entry more
 
-  module _ (front after : List Entry) (name : Name) (rest : Path) (node : Node) (are : entries now.nodes ≡ front ++ (name ∷ rest, node) ∷ after) (made : PathMap) (so_far : IsFront front made) where
+  module _ (prefix after : List Entry) (name : Name) (rest : Path) (node : Node) (are : entries now.nodes ≡ prefix ++ (name ∷ rest, node) ∷ after) (made : PathMap) (so_far : IsPrefix prefix made) where
     abbrev place : Path
     place = name ∷ rest
 
     abbrev longer : List Entry
-    longer = front ++ (place, node) ∷ []
+    longer = prefix ++ (place, node) ∷ []
 
-    sorted : T (is_sorted path_cmp (front ++ (place, node) ∷ after))
+    sorted : T (is_sorted path_cmp (prefix ++ (place, node) ∷ after))
     sorted = subst (λ es. T (is_sorted path_cmp es)) are (entries_sorted now.nodes)
 
-    not_yet : entry.find path_cmp place front ≡ None
-    not_yet = new_path front (place, node) after sorted
+    not_yet : entry.find path_cmp place prefix ≡ None
+    not_yet = new_path prefix (place, node) after sorted
 
-    not_has : has place front ≡ false
+    not_has : has place prefix ≡ false
     not_has = ap is_some not_yet
 
     there : get now.nodes place ≡ Some node
     there =
-        get-entries now.nodes place ∙ ap (entry.find path_cmp place) are ∙ find_back place front ((place, node) ∷ after) not_yet
+        get-entries now.nodes place ∙ ap (entry.find path_cmp place) are ∙ find_back place prefix ((place, node) ∷ after) not_yet
         ∙ ap (λ r. cond (is_eq r) (Some node) (entry.find path_cmp place after)) (tied_itself path_cmp-IsTotalOrder place)
 
     -- below the path the map is whole
     as_map : (p : Path) → path_cmp p place ≡ Less → get made.nodes p ≡ get now.nodes p
     as_map p low =
-        let below : T (below_all path_cmp p ((place, node) ∷ after)) = both_hold _ _ (is_less _ low) (below_further p place after low (below_back front (place, node) after sorted)) in
-        so_far.nodes p ∙ sym (find_front p front ((place, node) ∷ after) below) ∙ ap (entry.find path_cmp p) (sym are) ∙ sym (get-entries now.nodes p)
+        let below : T (below_all path_cmp p ((place, node) ∷ after)) = both_hold _ _ (is_less _ low) (below_further p place after low (below_back prefix (place, node) after sorted)) in
+        so_far.nodes p ∙ sym (find_prefix p prefix ((place, node) ∷ after) below) ∙ ap (entry.find path_cmp p) (sym are) ∙ sym (get-entries now.nodes p)
 
     -- so is the way to a path that isn't above it
     way_made : (path : Path) (other : Node) → get now.nodes path ≡ Some other → ((p : Path) → path_cmp p path ≡ Less → path_cmp p place ≡ Less) → HasWay made.nodes path
@@ -143,13 +143,13 @@ module _ (tree : FileTree) (can : IsExportable tree) where
 
     -- ---- what is there then
 
-    found_longer : (q : Path) → entry.find path_cmp q longer ≡ cond (same_path q place) (Some node) (entry.find path_cmp q front)
-    found_longer q = entry.find-append path_cmp path_cmp-IsTotalOrder front place node q not_yet ∙ ap (λ b. cond b (Some node) (entry.find path_cmp q front)) (same_by_cmp q place)
+    found_longer : (q : Path) → entry.find path_cmp q longer ≡ cond (same_path q place) (Some node) (entry.find path_cmp q prefix)
+    found_longer q = entry.find-append path_cmp path_cmp-IsTotalOrder prefix place node q not_yet ∙ ap (λ b. cond b (Some node) (entry.find path_cmp q prefix)) (same_by_cmp q place)
 
-    has_longer : (q : Path) → has q longer ≡ (same_path q place || has q front)
+    has_longer : (q : Path) → has q longer ≡ (same_path q place || has q prefix)
     has_longer q = ap is_some (found_longer q) ∙ either (same_path q place)
       where
-        either : (b : Bool) → is_some (cond b (Some node) (entry.find path_cmp q front)) ≡ (b || has q front)
+        either : (b : Bool) → is_some (cond b (Some node) (entry.find path_cmp q prefix)) ≡ (b || has q prefix)
         either true = refl
         either false = refl
 
@@ -161,16 +161,16 @@ module _ (tree : FileTree) (can : IsExportable tree) where
     -- the pairs, by whether a path is the new one
     module _ (aliases : Aliases)
         (both : is_one aliases place place ≡ one place place)
-        (left : (q : Path) → same_path q place ≡ false → is_one aliases place q ≡ (has q front && one place q))
-        (right : (p : Path) → same_path p place ≡ false → is_one aliases p place ≡ (has p front && one p place))
+        (left : (q : Path) → same_path q place ≡ false → is_one aliases place q ≡ (has q prefix && one place q))
+        (right : (p : Path) → same_path p place ≡ false → is_one aliases p place ≡ (has p prefix && one p place))
         (neither : (p q : Path) → same_path p place ≡ false → same_path q place ≡ false → is_one aliases p q ≡ is_one made.one p q) where
       put_pairs : (p q : Path) → is_one aliases p q ≡ (has p longer && (has q longer && one p q))
       put_pairs p q = go (same_path p place) refl (same_path q place) refl ∙ sym (ap₂ (λ a b. a && (b && one p q)) (has_longer p) (has_longer q))
         where
-          go : (a : Bool) → same_path p place ≡ a → (b : Bool) → same_path q place ≡ b → is_one aliases p q ≡ ((same_path p place || has p front) && ((same_path q place || has q front) && one p q))
+          go : (a : Bool) → same_path p place ≡ a → (b : Bool) → same_path q place ≡ b → is_one aliases p q ≡ ((same_path p place || has p prefix) && ((same_path q place || has q prefix) && one p q))
           go true e true f = rw (e, f) (ap₂ (is_one aliases) (same_path-is p place e) (same_path-is q place f) ∙ both ∙ sym (ap₂ one (same_path-is p place e) (same_path-is q place f)))
-          go true e false f = rw (e, f) (ap (λ x. is_one aliases x q) (same_path-is p place e) ∙ left q f ∙ sym (ap (λ x. has q front && one x q) (same_path-is p place e)))
-          go false e true f = rw (e, f) (ap (is_one aliases p) (same_path-is q place f) ∙ right p e ∙ sym (ap (λ x. has p front && one p x) (same_path-is q place f)))
+          go true e false f = rw (e, f) (ap (λ x. is_one aliases x q) (same_path-is p place e) ∙ left q f ∙ sym (ap (λ x. has q prefix && one x q) (same_path-is p place e)))
+          go false e true f = rw (e, f) (ap (is_one aliases p) (same_path-is q place f) ∙ right p e ∙ sym (ap (λ x. has p prefix && one p x) (same_path-is q place f)))
           go false e false f = rw (e, f) (neither p q e f ∙ so_far.pairs p q)
 
     -- no pair has the new path yet
@@ -183,8 +183,8 @@ module _ (tree : FileTree) (can : IsExportable tree) where
     -- ---- a directory
 
     dir_pairs : node ≡ dir → (p q : Path) → is_one made.one p q ≡ (has p longer && (has q longer && one p q))
-    dir_pairs is_dir = put_pairs made.one (made_left place ∙ sym (no place)) (λ q e. made_left q ∙ sym (none q (has q front) (no q)))
-        (λ p e. made_right p ∙ sym (none_back p (has p front))) (λ p q e f. refl)
+    dir_pairs is_dir = put_pairs made.one (made_left place ∙ sym (no place)) (λ q e. made_left q ∙ sym (none q (has q prefix) (no q)))
+        (λ p e. made_right p ∙ sym (none_back p (has p prefix))) (λ p q e f. refl)
       where
         no : (q : Path) → one place q ≡ false
         no q = dir_alone place (there ∙ ap Some is_dir) q
@@ -201,33 +201,33 @@ module _ (tree : FileTree) (can : IsExportable tree) where
       itself : one place place ≡ true
       itself = is.itself place content (there ∙ ap Some is_file)
 
-      alone_pairs : ((q : Path) → has q front ≡ true → one place q ≡ false) → (p q : Path) → is_one (alone made.one place) p q ≡ (has p longer && (has q longer && one p q))
-      alone_pairs fresh = put_pairs (alone made.one place) (told place place ∙ rw (same_path-self place) (sym itself)) left right neither
+      alone_pairs : ((q : Path) → has q prefix ≡ true → one place q ≡ false) → (p q : Path) → is_one (alone made.one place) p q ≡ (has p longer && (has q longer && one p q))
+      alone_pairs fresh = put_pairs (alone made.one place) (reported place place ∙ rw (same_path-self place) (sym itself)) left right neither
         where
-          told : (p q : Path) → is_one (alone made.one place) p q ≡ (same_path p place && same_path q place || is_one made.one p q)
-          told p q = contains-insert pair_cmp-IsTotalOrder made.one (place, place) (p, q) ∙ ap (λ b. b || is_one made.one p q) (tie_paths p q place place)
+          reported : (p q : Path) → is_one (alone made.one place) p q ≡ (same_path p place && same_path q place || is_one made.one p q)
+          reported p q = contains-insert pair_cmp-IsTotalOrder made.one (place, place) (p, q) ∙ ap (λ b. b || is_one made.one p q) (tie_paths p q place place)
 
-          none : (q : Path) (b : Bool) → has q front ≡ b → (has q front && one place q) ≡ false
+          none : (q : Path) (b : Bool) → has q prefix ≡ b → (has q prefix && one place q) ≡ false
           none q true e = rw (e, fresh q e) refl
           none q false e = rw e refl
 
-          left : (q : Path) → same_path q place ≡ false → is_one (alone made.one place) place q ≡ (has q front && one place q)
-          left q f = told place q ∙ rw (f, same_path-self place, made_left q) (sym (none q (has q front) refl))
+          left : (q : Path) → same_path q place ≡ false → is_one (alone made.one place) place q ≡ (has q prefix && one place q)
+          left q f = reported place q ∙ rw (f, same_path-self place, made_left q) (sym (none q (has q prefix) refl))
 
-          right : (p : Path) → same_path p place ≡ false → is_one (alone made.one place) p place ≡ (has p front && one p place)
-          right p e = told p place ∙ rw (e, made_right p, one_back p place) (sym (none p (has p front) refl))
+          right : (p : Path) → same_path p place ≡ false → is_one (alone made.one place) p place ≡ (has p prefix && one p place)
+          right p e = reported p place ∙ rw (e, made_right p, one_back p place) (sym (none p (has p prefix) refl))
 
           neither : (p q : Path) → same_path p place ≡ false → same_path q place ≡ false → is_one (alone made.one place) p q ≡ is_one made.one p q
-          neither p q e f = told p q ∙ rw e refl
+          neither p q e f = reported p q ∙ rw e refl
 
       -- ---- a later one
 
-      module _ (first : Path) (in_front : has first front ≡ true) (same : one place first ≡ true) where
+      module _ (first : Path) (in_prefix : has first prefix ≡ true) (same : one place first ≡ true) where
         first_here : one first place ≡ true
         first_here = is.back place first same
 
         linked_pairs : (p q : Path) → is_one (linked made.one first place) p q ≡ (has p longer && (has q longer && one p q))
-        linked_pairs = put_pairs (linked made.one first place) (told place place ∙ rw (same_path-self place) (or_true _ ∙ sym itself)) left right neither
+        linked_pairs = put_pairs (linked made.one first place) (reported place place ∙ rw (same_path-self place) (or_true _ ∙ sym itself)) left right neither
           where
             or_true : (a : Bool) → (a || true) ≡ true
             or_true true = refl
@@ -237,26 +237,26 @@ module _ (tree : FileTree) (can : IsExportable tree) where
             or_false true = refl
             or_false false = refl
 
-            any_of : (q : Path) → any_path q (paths_of made.one first) ≡ (has q front && one place q)
-            any_of q = paths_of-any made.one first q ∙ so_far.pairs first q ∙ rw (in_front, one_alike place first q same) refl
+            any_of : (q : Path) → any_path q (paths_of made.one first) ≡ (has q prefix && one place q)
+            any_of q = paths_of-any made.one first q ∙ so_far.pairs first q ∙ rw (in_prefix, one_alike place first q same) refl
 
-            told : (p q : Path) → is_one (linked made.one first place) p q ≡ (is_one made.one p q ||
+            reported : (p q : Path) → is_one (linked made.one first place) p q ≡ (is_one made.one p q ||
                 (same_path p place && same_path q place || (same_path p place && any_path q (paths_of made.one first) || same_path q place && any_path p (paths_of made.one first))))
-            told p q =
+            reported p q =
                 contains-union pair_cmp-IsTotalOrder made.one _ (p, q)
                 ∙ ap (λ b. is_one made.one p q || b) (contains-from_list pair_cmp-IsTotalOrder (pairs_with place (paths_of made.one first)) (p, q) ∙ pairs_of-any p q place (paths_of made.one first))
 
-            left : (q : Path) → same_path q place ≡ false → is_one (linked made.one first place) place q ≡ (has q front && one place q)
-            left q f = told place q ∙ rw (f, same_path-self place, made_left q, any_of q) (or_false _)
+            left : (q : Path) → same_path q place ≡ false → is_one (linked made.one first place) place q ≡ (has q prefix && one place q)
+            left q f = reported place q ∙ rw (f, same_path-self place, made_left q, any_of q) (or_false _)
 
-            right : (p : Path) → same_path p place ≡ false → is_one (linked made.one first place) p place ≡ (has p front && one p place)
-            right p e = told p place ∙ rw (e, same_path-self place, made_right p, any_of p, one_back p place) refl
+            right : (p : Path) → same_path p place ≡ false → is_one (linked made.one first place) p place ≡ (has p prefix && one p place)
+            right p e = reported p place ∙ rw (e, same_path-self place, made_right p, any_of p, one_back p place) refl
 
             neither : (p q : Path) → same_path p place ≡ false → same_path q place ≡ false → is_one (linked made.one first place) p q ≡ is_one made.one p q
-            neither p q e f = told p q ∙ rw (e, f) (or_false _)
+            neither p q e f = reported p q ∙ rw (e, f) (or_false _)
 
         first_less : path_cmp first place ≡ Less
-        first_less = front_less first front (place, node) after sorted in_front
+        first_less = prefix_less first prefix (place, node) after sorted in_prefix
 
         first_is : get now.nodes first ≡ Some (file content)
         first_is =
@@ -270,8 +270,8 @@ module _ (tree : FileTree) (can : IsExportable tree) where
         first_way : HasWay made.nodes first
         first_way = way_made first (file content) first_is (λ p low. path_cmp-IsTotalOrder.trans p first place low first_less)
 
-        name_front : IsFront longer (with_name made first place)
-        name_front = record {
+        name_prefix : IsPrefix longer (with_name made first place)
+        name_prefix = record {
           nodes = λ q. ap (λ n. get (insert made.nodes place n) q) (ap (λ o. file (bytes_in o)) first_made ∙ sym is_file) ∙ put_nodes q;
           pairs = linked_pairs;
         }
@@ -280,16 +280,16 @@ module _ (tree : FileTree) (can : IsExportable tree) where
 
     -- these calls are all done, and make the entry
     abbrev Goes : List Call → Type 0
-    Goes calls = (next : PathMap) × AllDone (stage tree.version made) calls (stage tree.version next) × IsFront longer next
+    Goes calls = (next : PathMap) × AllDone (stage tree.version made) calls (stage tree.version next) × IsPrefix longer next
 
     spells : parse (path_text place) ≡ Some place
     spells = spelled name rest node there
 
     -- the first path of what stands here
-    first_is_of : (o : Option Path) → find (one place) (paths front) ≡ o → first_of now place ≡ unwrap_or o place
-    first_is_of o found = first_before now is front (place, node) after are ∙ ap (λ x. unwrap_or x place) found
+    first_is_of : (o : Option Path) → find (one place) (paths prefix) ≡ o → first_of now place ≡ unwrap_or o place
+    first_is_of o found = first_before now is prefix (place, node) after are ∙ ap (λ x. unwrap_or x place) found
 
-    own_goes : first_of now place ≡ place → IsFront longer (placed made place node) → Goes (calls_at now (place, node))
+    own_goes : first_of now place ≡ place → IsPrefix longer (placed made place node) → Goes (calls_at now (place, node))
     own_goes own next = (
       placed made place node,
       rw (own, same_path-self place) (node_done tree.version made name rest way_here spells made_left new node (λ content is_file. can.sized place content (there ∙ ap Some is_file))),
@@ -298,25 +298,25 @@ module _ (tree : FileTree) (can : IsExportable tree) where
 
     dir_goes : node ≡ dir → Goes (calls_at now (place, node))
     dir_goes is_dir =
-        own_goes (first_is_of None (none_passes (one place) (paths front) (λ q. dir_alone place (there ∙ ap Some is_dir) q)))
-        (subst (λ n. IsFront longer (placed made place n)) (sym is_dir) (record {
+        own_goes (first_is_of None (none_passes (one place) (paths prefix) (λ q. dir_alone place (there ∙ ap Some is_dir) q)))
+        (subst (λ n. IsPrefix longer (placed made place n)) (sym is_dir) (record {
           nodes = λ q. ap (λ n. get (insert made.nodes place n) q) (sym is_dir) ∙ put_nodes q;
           pairs = dir_pairs is_dir;
         }))
 
     file_goes : (content : List ℕ) → node ≡ file content → Goes (calls_at now (place, node))
-    file_goes content is_file = go (find (one place) (paths front)) refl
+    file_goes content is_file = go (find (one place) (paths prefix)) refl
       where
-        go : (o : Option Path) → find (one place) (paths front) ≡ o → Goes (calls_at now (place, node))
+        go : (o : Option Path) → find (one place) (paths prefix) ≡ o → Goes (calls_at now (place, node))
         go None none =
             own_goes (first_is_of None none)
-            (subst (λ n. IsFront longer (placed made place n)) (sym is_file) (record {
+            (subst (λ n. IsPrefix longer (placed made place n)) (sym is_file) (record {
               nodes = λ q. ap (λ n. get (insert made.nodes place n) q) (sym is_file) ∙ put_nodes q;
-              pairs = alone_pairs content is_file (none_there (one place) front none);
+              pairs = alone_pairs content is_file (none_there (one place) prefix none);
             }))
-        go (Some first) found = link_goes_on first (first_there (one place) front first found) (first_is_of (Some first) found)
+        go (Some first) found = link_goes_on first (first_there (one place) prefix first found) (first_is_of (Some first) found)
           where
-            link_goes_on : (first : Path) → (one place first ≡ true) × (has first front ≡ true) → first_of now place ≡ first → Goes (calls_at now (place, node))
+            link_goes_on : (first : Path) → (one place first ≡ true) × (has first prefix ≡ true) → first_of now place ≡ first → Goes (calls_at now (place, node))
             link_goes_on [] both is_first =
                 let files = is.files place [] both.0 in
                 let wrong : ◌≡◌ {A = Option Node} (Some dir) (Some (file files.0)) = sym is.root ∙ files.2 in absurd (cc)
@@ -330,14 +330,14 @@ module _ (tree : FileTree) (can : IsExportable tree) where
                     (first_made content is_file (other ∷ more) both.1 both.0) refl (walks_parent made.nodes name rest way_here) new,
                 refl,
               ),
-              name_front content is_file (other ∷ more) both.1 both.0,
+              name_prefix content is_file (other ∷ more) both.1 both.0,
             )
               where
                 apart : same_path (other ∷ more) place ≡ false
                 apart = differs (same_path (other ∷ more) place) refl
                   where
                     differs : (b : Bool) → same_path (other ∷ more) place ≡ b → same_path (other ∷ more) place ≡ false
-                    differs true e = absurd (true≢false (sym both.1 ∙ ap (λ q. has q front) (same_path-is (other ∷ more) place e) ∙ not_has))
+                    differs true e = absurd (true≢false (sym both.1 ∙ ap (λ q. has q prefix) (same_path-is (other ∷ more) place e) ∙ not_has))
                     differs false e = e
 
     entry_goes : (n : Node) → node ≡ n → Goes (calls_at now (place, node))
@@ -346,11 +346,11 @@ module _ (tree : FileTree) (can : IsExportable tree) where
 
   -- ---- the entries from one on
 
-  rest_done : (before after : List Entry) (made : PathMap) → entries now.nodes ≡ (([], dir) ∷ before) ++ after → IsFront (([], dir) ∷ before) made
+  rest_done : (before after : List Entry) (made : PathMap) → entries now.nodes ≡ (([], dir) ∷ before) ++ after → IsPrefix (([], dir) ∷ before) made
       → AllDone (stage tree.version made) (flat_map (calls_at now) after) (without_snapshot tree)
   rest_done before [] made are so_far =
       let all : ([], dir) ∷ before ≡ entries now.nodes = sym (append-nil (([], dir) ∷ before)) ∙ sym are in
-      ap (stage tree.version) (whole_front made (subst (λ es. IsFront es made) all so_far))
+      ap (stage tree.version) (whole_prefix made (subst (λ es. IsPrefix es made) all so_far))
   rest_done before (([], node) ∷ after) made are so_far =
       let none : ◌≡◌ {A = Option Node} (Some dir) None = new_path (([], dir) ∷ before) ([], node) after (subst (λ es. T (is_sorted path_cmp es)) are (entries_sorted now.nodes)) in
       absurd (true≢false (ap is_some none))
@@ -368,7 +368,7 @@ module _ (tree : FileTree) (can : IsExportable tree) where
           let same : ◌≡◌ {A = Option Node} (Some node) (Some dir) = rw are at root in
           let is_dir : node ≡ dir = cc in
           let cut : entries now.nodes ≡ ([], dir) ∷ es = are ∙ ap (λ n. ([], n) ∷ es) is_dir in
-          subst (λ all. AllDone (empty_tree tree.version) (flat_map (calls_at now) all) (without_snapshot tree)) (sym cut) (rest_done [] es empty_map cut root_front)
+          subst (λ all. AllDone (empty_tree tree.version) (flat_map (calls_at now) all) (without_snapshot tree)) (sym cut) (rest_done [] es empty_map cut root_prefix)
       go ((name ∷ rest, node) ∷ es) are root =
           let sorted : T (is_sorted path_cmp ((name ∷ rest, node) ∷ es)) = subst (λ es. T (is_sorted path_cmp es)) are (entries_sorted now.nodes) in
           let later : entry.find path_cmp [] es ≡ Some dir = rw are at root in

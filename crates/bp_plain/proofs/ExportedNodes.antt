@@ -197,7 +197,7 @@ module _ (version : Version) (before : PathMap) (name : Name) (rest : Path) (way
               ),
             )
 
-    -- and those behind it
+    -- and those after it
     stretches_done : (n k : ℕ) (made : List ℕ) → Made content k made → (n ≡ 0) ⊎ (block_size * (k + n - 1) < length content)
         → (new : List ℕ) × Made content (k + n) new × AllDone (holding made) (flat_map (write_of text content) (range_with_len k n)) (holding new)
     stretches_done zero k made m low = (made, subst (λ j. Made content j made) (omega arith) m, refl)

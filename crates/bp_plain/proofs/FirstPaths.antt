@@ -72,9 +72,9 @@ paths-append [] ys = refl
 paths-append (x ∷ xs) ys = ap (λ ps. x.0 ∷ ps) (paths-append xs ys)
 
 -- The first path of what stands at a path is among those before it, or is the path itself.
-pub first_before : (tree : PathMap) → IsPathMap tree → (front : List Entry) (e : Entry) (after : List Entry) → entries tree.nodes ≡ front ++ e ∷ after
-    → first_of tree e.0 ≡ unwrap_or (find (is_one tree.one e.0) (paths front)) e.0
-first_before tree is front e after are = ap (λ qs. own (find same qs)) keys_are ∙ go (find same (paths front)) refl
+pub first_before : (tree : PathMap) → IsPathMap tree → (prefix : List Entry) (e : Entry) (after : List Entry) → entries tree.nodes ≡ prefix ++ e ∷ after
+    → first_of tree e.0 ≡ unwrap_or (find (is_one tree.one e.0) (paths prefix)) e.0
+first_before tree is prefix e after are = ap (λ qs. own (find same qs)) keys_are ∙ go (find same (paths prefix)) refl
   where
     same : Path → Bool
     same = is_one tree.one e.0
@@ -82,8 +82,8 @@ first_before tree is front e after are = ap (λ qs. own (find same qs)) keys_are
     own : Option Path → Path
     own found = unwrap_or found e.0
 
-    keys_are : keys tree.nodes ≡ paths front ++ e.0 ∷ paths after
-    keys_are = ap paths are ∙ paths-append front (e ∷ after)
+    keys_are : keys tree.nodes ≡ paths prefix ++ e.0 ∷ paths after
+    keys_are = ap paths are ∙ paths-append prefix (e ∷ after)
 
     -- where it isn't one with itself, it is one with none
     alone : same e.0 ≡ false → (q : Path) → same q ≡ false
@@ -97,6 +97,6 @@ first_before tree is front e after are = ap (λ qs. own (find same qs)) keys_are
     here true at = rw at refl
     here false at = rw at (ap own (none_passes same (paths after) (alone at)))
 
-    go : (o : Option Path) → find same (paths front) ≡ o → own (find same (paths front ++ e.0 ∷ paths after)) ≡ own (find same (paths front))
-    go None at = ap own (find_on same (paths front) (e.0 ∷ paths after) at) ∙ here (same e.0) refl ∙ ap own (sym at)
-    go (Some q) at = ap own (find_soon same (paths front) (e.0 ∷ paths after) q at ∙ sym at)
+    go : (o : Option Path) → find same (paths prefix) ≡ o → own (find same (paths prefix ++ e.0 ∷ paths after)) ≡ own (find same (paths prefix))
+    go None at = ap own (find_on same (paths prefix) (e.0 ∷ paths after) at) ∙ here (same e.0) refl ∙ ap own (sym at)
+    go (Some q) at = ap own (find_soon same (paths prefix) (e.0 ∷ paths after) q at ∙ sym at)

@@ -104,7 +104,7 @@ module _ (old : List (Vec (ArrayVec ℕ) × Kept)) (sorted : is_sorted path_cmp 
 
 -- ---- a node that goes
 
--- entries behind a key are not those of the key
+-- entries after a key are not those of the key
 others_kept : (k x : Path) (es : List (Path × Numbered)) → path_cmp k x ≡ Equal → T (below_all path_cmp x es) → where_key path_cmp (λ y. not (eq_by_cmp path_cmp k y)) es ≡ es
 others_kept k x [] tied below = refl
 others_kept k x (e ∷ es) tied below =
@@ -156,10 +156,10 @@ no_entries es is = ap (λ xs. from_sorted {R = path_cmp} (map entry_kept xs)) is
 pub all_entries : (es : List (Vec (ArrayVec ℕ) × Kept)) → is_sorted path_cmp (map entry_kept es) ≡ true → entries (from_sorted {R = path_cmp} (map entry_kept es)) ≡ map entry_kept es
 all_entries es sorted = entries-from_sorted path_cmp (map entry_kept es) (passes sorted)
 
--- a node behind a reference
-pub node_behind : (found : Option (Bor Kept)) → option_map (λ node. numbered node.now) found ≡ option_map numbered (option_copied found)
-node_behind None = refl
-node_behind (Some node) = refl
+-- a node after a reference
+pub node_of_reference : (found : Option (Bor Kept)) → option_map (λ node. numbered node.now) found ≡ option_map numbered (option_copied found)
+node_of_reference None = refl
+node_of_reference (Some node) = refl
 
 -- ---- the rows of a listing
 
@@ -184,7 +184,7 @@ same_bytes [] (y ∷ ys) all = absurd all
 same_bytes (x ∷ xs) [] all = absurd all
 same_bytes (x ∷ xs) (y ∷ ys) all = ap₂ (λ a b. a ∷ b) all.0 (same_bytes xs ys all.1)
 
--- a node behind a reference, without its number
-pub plain_behind : (found : Option (Bor Kept)) → option_map (λ node. node_seen node.now) found ≡ option_map plain_node (option_map (λ node. numbered node.now) found)
-plain_behind None = refl
-plain_behind (Some node) = refl
+-- a node after a reference, without its number
+pub plain_of_reference : (found : Option (Bor Kept)) → option_map (λ node. node_seen node.now) found ≡ option_map plain_node (option_map (λ node. numbered node.now) found)
+plain_of_reference None = refl
+plain_of_reference (Some node) = refl

@@ -1,4 +1,4 @@
--- What each call makes of the pairs of paths that are one, where they are told by labels.
+-- What each call makes of the pairs of paths that are one, where they are stated by labels.
 use Rattle.std.proofs.Common.{◌≡◌, ◌≢◌, ℕ, List, [], ◌∷◌, ◌++◌, Bool, true, false, cond, not, ◌&&◌, ◌||◌, ◌==◌, Option, None, Some, option_and_then, if◌then◌else◌, refl, sym, ◌∙◌, ap, ap₂, true≢false, append-nil}
 use Rattle.std.proofs.lemmas.Bool.{eqb-true, eqb-false}
 use Rattle.std.proofs.lemmas.List.{append_cancel_left}
@@ -344,7 +344,7 @@ module _ (p q : Path) (apart : rest_below p q ≡ None) where
   kernel_moved label new one k empty moves = record {
     each = λ a b. contains-from_list pair_cmp-IsTotalOrder (filter_map (moved_pair p q) (items one)) (a, b)
         ∙ moved_in a b (items one) (λ x any. clean x (contains-items one x ∙ any))
-        ∙ rw (moves a, moves b) (told (before_move p q a) (before_move p q b));
+        ∙ rw (moves a, moves b) (reported (before_move p q a) (before_move p q b));
   }
     where
       some_labels : (x y : Option ℕ) → are_one x y ≡ true → (x ≡ None → ⊥) × (y ≡ None → ⊥)
@@ -357,10 +357,10 @@ module _ (p q : Path) (apart : rest_below p q ≡ None) where
           let both = some_labels (label x.0) (label x.1) (sym (k.each x.0 x.1) ∙ there) in
           ((λ n s f. both.0 (ap label f ∙ empty n s)), (λ n s f. both.1 (ap label f ∙ empty n s)))
 
-      told : (x y : Option Path) → any_if x y (items one) ≡ are_one (option_and_then label x) (option_and_then label y)
-      told None y = refl
-      told (Some x) None = sym (are_one-none (label x))
-      told (Some x) (Some y) = sym (contains-items one (x, y)) ∙ k.each x y
+      reported : (x y : Option Path) → any_if x y (items one) ≡ are_one (option_and_then label x) (option_and_then label y)
+      reported None y = refl
+      reported (Some x) None = sym (are_one-none (label x))
+      reported (Some x) (Some y) = sym (contains-items one (x, y)) ∙ k.each x y
 
 -- ---- the pairs of a labelling, among some paths
 

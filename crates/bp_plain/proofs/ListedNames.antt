@@ -30,7 +30,7 @@ by_bytes-IsAntisymmetric = slice_cmp-IsAntisymmetric nat_cmp-IsAntisymmetric
 pub same_name : (a b : Name) → eq_by_cmp by_bytes a b ≡ true → a ≡ b
 same_name a b tied = by_bytes-IsAntisymmetric a b ((Equal-is (by_bytes a b)).0 tied)
 
--- an entry of a listing under its name, with what is told of its kind
+-- an entry of a listing under its name, with what is stated of its kind
 abbrev pub under_name : {A : Type 0} → (Kind → A) → Kind × Name → Name × A
 under_name of entry = (entry.1, of entry.0)
 

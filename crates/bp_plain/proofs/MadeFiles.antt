@@ -1,4 +1,4 @@
--- The bytes of a file while its stretches are told.
+-- The bytes of a file while its stretches are reported.
 use Rattle.std.proofs.Common.{◌≡◌, ℕ, zero, suc, ◌+◌, ◌-◌, ◌*◌, ◌<◌, ◌≤◌, ◌==◌, true, false, List, [], ◌∷◌, ◌++◌, length, take, drop, replicate, refl, sym, ◌∙◌, ap, ap₂, arith, true≢false, append_assoc, append-nil, take-add, length-append, length-take, take_all, drop_of_length-le}
 use Rattle.std.specs.Cmp.{first_so, second_so}
 use Rattle.std.proofs.lemmas.Bool.{eqb-true}
@@ -6,7 +6,7 @@ use Rattle.bp_limits.specs.Limits.{block_size}
 use Rattle.bp_plain.specs.Plain.{written}
 use Rattle.bp_plain.specs.Export.{is_zeros, stretch}
 
--- What a file has once so many stretches are told: their bytes, but for zeros at their end.
+-- What a file has once as many stretches are reported: their bytes, except for zeros at their end.
 pub record Made (content : List ℕ) (k : ℕ) (made : List ℕ) : Type 0 where
   pub short : length made ≤ length (take (block_size * k) content)
   pub padded : made ++ replicate (length (take (block_size * k) content) - length made) 0 ≡ take (block_size * k) content
@@ -32,23 +32,23 @@ zeros_are (b ∷ bytes) all =
 pub made_zeros : (content made : List ℕ) (k : ℕ) → Made content k made → is_zeros (stretch content k) ≡ true → Made content (k + 1) made
 made_zeros content made k m zeros = record { short = omega (arith, m.short, long); padded = padded; whole = whole }
   where
-    front : List ℕ
-    front = take (block_size * k) content
+    prefix : List ℕ
+    prefix = take (block_size * k) content
 
     next : List ℕ
     next = stretch content k
 
-    long : length (take (block_size * (k + 1)) content) ≡ length front + length next
-    long = ap length (take_next content k) ∙ length-append front next
+    long : length (take (block_size * (k + 1)) content) ≡ length prefix + length next
+    long = ap length (take_next content k) ∙ length-append prefix next
 
-    more : length (take (block_size * (k + 1)) content) - length made ≡ (length front - length made) + length next
+    more : length (take (block_size * (k + 1)) content) - length made ≡ (length prefix - length made) + length next
     more = omega (arith, long, m.short)
 
     padded : made ++ replicate (length (take (block_size * (k + 1)) content) - length made) 0 ≡ take (block_size * (k + 1)) content
     padded =
         ap (λ n. made ++ replicate n 0) more
-        ∙ ap (λ xs. made ++ xs) (replicate-add (length front - length made) (length next))
-        ∙ sym (append_assoc made (replicate (length front - length made) 0) (replicate (length next) 0))
+        ∙ ap (λ xs. made ++ xs) (replicate-add (length prefix - length made) (length next))
+        ∙ sym (append_assoc made (replicate (length prefix - length made) 0) (replicate (length next) 0))
         ∙ ap₂ (λ xs ys. xs ++ ys) m.padded (sym (zeros_are next zeros))
         ∙ sym (take_next content k)
 
@@ -61,15 +61,15 @@ made_zeros content made k m zeros = record { short = omega (arith, m.short, long
 pub made_written : (content made : List ℕ) (k : ℕ) → Made content k made → block_size * k < length content
     → written made (block_size * k) (stretch content k) ≡ take (block_size * (k + 1)) content
 made_written content made k m low =
-    ap₂ (λ xs ys. xs ++ stretch content k ++ ys) front none
+    ap₂ (λ xs ys. xs ++ stretch content k ++ ys) prefix none
     ∙ append-nil (take (4096 * k) content ++ stretch content k)
     ∙ sym (take_next content k)
   where
     long : length (take (4096 * k) content) ≡ 4096 * k
     long = omega (arith, length-take (4096 * k) content, low)
 
-    front : take (4096 * k) (made ++ replicate (4096 * k - length made) 0) ≡ take (4096 * k) content
-    front =
+    prefix : take (4096 * k) (made ++ replicate (4096 * k - length made) 0) ≡ take (4096 * k) content
+    prefix =
         ap (λ n. take (4096 * k) (made ++ replicate (n - length made) 0)) (sym long)
         ∙ ap (take (4096 * k)) m.padded
         ∙ take_all (4096 * k) (take (4096 * k) content) (omega (arith, long))

@@ -20,7 +20,7 @@ use Rattle.bp_plain.proofs.Numbers.{Case, case_of, get-each, get-plain, map_is, 
 use Rattle.bp_plain.proofs.Numbers.Case.{same, other}
 use Rattle.bp_plain.proofs.Rooted.{Moves, deep_none, not_empty_path, rooted_same}
 
--- no file has this number yet, or one behind it
+-- no file has this number yet, or one after it
 pub record AreBelow (files : NumberedFiles) (next : ℕ) : Type 0 where
   pub below : (path : Path) (id : ℕ) → number_at files path ≡ Some id → id < next
 

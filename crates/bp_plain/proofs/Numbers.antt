@@ -181,7 +181,7 @@ all_paths files p i e =
 pub pairs_of : (files : NumberedFiles) → IsKernel (number_at files) (map_of files).one
 pairs_of files = kernel_of (number_at files) (finite.keys files) (all_paths files)
 
--- a map is that of files where it has their nodes and is told by their numbers
+-- a map is that of files where it has their nodes and is stated by their numbers
 pub map_is : (files : NumberedFiles) (m : PathMap) → plain_nodes files ≡ m.nodes → IsKernel (number_at files) m.one → map_of files ≡ m
 map_is files m nodes kernel =
     let pairs : (map_of files).one ≡ m.one = kernel_once (number_at files) (map_of files).one m.one (pairs_of files) kernel in

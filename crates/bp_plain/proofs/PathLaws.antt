@@ -27,9 +27,9 @@ pub parent_seen : (x : ArrayVec ℕ) (path : List (ArrayVec ℕ)) → names_of (
 parent_seen x [] = refl
 parent_seen x (y ∷ path) = ap (λ names. x.items ∷ names) (parent_seen y path)
 
-pub parent_front : (path : List (ArrayVec ℕ)) (n : ℕ) → n ≡ length path - 1 → names_of (take n path) ≡ parent_of (names_of path)
-parent_front [] n e = rw e refl
-parent_front (x ∷ path) n e = let same : n ≡ length path = omega (arith, e) in rw same (parent_seen x path)
+pub parent_prefix : (path : List (ArrayVec ℕ)) (n : ℕ) → n ≡ length path - 1 → names_of (take n path) ≡ parent_of (names_of path)
+parent_prefix [] n e = rw e refl
+parent_prefix (x ∷ path) n e = let same : n ≡ length path = omega (arith, e) in rw same (parent_seen x path)
 
 -- ---- walks
 
@@ -49,7 +49,7 @@ not_none_of (Some x) e = refl
 abbrev pub walked : Nodes → List (ArrayVec ℕ) → ℕ → Option Refusal
 walked tree path depth = first_refusal_from tree (names_of (take depth path)) (names_of (drop depth path))
 
--- a name of a path, with those before it and behind it
+-- a name of a path, with those before it and after it
 pub name_at : (path : List (ArrayVec ℕ)) (depth : ℕ) → depth < length path →
     (name : ArrayVec ℕ) × (drop depth path ≡ name ∷ drop (depth + 1) path) × (take (depth + 1) path ≡ take depth path ++ name ∷ [])
 name_at [] depth low = absurd (omega (arith, low))

@@ -35,7 +35,7 @@ tie_same x y e = pair_cmp-IsAntisymmetric x y ((Equal-is (pair_cmp x y)).0 e)
 pub tie_self : (x : Path × Path) → eq_by_cmp pair_cmp x x ≡ true
 tie_self x = (eq_by_cmp_equiv pair_cmp-IsTotalOrder).refl x
 
--- what the order of paths tells
+-- what the order of paths reports
 pub same_path_from : (p q : Path) → eq_by_cmp path_cmp p q ≡ true → p ≡ q
 same_path_from p q e = path_cmp-IsAntisymmetric p q ((Equal-is (path_cmp p q)).0 e)
 

@@ -47,7 +47,7 @@ not_true false e = refl
 abbrev pub is_inner : ℕ → Bool
 is_inner b = not (b == 0) && not (b == 47)
 
--- a part that is followed by others, each behind a `/`
+-- a part that is followed by others, each after a `/`
 parts-inner : (b : ℕ) (bytes : List ℕ) (name : Name) (rest : Path) → is_inner b ≡ true → parts bytes ≡ name ∷ rest → parts (b ∷ bytes) ≡ (b ∷ name) ∷ rest
 parts-inner b bytes name rest inner is = rw (not_true (b == 47) (second_so (not (b == 0)) (not (b == 47)) inner), is) refl
 

@@ -51,9 +51,9 @@ below_further p q (e ∷ es) low below =
     both_hold _ _ (is_less _ (path_cmp-IsTotalOrder.trans p q e.0 low (less_than _ (left_holds _ _ below)))) (below_further p q es low (right_holds _ _ below))
 
 -- what is found in the one part or in the other
-pub find_front : (q : Path) (xs ys : List Entry) → T (below_all path_cmp q ys) → find path_cmp q (xs ++ ys) ≡ find path_cmp q xs
-find_front q [] ys below = find_below q ys below
-find_front q (x ∷ xs) ys below = go (eq_by_cmp path_cmp q x.0) (find_front q xs ys below)
+pub find_prefix : (q : Path) (xs ys : List Entry) → T (below_all path_cmp q ys) → find path_cmp q (xs ++ ys) ≡ find path_cmp q xs
+find_prefix q [] ys below = find_below q ys below
+find_prefix q (x ∷ xs) ys below = go (eq_by_cmp path_cmp q x.0) (find_prefix q xs ys below)
   where
     go : (b : Bool) → find path_cmp q (xs ++ ys) ≡ find path_cmp q xs → cond b (Some x.1) (find path_cmp q (xs ++ ys)) ≡ cond b (Some x.1) (find path_cmp q xs)
     go true rest = refl
@@ -67,7 +67,7 @@ find_back q (x ∷ xs) ys none = go (eq_by_cmp path_cmp q x.0) none (λ n. find_
     go true some rest = absurd (true≢false (ap is_some some))
     go false none rest = rest none
 
--- an entry in the middle: it is below all behind it, and none before it is at its path
+-- an entry in the middle: it is below all after it, and none before it is at its path
 pub below_back : (xs : List Entry) (e : Entry) (ys : List Entry) → T (is_sorted path_cmp (xs ++ e ∷ ys)) → T (below_all path_cmp e.0 ys)
 below_back [] e ys sorted = left_holds _ _ sorted
 below_back (x ∷ xs) e ys sorted = below_back xs e ys (right_holds _ _ sorted)
@@ -115,14 +115,14 @@ all_named map is path node at = go [] path refl
     way : HasWay map.nodes path
     way = map_has_way map is path node at
 
-    here : (front : Path) (name : Name) (rest : Path) → path ≡ front ++ name ∷ rest → is_name name ≡ true
-    here front name [] cut = name_passes name (is.names front name node (ap (get map.nodes) (sym cut) ∙ at))
-    here front name (other ∷ rest) cut =
-        name_passes name (is.names front name dir (way (front ++ name ∷ []) other rest (cut ∙ sym (append_assoc front (name ∷ []) (other ∷ rest)))))
+    here : (prefix : Path) (name : Name) (rest : Path) → path ≡ prefix ++ name ∷ rest → is_name name ≡ true
+    here prefix name [] cut = name_passes name (is.names prefix name node (ap (get map.nodes) (sym cut) ∙ at))
+    here prefix name (other ∷ rest) cut =
+        name_passes name (is.names prefix name dir (way (prefix ++ name ∷ []) other rest (cut ∙ sym (append_assoc prefix (name ∷ []) (other ∷ rest)))))
 
-    go : (front rest : Path) → path ≡ front ++ rest → list_all is_name rest ≡ true
-    go front [] cut = refl
-    go front (name ∷ rest) cut = both_true _ _ (here front name rest cut) (go (front ++ name ∷ []) rest (cut ∙ sym (append_assoc front (name ∷ []) rest)))
+    go : (prefix rest : Path) → path ≡ prefix ++ rest → list_all is_name rest ≡ true
+    go prefix [] cut = refl
+    go prefix (name ∷ rest) cut = both_true _ _ (here prefix name rest cut) (go (prefix ++ name ∷ []) rest (cut ∙ sym (append_assoc prefix (name ∷ []) rest)))
 
 pub walks : (nodes : Nodes) (path : Path) (node : Node) → HasWay nodes path → get nodes path ≡ Some node → walk nodes path ≡ None
 walks nodes path node way at = go [] path refl

@@ -21,7 +21,7 @@ use Rattle.bp_plain.proofs.Numbers.{Case, case_of, put_elsewhere, taken_elsewher
 use Rattle.bp_plain.proofs.Numbers.Case.{same, other}
 use Rattle.bp_plain.proofs.PathOrder.{same_path_from}
 
--- ---- what no refusal tells
+-- ---- what no refusal reports
 
 pub first_none : (found : Option Refusal) (rest : List (Option Refusal)) → first (found ∷ rest) ≡ None → (found ≡ None) × (first rest ≡ None)
 first_none None rest e = (refl, e)

@@ -26,7 +26,7 @@ cmp_below (n ∷ p) a b = rw (tied_itself nat_list_cmp_total n) (cmp_below p a b
 cmp_names : (n m : Name) (r s : Path) → slice_cmp nat_cmp n m ≡ Less → path_cmp (n ∷ r) (m ∷ s) ≡ Less
 cmp_names n m r s low = rw low refl
 
--- ---- lists in order, one behind the other
+-- ---- lists in order, one after the other
 
 below_both : (q : Path) (xs ys : List Entry) → T (below_all path_cmp q xs) → T (below_all path_cmp q ys) → T (below_all path_cmp q (xs ++ ys))
 below_both q [] ys one two = two

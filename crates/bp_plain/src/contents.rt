@@ -40,12 +40,12 @@ pub(crate) fn written(
 {
     let mut content = resized(alloc, old, offset)?;
     content.extend_from_slice(new)?;
-    content.extend_from_slice(behind(old, offset, new.len()))?;
+    content.extend_from_slice(following(old, offset, new.len()))?;
     Ok(content)
 }
 
 /// Returns the bytes of `content` after byte `offset + len`.
-fn behind(content: &[u8], offset: usize, len: usize) -> &[u8]
+fn following(content: &[u8], offset: usize, len: usize) -> &[u8]
     ensures { result.now ≡ drop (offset + len) content.now }
 {
     if offset >= content.len() {

@@ -13,7 +13,7 @@ use Rattle.bp_session.specs.Session.{SessionLine, Session}
 use Rattle.bp_session.proofs.ServingLaws.{session_append}
 use Rattle.bp_play.specs.Turns.{turn, turns}
 
--- the state of the generator behind so many turns
+-- the state of the generator after as many turns
 abbrev pub seed_after : ℕ → ℕ → ℕ
 seed_after seed zero = seed
 seed_after seed (suc count) = seed_after (turn seed).state count
@@ -26,8 +26,8 @@ turns-suc : (seed count : ℕ) → turns seed (suc count) ≡ turns seed count +
 turns-suc seed zero = refl
 turns-suc seed (suc count) = ap (λ (rest : List Command). (turn seed).command ∷ rest) (turns-suc (turn seed).state count)
 
-pub state_more : (seed count at behind : ℕ) → at ≡ seed_after seed count → behind ≡ (turn at).state → behind ≡ seed_after seed (count + 1)
-state_more seed count at behind here is = is ∙ ap (λ (s : ℕ). (turn s).state) here ∙ sym (seed_after-suc seed count) ∙ ap (seed_after seed) (sym (add-one count))
+pub state_more : (seed count at following : ℕ) → at ≡ seed_after seed count → following ≡ (turn at).state → following ≡ seed_after seed (count + 1)
+state_more seed count at following here is = is ∙ ap (λ (s : ℕ). (turn s).state) here ∙ sym (seed_after-suc seed count) ∙ ap (seed_after seed) (sym (add-one count))
 
 pub one_more : (old middle new : Memory) (seed count at : ℕ) (command : Command) (replies : List LineReply) (reply : LineReply) → at ≡ seed_after seed count → command ≡ (turn at).command
     → ((saved : Image) → Session (state old saved) (turns seed count) replies (state middle saved)) → ((saved : Image) → SessionLine (state middle saved) command reply (state new saved))

@@ -15,7 +15,7 @@ use Rattle.bp_play.specs.declared.summary.Summary.{Summary}
 pub record Plays (old new : Memory) (seed count : ℕ) (summary : Summary) : Type 0 where
   pub replies : List LineReply
   pub session : (saved : Image) → Session (state old saved) (turns seed count) replies (state new saved)
-  pub told : summary ≡ sums replies
+  pub reported : summary ≡ sums replies
 
 -- One command is served, and its reply is counted.
 pub record TakesTurn (old new : Memory) (command : Command) (before after : Summary) : Type 0 where

@@ -6,10 +6,10 @@ use Rattle.bp_script.specs.Commands.{Command}
 use Rattle.bp_script.specs.Commands.Command.{file_call, storm}
 use Rattle.bp_play.specs.Paths.{play_path}
 use Rattle.bp_play.specs.Turns.{Draw}
-use Rattle.bp_play.specs.declared.turning.PlayCall.{PlayCall}
-use Rattle.bp_play.specs.declared.turning.PlayCall.TheVariants as given
-use Rattle.bp_play.specs.declared.turning.Turn.{Turn}
-use Rattle.bp_play.specs.declared.turning.Turn.TheVariants as turn
+use Rattle.bp_play.specs.declared.operations.PlayCall.{PlayCall}
+use Rattle.bp_play.specs.declared.operations.PlayCall.TheVariants as given
+use Rattle.bp_play.specs.declared.operations.Turn.{Turn}
+use Rattle.bp_play.specs.declared.operations.Turn.TheVariants as turn
 
 -- The greatest number of bytes that an operation writes.
 abbrev pub most_bytes : ℕ

@@ -1,12 +1,12 @@
 //! Plays: scripts of any length, made from one number.
 #![tactic(auto)]
 
+mod operations;
 mod paths;
-mod playing;
+mod play;
 mod sort;
 mod summary;
-mod turning;
 
-pub use playing::{PlayBuffers, play_on};
+pub use play::{PlayBuffers, play_on};
 pub use sort::Sort;
 pub use summary::Summary;

@@ -17,7 +17,7 @@ use Rattle.bp_changes.specs.Commits.{CommitsOnly}
 use Rattle.bp_shapes.specs.Forest.{along, root_trail, tree_trail, IsForest, IsTreePointer}
 use Rattle.bp_shapes.specs.Trail.{Trail, trail_of}
 use Rattle.bp_shapes.proofs.ForestLaws.{skeleton, word-tree}
-use Rattle.bp_shapes.proofs.FreeSets.{content_fronts, content_no_pointer}
+use Rattle.bp_shapes.proofs.FreeSets.{content_prefixes, content_no_pointer}
 use Rattle.bp_tree.proofs.Digits.{length-digits}
 use Rattle.bp_tree.proofs.PathLaws.{small_digits}
 use Rattle.bp_cow.specs.CanCommit.{CanCommit, IsTreeIn}
@@ -31,7 +31,7 @@ use Rattle.bp_cow.specs.declared.touched.TreeSize.{TreeSize}
 use Rattle.bp_cow.proofs.CommitLaws.{committed_commits, size_after}
 use Rattle.bp_cow.proofs.CopiesNeed.{paths-by}
 use Rattle.bp_cow.proofs.CoverLaws.{some-ends}
-use Rattle.bp_cow.proofs.RunFronts.{trail_of-take}
+use Rattle.bp_cow.proofs.RunPrefixes.{trail_of-take}
 use Rattle.bp_cow.proofs.RunWrites.{digits_trail, root_path_trail}
 use Rattle.bp_cow.proofs.Values.{after-others, after-word}
 use Rattle.bp_calls.proofs.TreeTrails.{same_word}
@@ -123,10 +123,10 @@ module _ (image : Image) (bound : ℕ → ℕ) (forest : IsForest image bound) (
       trail_of (path_of (word_paths touched) i) (suc (length (path_of (word_paths touched) i) - 1)) ≡ tree_trail (height_of (word image 2)) (tree i) (suc (height_of (root_of image (tree i)))) (number i)
   at i here = ap (trail_of (path_of (word_paths touched) i)) (sym (whole i here)) ∙ words_trail i here
 
-  -- each proper front of a path is a pointer, and no path is one
-  pub words_fronts : (i d : ℕ) → i < length touched.words.now → d < length (path_of (word_paths touched) i) → IsTreePointer image bound (trail_of (path_of (word_paths touched) i) d)
-  words_fronts i d here deep =
-      content_fronts image bound forest (path_of (word_paths touched) i) (length (path_of (word_paths touched) i) - 1) (tree i) (number i) (are.reached i here) (are.below i here) (at i here) d (omega (arith, deep))
+  -- each proper prefix of a path is a pointer, and no path is one
+  pub words_prefixes : (i d : ℕ) → i < length touched.words.now → d < length (path_of (word_paths touched) i) → IsTreePointer image bound (trail_of (path_of (word_paths touched) i) d)
+  words_prefixes i d here deep =
+      content_prefixes image bound forest (path_of (word_paths touched) i) (length (path_of (word_paths touched) i) - 1) (tree i) (number i) (are.reached i here) (are.below i here) (at i here) d (omega (arith, deep))
 
   words_no_pointer : (i : ℕ) → i < length touched.words.now → IsTreePointer image bound (touched_trail touched i) → ⊥
   words_no_pointer i here pointer =
@@ -138,20 +138,20 @@ module _ (image : Image) (bound : ℕ → ℕ) (forest : IsForest image bound) (
   words_apart path other has also m low same =
       let size : length path ≡ m = ap (λ (p : WordPath). length p) (sym same) ∙ length-take m other ∙ omega (arith, low) in
       plain path has
-      (subst (IsTreePointer image bound) (sym (ap (trail_of path) size ∙ ap (λ p. trail_of p m) (sym same) ∙ trail_of-take other m m (omega arith))) (fronts other also m low))
+      (subst (IsTreePointer image bound) (sym (ap (trail_of path) size ∙ ap (λ p. trail_of p m) (sym same) ∙ trail_of-take other m m (omega arith))) (prefixes other also m low))
     where
       plain : (p : WordPath) → Has (all_paths touched) p → IsTreePointer image bound (trail_of p (length p)) → ⊥
       plain = paths-by touched words_shape (λ p. IsTreePointer image bound (trail_of p (length p)) → ⊥) (λ run k has _ _. absurd (none_has run has)) words_no_pointer
 
-      fronts : (p : WordPath) → Has (all_paths touched) p → (d : ℕ) → d < length p → IsTreePointer image bound (trail_of p d)
-      fronts = paths-by touched words_shape (λ p. (d : ℕ) → d < length p → IsTreePointer image bound (trail_of p d)) (λ run k has _ _. absurd (none_has run has)) (λ i here d deep. words_fronts i d here deep)
+      prefixes : (p : WordPath) → Has (all_paths touched) p → (d : ℕ) → d < length p → IsTreePointer image bound (trail_of p d)
+      prefixes = paths-by touched words_shape (λ p. (d : ℕ) → d < length p → IsTreePointer image bound (trail_of p d)) (λ run k has _ _. absurd (none_has run has)) (λ i here d deep. words_prefixes i d here deep)
 
   pub words_inside : IsWellFormed image → LeadsInside image touched
   words_inside wf d alike =
       let first : end_path touched 0 ≡ path_of (word_paths touched) 0 = ap (λ r. end_path_of r (word_paths touched) 0) are.none in
       let long : d + 1 ≤ length (end_path touched 0) = alike.long 0 (some-ends touched words_shape) in
       let deep : d < length (path_of (word_paths touched) 0) = subst (λ (p : WordPath). d < length p) first (omega (arith, long)) in
-      (skeleton image bound forest wf.formatted.sized.whole).in_range _ (subst (λ p. IsTreePointer image bound (trail_of p d)) (sym first) (words_fronts 0 d (omega (arith, are.some)) deep))
+      (skeleton image bound forest wf.formatted.sized.whole).in_range _ (subst (λ p. IsTreePointer image bound (trail_of p d)) (sym first) (words_prefixes 0 d (omega (arith, are.some)) deep))
 
   module _ {in_snapshot : ℕ → Bool} (sizes : (t : ℕ) → IsReached image t → size_of image t ≤ bound t) (free : ℕ → Bool) (exact : AreUnheld image (IsReached image) bound in_snapshot free) where
     pub words_can : CanCommit image bound in_snapshot touched free
@@ -160,7 +160,7 @@ module _ (image : Image) (bound : ℕ → ℕ) (forest : IsForest image bound) (
       forest = forest;
       sizes = sizes;
       exact = exact;
-      pointers = words_fronts;
+      pointers = words_prefixes;
       contents = words_no_pointer;
       runs = λ run has. absurd (none_has run has);
       trees = are.trees;
@@ -190,7 +190,7 @@ module _ (image : Image) (bound : ℕ → ℕ) (forest : IsForest image bound) (
         (λ run l has low high same. none_has run has)
         ∙ word-tree image t (suc (height_of (root_of image t))) k
 
-    -- Where no size grows past what counts, the commit is told on content words.
+    -- Where no size grows past what counts, the commit is reported on content words.
     module _ (new : Image) (turned : Trail → Type 0) (stage : IsCommitted image new (IsTreePointer image bound) (IsTreeWord image bound) turned (after_commit image (job_of touched))) where
       -- a size that is not touched stays
       pub size_kept : (t : ℕ) → IsReached image t → ((i : ℕ) → i < length touched.words.now → tree i ≡ 0 → number i ≡ 8 * t + 2 → ⊥) → size_of new t ≡ size_of image t
@@ -211,8 +211,8 @@ module _ (image : Image) (bound : ℕ → ℕ) (forest : IsForest image bound) (
           IsFull image (root_of image 0) (bound 0) → ((i : ℕ) → IsReached image i → kind_of image i ≡ 2 → IsFull image (root_of image i) (bound i)) →
           ((i : ℕ) → i < length touched.words.now → Changed (tree i) (number i)) →
           CommitsOnly image new (changes_of image (job_of touched)) Changed
-      words_only Changed low file directories told = record {
+      words_only Changed low file directories reported = record {
         commits = committed_commits image new bound forest turned (job_of touched) stage can.sizes low file directories;
         kept = λ t k reached below other.
-            words_kept t k reached (lt_of_lt_of_le below (can.sizes t reached)) (λ i here e f. other (subst₂ Changed (sym e) (sym f) (told i here)));
+            words_kept t k reached (lt_of_lt_of_le below (can.sizes t reached)) (λ i here e f. other (subst₂ Changed (sym e) (sym f) (reported i here)));
       }

@@ -21,16 +21,16 @@ use Rattle.bp_cow.specs.Touched.{IsTouched, NoneBegins, all_paths, path_of, word
 use Rattle.bp_cow.specs.declared.touched.Touched.{Touched}
 use Rattle.bp_rename.specs.CanRename.{CanRename, moved_inode}
 use Rattle.bp_rename.specs.TouchesTwo.{AnyTree, TouchesTwo, inumber_path}
-use Rattle.bp_rename.specs.declared.moving.Move.{Move}
+use Rattle.bp_rename.specs.declared.moves.Move.{Move}
 use Rattle.bp_calls.proofs.Refusals.{found_empty}
 use Rattle.bp_cow.proofs.CopiesNeed.{has-word}
 use Rattle.bp_rename.proofs.LooseCovers.{cover_loose, now_whole}
 use Rattle.bp_rename.proofs.RenameTargets.{into_among, into_touched}
-use Rattle.bp_rename.proofs.ContentWords.{AreContent, words_apart, words_fronts, words_inside, words_shape}
+use Rattle.bp_rename.proofs.ContentWords.{AreContent, words_apart, words_prefixes, words_inside, words_shape}
 use Rattle.bp_rename.proofs.TwoWords.{has_first, pick, two_are, two_few, two_paths}
 use Rattle.bp_rename.proofs.WholePaths.{cover-whole, pointed-directory}
 
--- ---- what is touched, told on the image before
+-- ---- what is touched, reported on the image before
 
 module _ (image : Image) (move : Move) (s : ℕ) (can : CanRename image move) (other : move.from_dir ≢ move.to_dir) (found : empty_slot image move.to_dir ≡ Some s)
     (touched : Touched) (is : TouchesTwo image AnyTree touched (inumber_path image move.to_dir s) (inumber_path image move.from_dir move.from_slot) (moved_inode image move) 0) where
@@ -124,11 +124,11 @@ module _ (image : Image) (move : Move) (s : ℕ) (can : CanRename image move) (o
   pub into_some : 0 < length touched.words.now
   into_some = omega (arith, are.some)
 
-  pub into_fronts : (d : ℕ) → d < length (path_of (word_paths touched) 0) → IsTreePointer image (size_of image) (trail_of (path_of (word_paths touched) 0) d)
-  into_fronts d low = words_fronts image (size_of image) (wf_forest image can.well_formed) touched (pick move.to_dir move.from_dir) (pick (32 * s + 0) (32 * move.from_slot + 0)) are 0 d into_some low
+  pub into_prefixes : (d : ℕ) → d < length (path_of (word_paths touched) 0) → IsTreePointer image (size_of image) (trail_of (path_of (word_paths touched) 0) d)
+  into_prefixes d low = words_prefixes image (size_of image) (wf_forest image can.well_formed) touched (pick move.to_dir move.from_dir) (pick (32 * s + 0) (32 * move.from_slot + 0)) are 0 d into_some low
 
   -- so it may be stored to where nothing is left to thaw
   pub into_loose : (in_snapshot : ℕ → Bool) → thawed image in_snapshot (moves move.from_dir move.from_slot move.to_dir) ≡ [] → HasLooseCover image in_snapshot touched
   into_loose in_snapshot clear =
-      cover_loose image can.well_formed touched into_shape (path_of (word_paths touched) 0) (has-word touched into_shape 0 into_some) into_fronts
+      cover_loose image can.well_formed touched into_shape (path_of (word_paths touched) 0) (has-word touched into_shape 0 into_some) into_prefixes
       in_snapshot (moves move.from_dir move.from_slot move.to_dir) into_now clear

@@ -41,7 +41,7 @@ use Rattle.bp_cow.specs.Cover.{commit_cover, copied_count}
 use Rattle.bp_cow.specs.Found.{AreWaysIn}
 use Rattle.bp_cow.specs.Job.{IsTurned}
 use Rattle.bp_cow.specs.Touched.{all_paths, job_of, path_of, word_paths}
-use Rattle.bp_cow.specs.declared.covering.FoundWays.{FoundWays}
+use Rattle.bp_cow.specs.declared.covers.FoundWays.{FoundWays}
 use Rattle.bp_cow.specs.declared.touched.Touched.{Touched}
 use Rattle.bp_cow.proofs.CommitTaking.{commit_performs_after, copied_few, cover_open, stores_few}
 use Rattle.bp_cow.proofs.CopiesNeed.{has-word}
@@ -53,9 +53,9 @@ use Rattle.bp_rename.specs.CanRename.{CanRename, moved_inode}
 use Rattle.bp_rename.specs.RenamesEntry.{RenamesEntry, new_slot}
 use Rattle.bp_rename.specs.RenamesEntry.RenamesEntry.{across}
 use Rattle.bp_rename.specs.TouchesTwo.{AnyTree, TouchesTwo, inumber_path}
-use Rattle.bp_rename.specs.declared.moving.Move.{Move}
+use Rattle.bp_rename.specs.declared.moves.Move.{Move}
 use Rattle.bp_rename.proofs.ContentWords.{AreContent, size_kept, words_can, words_only, words_value}
-use Rattle.bp_rename.proofs.IntoDone.{into_count, into_cover, into_fronts, into_loose, into_paths, into_shape, into_some, into_whole}
+use Rattle.bp_rename.proofs.IntoDone.{into_count, into_cover, into_prefixes, into_loose, into_paths, into_shape, into_some, into_whole}
 use Rattle.bp_rename.proofs.LooseCovers.{block_stays, still_loose}
 use Rattle.bp_rename.proofs.IntoLaws.{into_can, into_taking, into_trees, mid_empty, mid_formed, mid_name, mid_outside, mid_touches}
 use Rattle.bp_rename.proofs.TwoWords.{first_value, has_first, no_leaves, pick, second_value, two_are, two_count}
@@ -127,7 +127,7 @@ module _ {in_snapshot : ℕ → Bool} (old third mid : Memory) (move : Move) (s 
   -- the pointers on the way to the empty entry stay
   same_blocks : (d : ℕ) → d < length (path_of (word_paths touched) 0) → block_on (current_words mid) (trail_of (path_of (word_paths touched) 0) d) ≡ block_on (current_words old) (trail_of (path_of (word_paths touched) 0) d)
   same_blocks d low =
-      let one = into_fronts (current_words old) move s can other found touched is d low in
+      let one = into_prefixes (current_words old) move s can other found touched is d low in
       let root = trees.root one.tree one.reached (omega (arith, one.live.live)) in
       block_stays (current_words old) (current_words mid) (size_of (current_words old)) (trail_of (path_of (word_paths touched) 0) d) one
       (ap height_of (trees.root 0 inode_file (omega (arith, can.well_formed.some_inodes))))
@@ -168,12 +168,12 @@ module _ {in_snapshot : ℕ → Bool} (old third mid : Memory) (move : Move) (s 
         are (has blocks) formed into_ready (current_words new) (IsTurned (job_of touched) (length (commit_cover (current_words mid) touched))) done.words
         (λ t l. ((t ≡ move.from_dir) × (l ≡ 32 * move.from_slot + 0)) ⊎ ((t ≡ move.to_dir) × (l ≡ 32 * s + 0)))
         (λ t reached. omega (arith, size_stays t reached)) formed.full_inode_file formed.full_directories
-        (λ i here. told i)
+        (λ i here. reported i)
       where
-        told : (i : ℕ) → ((pick move.to_dir move.from_dir i ≡ move.from_dir) × (pick (32 * s + 0) (32 * move.from_slot + 0) i ≡ 32 * move.from_slot + 0)) ⊎
+        reported : (i : ℕ) → ((pick move.to_dir move.from_dir i ≡ move.from_dir) × (pick (32 * s + 0) (32 * move.from_slot + 0) i ≡ 32 * move.from_slot + 0)) ⊎
             ((pick move.to_dir move.from_dir i ≡ move.to_dir) × (pick (32 * s + 0) (32 * move.from_slot + 0) i ≡ 32 * s + 0))
-        told zero = inr (refl, refl)
-        told (suc i) = inl (refl, refl)
+        reported zero = inr (refl, refl)
+        reported (suc i) = inl (refl, refl)
 
     value : (i : ℕ) → i < length touched.words.now →
         after_commit (current_words mid) (job_of touched) (tree_trail (height_of (word (current_words mid) 2)) (pick move.to_dir move.from_dir i) (suc (height_of (root_of (current_words mid) (pick move.to_dir move.from_dir i)))) (pick (32 * s + 0) (32 * move.from_slot + 0) i)) ≡

@@ -1,4 +1,4 @@
--- The parts are exact behind a rename that leaves the counts of names as they were.
+-- The parts are exact after a rename that leaves the counts of names as they were.
 use Rattle.std.proofs.Common.{◌≡◌, ℕ, List, length, sym, ap, subst}
 use Rattle.bp_free.specs.declared.parts.Parts.{Parts}
 use Rattle.bp_layout.specs.Names.{AreCounts}

@@ -14,8 +14,8 @@ pub mod Outside
 pub mod IntoLaws
 pub mod IntoDone
 pub mod IntoMoved
-pub mod BehindTouched
-pub mod BehindMoved
+pub mod PastEndTouched
+pub mod PastEndMoved
 pub mod Renames
 pub mod RenameThawed
 pub mod RenamedStands

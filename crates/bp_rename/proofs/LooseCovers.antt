@@ -1,4 +1,4 @@
--- Where nothing is left to thaw, the block that holds the word of the cover is not in the snapshot. It is so behind a
+-- Where nothing is left to thaw, the block that holds the word of the cover is not in the snapshot. It is so after a
 -- preparation too, where the pointers on the way to that word stay.
 use Rattle.std.proofs.Common.{◌≡◌, ℕ, zero, suc, ◌+◌, ◌-◌, ◌*◌, ◌/◌, ◌<◌, ◌≤◌, [], length, take, Bool, true, false, ◌||◌, refl, sym, ◌∙◌, ap, subst, arith, inl, slice_index}
 use Rattle.bp_layout.specs.Inode.{kind_of, root_of, size_of}
@@ -15,7 +15,7 @@ use Rattle.bp_layout.proofs.ThawLaws.{loose-on}
 use Rattle.bp_shapes.specs.Forest.{IsTreePointer, tree_trail}
 use Rattle.bp_shapes.specs.Trail.{Trail, block_on, place_on, trail_of}
 use Rattle.bp_shapes.proofs.ForestLaws.{word-tree}
-use Rattle.bp_thaw.specs.Fronts.{IsWayIn}
+use Rattle.bp_thaw.specs.Prefixes.{IsWayIn}
 use Rattle.bp_tree.proofs.ExistingPaths.{AllThere, content_path-there}
 use Rattle.bp_cow.specs.Commit.{HasLooseCover, cover_word}
 use Rattle.bp_cow.specs.Cover.{commit_cover, end_path}

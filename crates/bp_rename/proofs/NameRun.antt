@@ -26,8 +26,8 @@ use Rattle.bp_cow.proofs.CallerLaws.{run_can}
 use Rattle.bp_cow.proofs.CommitLaws.{committed_commits, size_after}
 use Rattle.bp_cow.proofs.CopiesNeed.{paths-by}
 use Rattle.bp_cow.proofs.CoverLaws.{some-ends}
-use Rattle.bp_cow.proofs.RunPointers.{leaf-fronts}
-use Rattle.bp_cow.proofs.RunFronts.{front-run_way}
+use Rattle.bp_cow.proofs.RunPointers.{leaf-prefixes}
+use Rattle.bp_cow.proofs.RunPrefixes.{prefix-run_way}
 use Rattle.bp_cow.proofs.RunLaws.{byte-run_word, length-run_path, length-run_way}
 use Rattle.bp_cow.proofs.RunWrites.{digits_trail, root_path_trail}
 use Rattle.bp_cow.proofs.RunsLaws.{laid-one}
@@ -80,8 +80,8 @@ module _ (image : Image) (wf : IsWellFormed image) (n : ℕ) (reached : IsReache
   pub run_live : (d : ℕ) → d < length (run_path run (run.offset / 8)) → IsTreePointer image (size_of image) (trail_of (run_path run (run.offset / 8)) d)
   run_live d low =
       let short : d ≤ length (run_way run 0) = omega (arith, low, length-run_path run (run.offset / 8), length-run_way run 0) in
-      subst (IsTreePointer image (size_of image)) (front-run_way run 0 (run.offset / 8) d (omega arith) short)
-      (leaf-fronts image (size_of image) (wf_forest image wf) run (run_is image wf n reached run of) (run_in image wf n reached run of) 0 d (omega arith) short)
+      subst (IsTreePointer image (size_of image)) (prefix-run_way run 0 (run.offset / 8) d (omega arith) short)
+      (leaf-prefixes image (size_of image) (wf_forest image wf) run (run_is image wf n reached run of) (run_in image wf n reached run of) 0 d (omega arith) short)
 
   pub run_inside : LeadsInside image touched
   run_inside d alike =
@@ -137,9 +137,9 @@ module _ (image : Image) (wf : IsWellFormed image) (n : ℕ) (reached : IsReache
         committed_commits image new (size_of image) can.forest turned (job_of touched) stage (λ t r. omega arith) (λ t r. let same = run_sizes t r in omega (arith, same)) wf.full_inode_file wf.full_directories
 
     pub run_only : (Changed : ℕ → ℕ → Type 0) → ((k : ℕ) → run.offset / 8 ≤ k → k ≤ (run_end run - 1) / 8 → Changed (suc n) k) → CommitsOnly image new (changes_of image (job_of touched)) Changed
-    run_only Changed told = record {
+    run_only Changed reported = record {
       commits = commits;
-      kept = λ t k also low other. stays t k also low (λ here. other (subst (λ u. Changed u k) (sym here.0) (told k here.1 here.2)));
+      kept = λ t k also low other. stays t k also low (λ here. other (subst (λ u. Changed u k) (sym here.0) (reported k here.1 here.2)));
     }
 
     -- a word of the run

@@ -24,7 +24,7 @@ use Rattle.bp_changes.proofs.MoveReach.{moved_on}
 use Rattle.bp_changes.proofs.Named.{replaced_counts}
 use Rattle.bp_shapes.proofs.MovedSets.{replaced_blocks, replaced_inode, same_reach_exact}
 use Rattle.bp_shapes.specs.Forest.{tree_trail}
-use Rattle.bp_shapes.specs.Freed.{IsGivenUp}
+use Rattle.bp_shapes.specs.Freed.{IsTruncated}
 use Rattle.bp_shapes.specs.Sets.{AreExact}
 use Rattle.bp_shapes.proofs.FreeSets.{wf_forest}
 use Rattle.bp_commit.specs.Performs.{PerformsThawed, room_for}
@@ -39,11 +39,11 @@ use Rattle.bp_cow.proofs.CommitTaking.{commit_performs, copied_few, cover_open, 
 use Rattle.bp_cow.proofs.CopiesNeed.{has-word}
 use Rattle.pm_region.specs.Memory.{Memory, current_words, room_in}
 use Rattle.bp_calls.specs.GivenBack.{GivesBack}
-use Rattle.bp_calls.proofs.GivenUpLaws.{gives_as}
+use Rattle.bp_calls.proofs.TruncatedLaws.{gives_as}
 use Rattle.bp_calls.proofs.Shorter.{CanGiveBack}
 use Rattle.bp_rename.specs.CanRename.{CanRename, moved_inode}
 use Rattle.bp_rename.specs.TouchesTwo.{AnyTree, TouchesTwo, inumber_path}
-use Rattle.bp_rename.specs.declared.moving.Move.{Move}
+use Rattle.bp_rename.specs.declared.moves.Move.{Move}
 use Rattle.bp_rename.proofs.ContentWords.{size_kept, words_only, words_value}
 use Rattle.bp_rename.proofs.OntoLaws.{are, onto_can, onto_commit, onto_cover, onto_need, replaced_reached, replaced_some}
 use Rattle.bp_rename.proofs.TwoWords.{first_value, no_leaves, pick, second_value, two_count}
@@ -78,7 +78,7 @@ pub record IsReplaced (in_snapshot : ℕ → Bool) (old new : Memory) (move : Mo
   pub taken : has inodes t ≡ false
   -- the sets are exact where it has another name, and else once it has come back with its blocks
   pub other : HasOtherName (current_words old) move.to_dir r t → AreExact (current_words new) in_snapshot left inodes
-  pub last : (final : Set) → GivesBack in_snapshot (IsGivenUp (current_words new) (root_of (current_words new) t) (size_of (current_words new) t) 0) left final →
+  pub last : (final : Set) → GivesBack in_snapshot (IsTruncated (current_words new) (root_of (current_words new) t) (size_of (current_words new) t) 0) left final →
       IsLastName (current_words old) move.to_dir r t → AreExact (current_words new) in_snapshot final (with inodes t)
   -- it has a name less
   pub counts : (before : List ℕ) → AreCounts (current_words old) before → t < length before → (rest : ℕ) →
@@ -116,12 +116,12 @@ module _ {in_snapshot : ℕ → Bool} (old new : Memory) (move : Move) (r : ℕ)
       (are (current_words old) move r can onto touched is) (has blocks) can.well_formed commits (current_words new) (IsTurned (job_of touched) (length (commit_cover (current_words old) touched))) done.words
       (λ t l. ((t ≡ move.from_dir) × (l ≡ 32 * move.from_slot + 0)) ⊎ ((t ≡ move.to_dir) × (l ≡ 32 * r + 0)))
       (λ t reached. omega (arith, size_stays t reached)) can.well_formed.full_inode_file can.well_formed.full_directories
-      (λ i here. told i)
+      (λ i here. reported i)
     where
-      told : (i : ℕ) → ((pick move.from_dir move.to_dir i ≡ move.from_dir) × (pick (32 * move.from_slot + 0) (32 * r + 0) i ≡ 32 * move.from_slot + 0)) ⊎
+      reported : (i : ℕ) → ((pick move.from_dir move.to_dir i ≡ move.from_dir) × (pick (32 * move.from_slot + 0) (32 * r + 0) i ≡ 32 * move.from_slot + 0)) ⊎
           ((pick move.from_dir move.to_dir i ≡ move.to_dir) × (pick (32 * move.from_slot + 0) (32 * r + 0) i ≡ 32 * r + 0))
-      told zero = inl (refl, refl)
-      told (suc i) = inr (refl, refl)
+      reported zero = inl (refl, refl)
+      reported (suc i) = inr (refl, refl)
 
   value : (i : ℕ) → i < length touched.words.now →
       after_commit (current_words old) (job_of touched) (tree_trail (height_of (word (current_words old) 2)) (pick move.from_dir move.to_dir i) (suc (height_of (root_of (current_words old) (pick move.from_dir move.to_dir i)))) (pick (32 * move.from_slot + 0) (32 * r + 0) i)) ≡
@@ -231,9 +231,9 @@ module _ {in_snapshot : ℕ → Bool} (old new : Memory) (move : Move) (r : ℕ)
         (reached_back (current_words old) (current_words new) can.well_formed move.from_dir move.from_slot move.to_dir r (moved_inode (current_words old) move) moved_can onto_moves) still_reached
         blocks left inodes exact as_long done.exact
 
-  module _ (final : Set) (gives : GivesBack in_snapshot (IsGivenUp (current_words new) (root_of (current_words new) (inumber_at (current_words old) move.to_dir r)) (size_of (current_words new) (inumber_at (current_words old) move.to_dir r)) 0) left final) where
-    told : GivesBack in_snapshot (HasBlock (current_words new) (root_of (current_words new) (inumber_at (current_words old) move.to_dir r)) (size_of (current_words new) (inumber_at (current_words old) move.to_dir r))) left final
-    told = gives_as (IsGivenUp (current_words new) (root_of (current_words new) (inumber_at (current_words old) move.to_dir r)) (size_of (current_words new) (inumber_at (current_words old) move.to_dir r)) 0)
+  module _ (final : Set) (gives : GivesBack in_snapshot (IsTruncated (current_words new) (root_of (current_words new) (inumber_at (current_words old) move.to_dir r)) (size_of (current_words new) (inumber_at (current_words old) move.to_dir r)) 0) left final) where
+    reported : GivesBack in_snapshot (HasBlock (current_words new) (root_of (current_words new) (inumber_at (current_words old) move.to_dir r)) (size_of (current_words new) (inumber_at (current_words old) move.to_dir r))) left final
+    reported = gives_as (IsTruncated (current_words new) (root_of (current_words new) (inumber_at (current_words old) move.to_dir r)) (size_of (current_words new) (inumber_at (current_words old) move.to_dir r)) 0)
         (HasBlock (current_words new) (root_of (current_words new) (inumber_at (current_words old) move.to_dir r)) (size_of (current_words new) (inumber_at (current_words old) move.to_dir r))) left final
         (λ b gone. gone.has) (λ b held. record { has = held; past = omega arith }) gives
 
@@ -244,7 +244,7 @@ module _ {in_snapshot : ℕ → Bool} (old new : Memory) (move : Move) (r : ℕ)
       inode_room = rw onto_moves.trees.whole (length-set inodes (inumber_at (current_words old) move.to_dir r) true ∙ exact.inode_room);
       free_blocks =
           replaced_blocks (current_words old) (current_words new) can.well_formed move.from_dir move.from_slot move.to_dir r (moved_inode (current_words old) move) moved_can onto_moves can.outside some
-          last in_snapshot (has left) (has final) done.exact told.only told.still told.given;
+          last in_snapshot (has left) (has final) done.exact reported.only reported.still reported.given;
       free_inodes =
           replaced_inode (current_words old) (current_words new) can.well_formed move.from_dir move.from_slot move.to_dir r (moved_inode (current_words old) move) moved_can onto_moves can.outside some
           last (has inodes) (has (with inodes (inumber_at (current_words old) move.to_dir r))) exact.free_inodes

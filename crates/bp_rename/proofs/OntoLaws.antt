@@ -24,8 +24,8 @@ use Rattle.bp_cow.specs.declared.touched.Touched.{Touched}
 use Rattle.bp_calls.proofs.ReadingLaws.{few_inode}
 use Rattle.bp_rename.specs.CanRename.{CanRename, moved_inode}
 use Rattle.bp_rename.specs.TouchesTwo.{AnyTree, TouchesTwo, inumber_path}
-use Rattle.bp_rename.specs.declared.moving.Move.{Move}
-use Rattle.bp_rename.proofs.ContentWords.{AreContent, words_apart, words_can, words_fronts, words_inside, words_shape}
+use Rattle.bp_rename.specs.declared.moves.Move.{Move}
+use Rattle.bp_rename.proofs.ContentWords.{AreContent, words_apart, words_can, words_prefixes, words_inside, words_shape}
 use Rattle.bp_cow.proofs.CopiesNeed.{has-word}
 use Rattle.bp_rename.proofs.LooseCovers.{cover_loose, now_whole}
 use Rattle.bp_rename.proofs.FoundNames.{found_entry, found_name}
@@ -141,5 +141,5 @@ module _ (image : Image) (move : Move) (r : ℕ) (can : CanRename image move) (o
     onto_loose in_snapshot clear =
         let some : 0 < length touched.words.now = omega (arith, are.some) in
         cover_loose image can.well_formed touched onto_shape (path_of (word_paths touched) 0) (has-word touched onto_shape 0 some)
-        (λ d low. words_fronts image (size_of image) (wf_forest image can.well_formed) touched (pick move.from_dir move.to_dir) (pick (32 * move.from_slot + 0) (32 * r + 0)) are 0 d some low)
+        (λ d low. words_prefixes image (size_of image) (wf_forest image can.well_formed) touched (pick move.from_dir move.to_dir) (pick (32 * move.from_slot + 0) (32 * r + 0)) are 0 d some low)
         in_snapshot (replaces move.from_dir move.from_slot move.to_dir r) onto_now clear

@@ -8,7 +8,7 @@ use Rattle.bp_layout.specs.Words.{Image}
 use Rattle.bp_shapes.specs.Sets.{IsExact}
 use Rattle.bp_calls.proofs.CountLaws.{last_name, other_name, reached_counted, some_name}
 use Rattle.bp_rename.specs.CanRename.{CanRename}
-use Rattle.bp_rename.specs.declared.moving.Move.{Move}
+use Rattle.bp_rename.specs.declared.moves.Move.{Move}
 use Rattle.bp_rename.proofs.OntoLaws.{replaced, replaced_reached}
 
 module _ {R : Type 0} (image : Image) (move : Move) (r : ℕ) (can : CanRename image move) (onto : move.to_slot ≡ Some r) (parts : Parts R) (exact : IsExact image parts) where

@@ -1,10 +1,10 @@
--- What is touched for a rename is planned for it, also behind a thaw.
+-- What is touched for a rename is planned for it, also after a thaw.
 use Rattle.std.proofs.Common.{◌≡◌, ◌≢◌, ℕ, suc, ◌+◌, ◌*◌, List, [], ◌∷◌, None, Option, Some, refl, sym, ◌∙◌, ap, ap₂, arith}
 use Rattle.bp_changes.specs.Thawed.{SameShape}
 use Rattle.bp_changes.proofs.ReachedOn.{reached_on}
 use Rattle.bp_changes.proofs.ShapeLaws.{empty-same}
 use Rattle.bp_append.specs.Prepared.{need_for}
-use Rattle.bp_calls.proofs.PutsLaws.{few_behind}
+use Rattle.bp_calls.proofs.PutsLaws.{few_past_end}
 use Rattle.bp_cow.specs.declared.touched.Touched.{Touched}
 use Rattle.bp_layout.specs.Directory.{empty_slot}
 use Rattle.bp_layout.specs.Inode.{size_of}
@@ -17,10 +17,10 @@ use Rattle.bp_layout.specs.Words.{Image}
 use Rattle.bp_shapes.specs.Forest.{root_trail}
 use Rattle.bp_cow.specs.declared.touched.TreeSize.{TreeSize}
 use Rattle.bp_rename.specs.CanRename.{CanRename, moved_inode}
-use Rattle.bp_rename.specs.Planned.{IsPlanned, Needs, TouchesBehind, TouchesInto, TouchesOnto, TouchesWithin}
+use Rattle.bp_rename.specs.Planned.{IsPlanned, Needs, TouchesPastEnd, TouchesInto, TouchesOnto, TouchesWithin}
 use Rattle.bp_rename.specs.TouchesTwo.{IsSizedTree, ListsTrees, TouchesTwo, inumber_path}
-use Rattle.bp_rename.specs.declared.moving.Move.{Move}
-use Rattle.bp_rename.proofs.BehindTouched.{touched_apart, touched_few, touched_inside, touched_needs, touched_now, touched_shape}
+use Rattle.bp_rename.specs.declared.moves.Move.{Move}
+use Rattle.bp_rename.proofs.PastEndTouched.{touched_apart, touched_few, touched_inside, touched_needs, touched_now, touched_shape}
 use Rattle.bp_rename.proofs.IntoDone.{into_apart, into_few, into_inside, into_need, into_now, into_shape}
 use Rattle.bp_rename.proofs.OntoLaws.{onto_apart, onto_few, onto_inside, onto_need, onto_now, onto_shape}
 use Rattle.bp_rename.proofs.Renames.{across_change, onto_change, within_change}
@@ -146,28 +146,28 @@ module _ (image : Image) (move : Move) (can : CanRename image move) where
           let few = into_few image move slot can other empty touched is in
           record { all = omega (arith, count); few = omega (arith, few) }
 
-    -- ---- behind the last entry
+    -- ---- after the last entry
 
-    module _ (none : empty_slot image move.to_dir ≡ None) (touched : Touched) (is : TouchesBehind image move touched) where
-      pub behind_none : (after : Image) → SameShape image after → empty_slot after move.to_dir ≡ None
-      behind_none after shape = slot_over after shape None none
+    module _ (none : empty_slot image move.to_dir ≡ None) (touched : Touched) (is : TouchesPastEnd image move touched) where
+      pub past_end_none : (after : Image) → SameShape image after → empty_slot after move.to_dir ≡ None
+      past_end_none after shape = slot_over after shape None none
 
-      pub behind_over : (after : Image) → SameShape image after → TouchesBehind after move touched
-      behind_over after shape =
+      pub past_end_over : (after : Image) → SameShape image after → TouchesPastEnd after move touched
+      past_end_over after shape =
           two_over image after shape _ touched _ _ _ _ _ _ _ _ (ap (λ h. inode_path h move.to_dir 2) (sym (shape.heights 0 inode_file))) (path_over image after shape move.from_dir move.from_slot can.source)
           (ap (λ n. n + 256) (sym (shape.sizes move.to_dir can.target))) refl is
 
-      pub behind_planned : IsPlanned image move touched
-      behind_planned = record {
+      pub past_end_planned : IsPlanned image move touched
+      past_end_planned = record {
         shape = touched_shape image move can other none touched is;
         apart = touched_apart image move can other none touched is;
-        inside = λ after shape. touched_inside after move (rename_on image after move can shape) other (behind_none after shape) touched (behind_over after shape);
+        inside = λ after shape. touched_inside after move (rename_on image after move can shape) other (past_end_none after shape) touched (past_end_over after shape);
         cover = touched_now image move can other none touched is ∙ ap (cover_now image) (sym (across_change move new other));
       }
 
-      pub behind_needs : (besides : ℕ) → besides ≡ need_for image move.to_dir (size_of image move.to_dir) (size_of image move.to_dir + 256) → Needs image move touched besides
-      behind_needs besides made =
+      pub past_end_needs : (besides : ℕ) → besides ≡ need_for image move.to_dir (size_of image move.to_dir) (size_of image move.to_dir + 256) → Needs image move touched besides
+      past_end_needs besides made =
           let count = ap (need image) (across_change move new other) ∙ touched_needs image move can other none touched is in
           let few = touched_few image move can other none touched is in
-          let low = few_behind image can.well_formed move.to_dir can.target in
+          let low = few_past_end image can.well_formed move.to_dir can.target in
           record { all = omega (arith, count, made); few = omega (arith, few, low, made) }

@@ -12,7 +12,7 @@ use Rattle.bp_layout.specs.WordPaths.{WordPath, inode_path, tree_path}
 use Rattle.std.proofs.lemmas.List.{append-nil}
 use Rattle.bp_layout.specs.Words.{Image, height_of}
 use Rattle.bp_layout.proofs.ThawLaws.{loose-on}
-use Rattle.bp_thaw.specs.Fronts.{IsWayIn}
+use Rattle.bp_thaw.specs.Prefixes.{IsWayIn}
 use Rattle.bp_tree.proofs.LooseWays.{loose_word}
 use Rattle.bp_append.specs.Prepared.{HasLooseEnd}
 use Rattle.bp_append.proofs.EndWays.{loose_end}
@@ -21,7 +21,7 @@ use Rattle.bp_calls.proofs.TargetPaths.{content_way, end_way, root_way}
 use Rattle.bp_calls.proofs.Trees.{live_leaf}
 use Rattle.bp_rename.specs.CanRename.{CanRename, change_of}
 use Rattle.bp_rename.specs.TouchesTwo.{inumber_path, size_path}
-use Rattle.bp_rename.specs.declared.moving.Move.{Move}
+use Rattle.bp_rename.specs.declared.moves.Move.{Move}
 use Rattle.bp_rename.proofs.LooseCovers.{now_way}
 use Rattle.bp_rename.proofs.Renames.{across_change, onto_change, within_change}
 
@@ -83,24 +83,24 @@ module _ (image : Image) (move : Move) (can : CanRename image move) where
         (live_leaf (root_of image move.to_dir) (size_of image move.to_dir) ((32 * s + 0) / 512) (omega (arith, low_target))) stands.present
         (loose-on image in_snapshot (targets image (moves move.from_dir move.from_slot move.to_dir)) clear (inumber_path image move.to_dir s) among (length (inumber_path image move.to_dir s) - 1))
 
-  -- ---- behind the last entry
+  -- ---- after the last entry
 
   module _ (none : empty_slot image move.to_dir ≡ None) where
-    pub behind_touched : touched_at (heights_now image) image (moves move.from_dir move.from_slot move.to_dir) ≡ size_path image move.to_dir ∷ inumber_path image move.from_dir move.from_slot ∷ []
-    behind_touched = ap (λ o. entered_at (heights_now image) move.to_dir o ∷ entry_path_at (heights_now image) move.from_dir move.from_slot 0 ∷ []) none
+    pub past_end_touched : touched_at (heights_now image) image (moves move.from_dir move.from_slot move.to_dir) ≡ size_path image move.to_dir ∷ inumber_path image move.from_dir move.from_slot ∷ []
+    past_end_touched = ap (λ o. entered_at (heights_now image) move.to_dir o ∷ entry_path_at (heights_now image) move.from_dir move.from_slot 0 ∷ []) none
 
-    pub behind_among : Has (touched_at (heights_now image) image (moves move.from_dir move.from_slot move.to_dir)) (inumber_path image move.from_dir move.from_slot)
-    behind_among = subst (λ (ps : List WordPath). Has ps (inumber_path image move.from_dir move.from_slot)) (sym behind_touched) (inr (inl refl))
+    pub past_end_among : Has (touched_at (heights_now image) image (moves move.from_dir move.from_slot move.to_dir)) (inumber_path image move.from_dir move.from_slot)
+    past_end_among = subst (λ (ps : List WordPath). Has ps (inumber_path image move.from_dir move.from_slot)) (sym past_end_touched) (inr (inl refl))
 
-    pub behind_targets : targets image (moves move.from_dir move.from_slot move.to_dir) ≡
+    pub past_end_targets : targets image (moves move.from_dir move.from_slot move.to_dir) ≡
         cover_now image (moves move.from_dir move.from_slot move.to_dir) ∷ root_path_now image move.to_dir ∷ end_path_now image move.to_dir ∷ []
-    behind_targets = ap (λ (o : Option ℕ). cover_now image (moves move.from_dir move.from_slot move.to_dir) ∷ flat_map (end_targets image) (new_entry image move.to_dir o ++ []) ++ slot_target image move.to_dir o) none
+    past_end_targets = ap (λ (o : Option ℕ). cover_now image (moves move.from_dir move.from_slot move.to_dir) ∷ flat_map (end_targets image) (new_entry image move.to_dir o ++ []) ++ slot_target image move.to_dir o) none
 
-    pub behind_ways : (path : WordPath) → Has (targets image (moves move.from_dir move.from_slot move.to_dir)) path → IsWayIn image path
-    behind_ways path has = go (subst (λ (ps : List WordPath). Has ps path) behind_targets has)
+    pub past_end_ways : (path : WordPath) → Has (targets image (moves move.from_dir move.from_slot move.to_dir)) path → IsWayIn image path
+    past_end_ways path has = go (subst (λ (ps : List WordPath). Has ps path) past_end_targets has)
       where
         go : Has (cover_now image (moves move.from_dir move.from_slot move.to_dir) ∷ root_path_now image move.to_dir ∷ end_path_now image move.to_dir ∷ []) path → IsWayIn image path
-        go (inl e) = subst (IsWayIn image) e (now_way image can.well_formed (moves move.from_dir move.from_slot move.to_dir) move.from_dir (32 * move.from_slot + 0) can.source can.entry.directory low_source behind_among)
+        go (inl e) = subst (IsWayIn image) e (now_way image can.well_formed (moves move.from_dir move.from_slot move.to_dir) move.from_dir (32 * move.from_slot + 0) can.source can.entry.directory low_source past_end_among)
         go (inr (inl e)) = subst (IsWayIn image) e (root_way image can.well_formed move.to_dir can.target)
         go (inr (inr (inl e))) = subst (IsWayIn image) e (end_way image can.well_formed move.to_dir can.target)
         go (inr (inr (inr never))) = absurd never
@@ -109,7 +109,7 @@ module _ (image : Image) (move : Move) (can : CanRename image move) where
     pub end_loose : (in_snapshot : ℕ → Bool) → thawed image in_snapshot (moves move.from_dir move.from_slot move.to_dir) ≡ [] → HasLooseEnd image in_snapshot move.to_dir
     end_loose in_snapshot clear =
         let among : Has (targets image (moves move.from_dir move.from_slot move.to_dir)) (end_path_now image move.to_dir) =
-        subst (λ (ps : List WordPath). Has ps (end_path_now image move.to_dir)) (sym behind_targets) (inr (inr (inl refl))) in
+        subst (λ (ps : List WordPath). Has ps (end_path_now image move.to_dir)) (sym past_end_targets) (inr (inr (inl refl))) in
         loose_end image can.well_formed in_snapshot move.to_dir can.target
         (loose-on image in_snapshot (targets image (moves move.from_dir move.from_slot move.to_dir)) clear (end_path_now image move.to_dir) among (length (root_path_now image move.to_dir) - 1))
 
@@ -117,7 +117,7 @@ module _ (image : Image) (move : Move) (can : CanRename image move) where
 
   across_ways : (empty : Option ℕ) → empty_slot image move.to_dir ≡ empty → (path : WordPath) → Has (targets image (moves move.from_dir move.from_slot move.to_dir)) path → IsWayIn image path
   across_ways (Some s) found = into_ways s found
-  across_ways None none = behind_ways none
+  across_ways None none = past_end_ways none
 
   abbrev AreWays : Change → Type 0
   AreWays change = (path : WordPath) → Has (targets image change) path → IsWayIn image path

@@ -1,4 +1,4 @@
--- What may be renamed may be renamed behind a thaw, and what is made of it then is made of the plain tree before it.
+-- What may be renamed may be renamed after a thaw, and what is made of it then is made of the plain tree before it.
 use Rattle.std.proofs.Common.{◌≡◌, ℕ, ◌∷◌, ◌++◌, [], None, Some, sym, ◌∙◌, subst}
 use Rattle.bp_changes.specs.Effects.{IsAtOrBelow}
 use Rattle.bp_changes.specs.Thawed.{AfterThaw, SameShape}
@@ -14,7 +14,7 @@ use Rattle.bp_calls.proofs.ThawedShows.{found_thawed, shows_thawed}
 use Rattle.bp_rename.specs.CanRename.{CanRename, moved_inode}
 use Rattle.bp_rename.specs.MovesPath.{MovesPath}
 use Rattle.bp_rename.specs.RenamesEntry.{RenamesEntry}
-use Rattle.bp_rename.specs.declared.moving.Move.{Move}
+use Rattle.bp_rename.specs.declared.moves.Move.{Move}
 use Rattle.bp_rename.proofs.OntoLaws.{replaced, replaced_reached}
 use Rattle.bp_rename.proofs.Outside.{below_before}
 use Rattle.bp_rename.proofs.RenamedStands.{renamed_moves}

@@ -20,7 +20,7 @@ use Rattle.bp_rename.specs.CanRename.{CanRename, moved_inode}
 use Rattle.bp_rename.specs.MovesPath.{IsFoundTarget, MovesPath}
 use Rattle.bp_rename.specs.RenamesEntry.{RenamesEntry}
 use Rattle.bp_rename.specs.RenamesEntry.RenamesEntry.{onto, within, across}
-use Rattle.bp_rename.specs.declared.moving.Move.{Move}
+use Rattle.bp_rename.specs.declared.moves.Move.{Move}
 use Rattle.bp_rename.proofs.FoundNames.{found_entry, found_name}
 use Rattle.bp_rename.proofs.OntoLaws.{onto_can, spelled}
 

@@ -13,7 +13,7 @@ use Rattle.pm_region.specs.Memory.{Memory, current_words}
 use Rattle.bp_rename.specs.CanRename.{CanRename, change_of, change_to, moved_inode}
 use Rattle.bp_rename.specs.RenamesEntry.{RenamesEntry}
 use Rattle.bp_rename.specs.RenamesEntry.RenamesEntry.{onto}
-use Rattle.bp_rename.specs.declared.moving.Move.{Move}
+use Rattle.bp_rename.specs.declared.moves.Move.{Move}
 
 module _ (move : Move) where
   pub onto_change : (r : ℕ) → move.to_slot ≡ Some r → change_of move ≡ replaces move.from_dir move.from_slot move.to_dir r

@@ -10,8 +10,8 @@ use Rattle.bp_limits.specs.CallLimits.{max_name}
 use Rattle.bp_cow.specs.declared.touched.Run.{Run}
 use Rattle.bp_rename.specs.Respelled.{IsNameRun, IsRespelled, respelled_length}
 
-small_front : (n : ℕ) (xs : List ℕ) → ((i : ℕ) → slice_index xs i < 256) → (at : ℕ) → slice_index (take n xs) at < 256
-small_front n xs small at = go (cases_lt at n)
+small_prefix : (n : ℕ) (xs : List ℕ) → ((i : ℕ) → slice_index xs i < 256) → (at : ℕ) → slice_index (take n xs) at < 256
+small_prefix n xs small at = go (cases_lt at n)
   where
     go : (at < n) ⊎ (n ≤ at) → slice_index (take n xs) at < 256
     go (inl low) = rw (get_or-take n xs at 0 low) (small at)
@@ -28,5 +28,5 @@ is_name_run image i slot name bytes root height size from part whole short are s
   from = from;
   count = ap (λ (xs : List ℕ). length xs) part ∙ length-take (respelled_length name) bytes ∙ omega (arith, whole, short);
   bytes_are = λ at low. ap (λ (xs : List ℕ). slice_index xs at) part ∙ get_or-take (respelled_length name) bytes at 0 low ∙ are at (omega (arith, low, short));
-  small = λ at. rw part (small_front (respelled_length name) bytes small at);
+  small = λ at. rw part (small_prefix (respelled_length name) bytes small at);
 }

@@ -14,7 +14,7 @@ use Rattle.bp_tree.proofs.ExistingPaths.{AllThere, content_path-there, existing-
 use Rattle.bp_cow.proofs.CommonPaths.{Begins, all-begin}
 use Rattle.bp_cow.proofs.RunThere.{word_agrees}
 
--- ---- each front of a path
+-- ---- each prefix of a path
 
 pub all-each : (there : WordPath → Bool) (here path : WordPath) → AllThere there here path → (d : ℕ) → d < length path → there (here ++ take d path) ≡ true
 all-each there here [] all d low = absurd (omega (arith, low))
@@ -29,16 +29,16 @@ each-all there here (slot ∷ path) each = (
   each-all there (here ++ slot ∷ []) path (λ d low. ap there (append_assoc here (slot ∷ []) (take d path)) ∙ each (suc d) (omega (arith, low))),
 )
 
-take-begins : (front path : WordPath) (d : ℕ) → Begins front path → d ≤ length front → take d front ≡ take d path
+take-begins : (prefix path : WordPath) (d : ℕ) → Begins prefix path → d ≤ length prefix → take d prefix ≡ take d path
 take-begins [] path zero is low = refl
 take-begins [] path (suc d) is low = absurd (omega (arith, low))
-take-begins (x ∷ front) path zero is low = refl
-take-begins (x ∷ front) [] (suc d) is low = absurd (omega (arith, is.long))
-take-begins (x ∷ front) (y ∷ path) (suc d) is low =
-    let whole : y ∷ take (length front) path ≡ x ∷ front = is.same in
+take-begins (x ∷ prefix) path zero is low = refl
+take-begins (x ∷ prefix) [] (suc d) is low = absurd (omega (arith, is.long))
+take-begins (x ∷ prefix) (y ∷ path) (suc d) is low =
+    let whole : y ∷ take (length prefix) path ≡ x ∷ prefix = is.same in
     let first : y ≡ x = cc in
-    let rest : take (length front) path ≡ front = cc in
-    let deeper : take d front ≡ take d path = take-begins front path d (record { long = omega (arith, is.long); same = rest }) (omega (arith, low)) in
+    let rest : take (length prefix) path ≡ prefix = cc in
+    let deeper : take d prefix ≡ take d path = take-begins prefix path d (record { long = omega (arith, is.long); same = rest }) (omega (arith, low)) in
     cc
 
 -- the cover of paths one of which is all there

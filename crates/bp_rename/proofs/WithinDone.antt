@@ -1,4 +1,4 @@
--- A name has been spelled anew: that it is performed, and that the sets are exact.
+-- A name has been spelled again: that it is performed, and that the sets are exact.
 use Rattle.std.proofs.Common.{◌≡◌, ◌≢◌, ℕ, Bool, zero, suc, ◌+◌, ◌-◌, ◌*◌, ◌/◌, ◌<◌, ◌≤◌, List, length, get_or, slice_index, refl, sym, ◌∙◌, ap, subst, arith, inl, le-ltb, lt-ltb}
 use Rattle.pm_words.proofs.Bytes.{word_of_bytes}
 use Rattle.pm_words.specs.Bytes.{word_bytes}
@@ -12,7 +12,7 @@ use Rattle.bp_layout.specs.Need.{need}
 use Rattle.bp_layout.specs.Need.Change.{respells}
 use Rattle.bp_layout.specs.Tree.{byte, content_word}
 use Rattle.bp_layout.specs.Words.{Image, byte_of}
-use Rattle.bp_layout.proofs.NameBytes.{map-tells}
+use Rattle.bp_layout.proofs.NameBytes.{map-equal}
 use Rattle.bp_changes.specs.Effects.{RespellsEntry}
 use Rattle.bp_changes.proofs.Committed.{commit_respells}
 use Rattle.bp_changes.proofs.Named.{respelled_counts}
@@ -107,7 +107,7 @@ module _ {in_snapshot : ℕ → Bool} (old new : Memory) (n s j : ℕ) (name : N
           byte_at (length name) i low ∙ sym (ap (slice_index is.run.bytes.now) at ∙ is.is.bytes_are i (omega (arith, low)) ∙ length_byte name i low)
 
   pub within_name : name_at (current_words new) (suc n) s ≡ name
-  within_name = rw length_word (map-tells (λ o. byte (current_words new) (root_of (current_words new) (suc n)) (256 * s + 16 + o)) name each)
+  within_name = rw length_word (map-equal (λ o. byte (current_words new) (root_of (current_words new) (suc n)) (256 * s + 16 + o)) name each)
     where
       each : (o : ℕ) → o < length name → byte (current_words new) (root_of (current_words new) (suc n)) (256 * s + 16 + o) ≡ get_or name o 0
       each o low =
@@ -149,7 +149,7 @@ module _ {in_snapshot : ℕ → Bool} (old new : Memory) (n s j : ℕ) (name : N
   pub within_whole : length (current_words new) ≡ length (current_words old)
   within_whole = within_respells.trees.whole
 
--- ---- told of any directory
+-- ---- stated of any directory
 
 module _ {in_snapshot : ℕ → Bool} (old : Memory) (s j : ℕ) (name : Name) (touched : Touched) (blocks inodes : Set) (exact : AreExact (current_words old) in_snapshot blocks inodes) where
   pub within_ready_at : (i : ℕ) → room_for (need (current_words old) (respells i s (length name))) ≤ room_in old + 2 → CanRespell (current_words old) i s j name → TouchesName (current_words old) i s name touched → CanCommit (current_words old) (size_of (current_words old)) in_snapshot touched (has blocks)

@@ -1,4 +1,4 @@
--- A name is spelled anew: what is touched, and what that needs.
+-- A name is spelled again: what is touched, and what that needs.
 use Rattle.std.proofs.Common.{◌≡◌, ℕ, zero, suc, ◌+◌, ◌-◌, ◌*◌, ◌/◌, ◌<◌, ◌≤◌, List, [], ◌∷◌, ◌++◌, length, map, Bool, None, refl, sym, ◌∙◌, ap, ap₂, subst, arith, inl}
 use Rattle.std.specs.List.{range_with_len}
 use Rattle.std.proofs.lemmas.List.{append-nil}
@@ -23,7 +23,7 @@ use Rattle.bp_cow.specs.declared.touched.Touched.{Touched}
 use Rattle.bp_calls.proofs.RunCommits.{IsRunOf, few_leaves, run_loose}
 use Rattle.bp_rename.specs.CanRename.{CanRename, moved_inode}
 use Rattle.bp_rename.specs.Respelled.{TouchesName}
-use Rattle.bp_rename.specs.declared.moving.Move.{Move}
+use Rattle.bp_rename.specs.declared.moves.Move.{Move}
 use Rattle.bp_rename.proofs.FewWays.{few_ways}
 use Rattle.bp_rename.proofs.LooseCovers.{now_whole}
 use Rattle.bp_rename.proofs.NameRun.{run_apart, run_inside, run_shape}
@@ -37,7 +37,7 @@ pub record CanRespell (image : Image) (i s j : ℕ) (name : Name) : Type 0 where
   pub form : IsName name
   pub missing : slot_named image i name ≡ None
 
--- two lists of paths by numbers that are apart by so many
+-- two lists of paths by numbers that are apart by as many
 map-shift : (f g : ℕ → WordPath) (a b count : ℕ) → ((k : ℕ) → f (a + k) ≡ g k) → map f (range_with_len (a + b) count) ≡ map g (range_with_len b count)
 map-shift f g a b zero same = refl
 map-shift f g a b (suc count) same =
@@ -144,7 +144,7 @@ module _ (image : Image) (n s j : ℕ) (name : Name) (can : CanRespell image (su
       run_loose image can.well_formed n can.reached is.run name_run in_snapshot touched within_shape (subst (λ runs. Has runs is.run) (sym is.one) (inl refl))
       (loose-on image in_snapshot (targets image (respells (suc n) s (length name))) clear (commit_cover image touched) (inl (sym within_now)) (length (commit_cover image touched) - 1))
 
--- ---- told of any directory
+-- ---- stated of any directory
 
 module _ (image : Image) (s j : ℕ) (name : Name) (touched : Touched) where
   pub within_shape_at : (i : ℕ) → CanRespell image i s j name → TouchesName image i s name touched → IsTouched touched

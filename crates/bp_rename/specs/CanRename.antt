@@ -9,7 +9,7 @@ use Rattle.bp_layout.specs.Need.Change.{moves, replaces, respells}
 use Rattle.bp_layout.specs.Reached.{IsReached}
 use Rattle.bp_layout.specs.WellFormed.{IsWellFormed}
 use Rattle.bp_layout.specs.Words.{Image}
-use Rattle.bp_rename.specs.declared.moving.Move.{Move}
+use Rattle.bp_rename.specs.declared.moves.Move.{Move}
 
 -- The inode that moves.
 abbrev pub moved_inode : Image → Move → ℕ

@@ -11,7 +11,7 @@ use Rattle.bp_plain.specs.Plain.{with_moved}
 use Rattle.bp_plain.specs.PlainTree.{PathMap}
 use Rattle.bp_plain.specs.Stands.{Shows}
 use Rattle.bp_rename.specs.CanRename.{moved_inode}
-use Rattle.bp_rename.specs.declared.moving.Move.{Move}
+use Rattle.bp_rename.specs.declared.moves.Move.{Move}
 
 -- For each two paths that find the two directories, of which the second is not below the name, the second image has
 -- the name, with all below it, as the new name in the second directory.

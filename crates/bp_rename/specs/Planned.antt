@@ -7,7 +7,7 @@ use Rattle.bp_commit.specs.Performs.{Performs, PerformsThawed}
 use Rattle.bp_cow.specs.Cover.{LeadsInside, commit_cover, copied_count}
 use Rattle.bp_cow.specs.Found.{AreWaysIn}
 use Rattle.bp_cow.specs.Touched.{IsTouched, NoneBegins, all_paths}
-use Rattle.bp_cow.specs.declared.covering.FoundWays.{FoundWays}
+use Rattle.bp_cow.specs.declared.covers.FoundWays.{FoundWays}
 use Rattle.bp_cow.specs.declared.touched.Touched.{Touched}
 use Rattle.bp_free.specs.declared.parts.Parts.{Parts}
 use Rattle.bp_layout.specs.Inode.{size_of}
@@ -21,7 +21,7 @@ use Rattle.bp_rename.specs.CanRename.{CanRename, change_of, moved_inode}
 use Rattle.bp_rename.specs.RenamesEntry.{RenamesEntry}
 use Rattle.bp_rename.specs.Respelled.{TouchesName}
 use Rattle.bp_rename.specs.TouchesTwo.{AnyTree, AreTwo, OtherTree, TouchesTwo, inumber_path, size_path}
-use Rattle.bp_rename.specs.declared.moving.Move.{Move}
+use Rattle.bp_rename.specs.declared.moves.Move.{Move}
 
 -- What each kind of rename touches: the words of the new name, or two words.
 abbrev pub TouchesWithin : Image → Move → Touched → Type 0
@@ -37,8 +37,8 @@ TouchesInto image move slot touched =
     TouchesTwo image AnyTree touched (inumber_path image move.to_dir slot)
     (inumber_path image move.from_dir move.from_slot) (moved_inode image move) 0
 
-abbrev pub TouchesBehind : Image → Move → Touched → Type 0
-TouchesBehind image move touched =
+abbrev pub TouchesPastEnd : Image → Move → Touched → Type 0
+TouchesPastEnd image move touched =
     TouchesTwo image (OtherTree move.to_dir) touched (size_path image move.to_dir)
     (inumber_path image move.from_dir move.from_slot) (size_of image move.to_dir + entry_size) 0
 
@@ -51,8 +51,8 @@ abbrev pub AreWordsInto : Image → Move → ℕ → List (ArrayVec ℕ × ℕ) 
 AreWordsInto image move slot words = AreTwo words (inumber_path image move.to_dir slot)
     (inumber_path image move.from_dir move.from_slot) (moved_inode image move) 0
 
-abbrev pub AreWordsBehind : Image → Move → List (ArrayVec ℕ × ℕ) → Type 0
-AreWordsBehind image move words = AreTwo words (size_path image move.to_dir)
+abbrev pub AreWordsPastEnd : Image → Move → List (ArrayVec ℕ × ℕ) → Type 0
+AreWordsPastEnd image move words = AreTwo words (size_path image move.to_dir)
     (inumber_path image move.from_dir move.from_slot) (size_of image move.to_dir + entry_size) 0
 
 -- The cover of the touched words is that of the rename. The paths to them lead inside the image, and still do after a

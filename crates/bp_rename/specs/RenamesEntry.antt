@@ -4,7 +4,7 @@ use Rattle.bp_changes.specs.Effects.{CarriesEntry, MovesEntry, RespellsEntry}
 use Rattle.bp_layout.specs.Directory.{empty_slot, entry_count, name_at}
 use Rattle.bp_layout.specs.Words.{Image}
 use Rattle.bp_rename.specs.CanRename.{moved_inode}
-use Rattle.bp_rename.specs.declared.moving.Move.{Move}
+use Rattle.bp_rename.specs.declared.moves.Move.{Move}
 
 -- The slot that a new name of a directory gets: its least empty slot, or the one after its last entry if no entry is
 -- empty.

@@ -13,9 +13,9 @@ ghost use Rattle.bp_rename.specs.RenamesEntry.{RenamesEntry};
 ghost use Rattle.bp_shapes.specs.Sets.{in_snapshot_of};
 ghost use Rattle.pm_region.specs.Memory.{words_in};
 
-use crate::moving::Move;
-use crate::needing::ready_ways;
-use crate::touching::{touched_two, trees_of_both};
+use crate::moves::Move;
+use crate::needs::ready_ways;
+use crate::touched_words::{touched_two, trees_of_both};
 use bp_calls::entry_path;
 use bp_cow::{FoundWays, Touched, commit_at};
 use bp_dirs::{entry_place, inumber, put_name};

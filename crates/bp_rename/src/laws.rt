@@ -6,7 +6,7 @@ ghost use Rattle.bp_rename.specs.CanRename.{CanRename};
 ghost use Rattle.bp_rename.specs.MovesPath.{IsFoundMove, MovesPath};
 ghost use Rattle.bp_rename.specs.RenamesEntry.{RenamesEntry};
 
-use crate::moving::Move;
+use crate::moves::Move;
 
 /// States that a renamed name has moved in the abstract tree, with all below it, for each two paths that find its
 /// directories, of which the second is not below the name.

@@ -2,14 +2,14 @@
 #![tactic(auto)]
 
 mod across;
-mod behind;
 pub mod laws;
-mod moving;
-mod needing;
+mod moves;
+mod needs;
 mod onto;
-mod renaming;
-mod touching;
+mod past_end;
+mod rename_cases;
+mod touched_words;
 mod within;
 
-pub use moving::Move;
-pub use renaming::rename;
+pub use moves::Move;
+pub use rename_cases::rename;

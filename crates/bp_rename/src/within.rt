@@ -11,8 +11,8 @@ ghost use Rattle.bp_rename.specs.Respelled.{IsNameRun, IsRespelled, respelled_by
 ghost use Rattle.bp_shapes.specs.Sets.{in_snapshot_of};
 ghost use Rattle.pm_region.specs.Memory.{words_in};
 
-use crate::moving::Move;
-use crate::needing::ready_ways;
+use crate::moves::Move;
+use crate::needs::ready_ways;
 use bp_calls::touched_by;
 use bp_cow::{Run, commit_at};
 use bp_free::{NoSpace, Parts};

@@ -3,7 +3,7 @@ use Rattle.std.proofs.Common.{◌≡◌, ℕ, zero, suc, ◌+◌, ◌*◌, ◌/�
 use Rattle.std.specs.List.{slice_get}
 use Rattle.std.proofs.lemmas.List.{length-take, take_all, take_more}
 use Rattle.std.proofs.lemmas.Option.{slice_get_within, get_or_from_slice_get}
-use Rattle.bp_replay.specs.Wanted.{bit, bits, behind_true, trimmed}
+use Rattle.bp_replay.specs.Wanted.{bit, bits, cons_trimmed, trimmed}
 
 pub length-bits : (bytes : List ℕ) → length (bits bytes) ≡ 8 * length bytes
 length-bits [] = omega arith
@@ -25,34 +25,34 @@ bit_at (byte ∷ bytes) (suc (suc (suc (suc (suc (suc (suc (suc place)))))))) lo
     let rest : suc (suc (suc (suc (suc (suc (suc (suc place))))))) % 8 ≡ place % 8 = omega arith in
     rw (whole, rest) (bit_at bytes place (omega arith))
 
--- what is left of a front
-trimmed_is_front : (places : List Bool) → trimmed places ≡ take (length (trimmed places)) places
-trimmed_is_front [] = refl
-trimmed_is_front (false ∷ places) = go (trimmed places) (trimmed_is_front places)
+-- what is left of a prefix
+trimmed_is_prefix : (places : List Bool) → trimmed places ≡ take (length (trimmed places)) places
+trimmed_is_prefix [] = refl
+trimmed_is_prefix (false ∷ places) = go (trimmed places) (trimmed_is_prefix places)
   where
-    go : (rest : List Bool) → rest ≡ take (length rest) places → behind_true false rest ≡ take (length (behind_true false rest)) (false ∷ places)
+    go : (rest : List Bool) → rest ≡ take (length rest) places → cons_trimmed false rest ≡ take (length (cons_trimmed false rest)) (false ∷ places)
     go [] is = refl
     go (place ∷ rest) is = ap (λ ps. false ∷ ps) is
-trimmed_is_front (true ∷ places) = ap (λ ps. true ∷ ps) (trimmed_is_front places)
+trimmed_is_prefix (true ∷ places) = ap (λ ps. true ∷ ps) (trimmed_is_prefix places)
 
 pub trimmed_from : (places : List Bool) (count : ℕ) → count ≡ length (trimmed places) → take count places ≡ trimmed places
-trimmed_from places count is = rw is (sym (trimmed_is_front places))
+trimmed_from places count is = rw is (sym (trimmed_is_prefix places))
 
 -- one more place
 trimmed-false : (places : List Bool) → trimmed (places ++ false ∷ []) ≡ trimmed places
 trimmed-false [] = refl
-trimmed-false (place ∷ places) = ap (behind_true place) (trimmed-false places)
+trimmed-false (place ∷ places) = ap (cons_trimmed place) (trimmed-false places)
 
-length-behind_true : (place : Bool) (rest : List Bool) → 0 < length rest → length (behind_true place rest) ≡ suc (length rest)
-length-behind_true true rest some = refl
-length-behind_true false [] some = absurd (omega arith)
-length-behind_true false (next ∷ rest) some = refl
+length-cons_trimmed : (place : Bool) (rest : List Bool) → 0 < length rest → length (cons_trimmed place rest) ≡ suc (length rest)
+length-cons_trimmed true rest some = refl
+length-cons_trimmed false [] some = absurd (omega arith)
+length-cons_trimmed false (next ∷ rest) some = refl
 
 length-trimmed-true : (places : List Bool) → length (trimmed (places ++ true ∷ [])) ≡ length places + 1
 length-trimmed-true [] = omega arith
 length-trimmed-true (place ∷ places) =
     let more = length-trimmed-true places in
-    length-behind_true place (trimmed (places ++ true ∷ [])) (omega (arith, more)) ∙ omega (arith, more)
+    length-cons_trimmed place (trimmed (places ++ true ∷ [])) (omega (arith, more)) ∙ omega (arith, more)
 
 pub length-trimmed-more : (places : List Bool) (last : Bool) → length (trimmed (places ++ last ∷ [])) ≡ cond last (length places + 1) (length (trimmed places))
 length-trimmed-more places true = length-trimmed-true places

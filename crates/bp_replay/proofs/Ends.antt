@@ -17,11 +17,11 @@ right_all events = record {
 
 pub call_ends_of_all : (events : List Event) → call_ends_of (barriers events) (replicate (epoch_stores (barriers events) events) true) events ≡ call_ends events
 call_ends_of_all [] = refl
-call_ends_of_all (Store word value ∷ events) = behind (barriers events) refl (call_ends_of_all events)
+call_ends_of_all (Store word value ∷ events) = following (barriers events) refl (call_ends_of_all events)
   where
-    behind : (epoch : ℕ) → barriers events ≡ epoch → call_ends_of (barriers events) (replicate (epoch_stores (barriers events) events) true) events ≡ call_ends events → call_ends_of epoch (replicate (epoch_stores epoch (Store word value ∷ events)) true) (Store word value ∷ events) ≡ call_ends events
-    behind zero is more = rw is at more
-    behind (suc epoch) is more = rw is at more
+    following : (epoch : ℕ) → barriers events ≡ epoch → call_ends_of (barriers events) (replicate (epoch_stores (barriers events) events) true) events ≡ call_ends events → call_ends_of epoch (replicate (epoch_stores epoch (Store word value ∷ events)) true) (Store word value ∷ events) ≡ call_ends events
+    following zero is more = rw is at more
+    following (suc epoch) is more = rw is at more
 call_ends_of_all (Barrier ∷ events) = call_ends_of_all events
 call_ends_of_all (CallEnd ∷ events) = ap suc (call_ends_of_all events)
 
@@ -30,11 +30,11 @@ kept_calls_all events = call_ends_of_all events
 
 stores_of_all : (events : List Event) → stores_of (barriers events) (replicate (epoch_stores (barriers events) events) true) events ≡ stores events
 stores_of_all [] = refl
-stores_of_all (Store word value ∷ events) = behind (barriers events) refl (stores_of_all events)
+stores_of_all (Store word value ∷ events) = following (barriers events) refl (stores_of_all events)
   where
-    behind : (epoch : ℕ) → barriers events ≡ epoch → stores_of (barriers events) (replicate (epoch_stores (barriers events) events) true) events ≡ stores events → stores_of epoch (replicate (epoch_stores epoch (Store word value ∷ events)) true) (Store word value ∷ events) ≡ Store word value ∷ stores events
-    behind zero is more = ap (λ es. Store word value ∷ es) (rw is at more)
-    behind (suc epoch) is more = ap (λ es. Store word value ∷ es) (rw is at more)
+    following : (epoch : ℕ) → barriers events ≡ epoch → stores_of (barriers events) (replicate (epoch_stores (barriers events) events) true) events ≡ stores events → stores_of epoch (replicate (epoch_stores epoch (Store word value ∷ events)) true) (Store word value ∷ events) ≡ Store word value ∷ stores events
+    following zero is more = ap (λ es. Store word value ∷ es) (rw is at more)
+    following (suc epoch) is more = ap (λ es. Store word value ∷ es) (rw is at more)
 stores_of_all (Barrier ∷ events) = stores_of_all events
 stores_of_all (CallEnd ∷ events) = stores_of_all events
 

@@ -13,10 +13,10 @@ use Rattle.pm_steps.specs.Machine.{is_some_store, IsInOrder}
 use Rattle.pm_steps.specs.Runs.{AreBackBefore}
 use Rattle.pm_steps.proofs.Order.{store_is}
 use Rattle.pm_steps.proofs.Cuts.{right_open}
-use Rattle.pm_steps.proofs.FirstLaws.{none, nothing_there, same_word, ComesFirst-behind}
+use Rattle.pm_steps.proofs.FirstLaws.{none, nothing_there, same_word, ComesFirst-after}
 use Rattle.pm_steps.proofs.Reaching.{reached_in_log_order}
 use Rattle.bp_replay.specs.Generator.{next_state, drawn}
-use Rattle.bp_replay.specs.Storm.{goes_back, waiting_behind, storm_flags, storm_moment, storm_epoch, flags_of_storm, storm_cut, draw_at, IsOdd, IsStoreAt, RunsToStorm}
+use Rattle.bp_replay.specs.Storm.{goes_back, waiting_after, storm_flags, storm_moment, storm_epoch, flags_of_storm, storm_cut, draw_at, IsOdd, IsStoreAt, RunsToStorm}
 use Rattle.bp_replay.proofs.Storms.{in_order_storm, none_later, storm_first}
 
 in_order_flags : (events : List Event) (seed : ℕ) → IsInOrder events (flags_of_storm events seed)
@@ -51,17 +51,17 @@ all_false [] which store = no_event which store
 all_false (event ∷ events) zero store = refl
 all_false (event ∷ events) (suc which) store = all_false events which store
 
-none_behind_own : (state : ℕ) (waiting : List ℕ) (events : List Event) (which : ℕ) → IsStoreAt events which → 0 < epoch_of events which → slice_get (storm_flags state 0 waiting events) which ≡ Some false
-none_behind_own state waiting [] which store more = no_event which store
-none_behind_own state waiting (Store word value ∷ events) zero store more = absurd (omega arith)
-none_behind_own state waiting (Store word value ∷ events) (suc which) store more = none_behind_own (next_state state) (waiting_behind (goes_back state waiting word) waiting word) events which store more
-none_behind_own state waiting (Barrier ∷ events) zero store more = refl
-none_behind_own state waiting (Barrier ∷ events) (suc which) store more = all_false events which store
-none_behind_own state waiting (CallEnd ∷ events) zero store more = refl
-none_behind_own state waiting (CallEnd ∷ events) (suc which) store more = none_behind_own state waiting events which store more
+none_after_own : (state : ℕ) (waiting : List ℕ) (events : List Event) (which : ℕ) → IsStoreAt events which → 0 < epoch_of events which → slice_get (storm_flags state 0 waiting events) which ≡ Some false
+none_after_own state waiting [] which store more = no_event which store
+none_after_own state waiting (Store word value ∷ events) zero store more = absurd (omega arith)
+none_after_own state waiting (Store word value ∷ events) (suc which) store more = none_after_own (next_state state) (waiting_after (goes_back state waiting word) waiting word) events which store more
+none_after_own state waiting (Barrier ∷ events) zero store more = refl
+none_after_own state waiting (Barrier ∷ events) (suc which) store more = all_false events which store
+none_after_own state waiting (CallEnd ∷ events) zero store more = refl
+none_after_own state waiting (CallEnd ∷ events) (suc which) store more = none_after_own state waiting events which store more
 
 pub none_later_than : (state epoch : ℕ) (events : List Event) (which : ℕ) → IsStoreAt events which → epoch < epoch_of events which → slice_get (storm_flags state epoch [] events) which ≡ Some false
-none_later_than state zero events which store more = none_behind_own state [] events which store more
+none_later_than state zero events which store more = none_after_own state [] events which store more
 none_later_than state (suc epoch) [] which store more = no_event which store
 none_later_than state (suc epoch) (Store word value ∷ events) zero store more = absurd (omega arith)
 none_later_than state (suc epoch) (Store word value ∷ events) (suc which) store more = none_later_than state (suc epoch) events which store more
@@ -82,7 +82,7 @@ odd_back state waiting [] which is = nothing_there which is
 odd_back state waiting (Store word value ∷ events) zero is =
     let flag : goes_back state waiting word ≡ true = cc in
     eqb-true (drawn state % 2) 1 (and_left (drawn state % 2 == 1) (not (is_noted waiting word)) flag)
-odd_back state waiting (Store word value ∷ events) (suc which) is = odd_back (next_state state) (waiting_behind (goes_back state waiting word) waiting word) events which is
+odd_back state waiting (Store word value ∷ events) (suc which) is = odd_back (next_state state) (waiting_after (goes_back state waiting word) waiting word) events which is
 odd_back state waiting (Barrier ∷ events) zero is = none is
 odd_back state waiting (Barrier ∷ events) (suc which) is = none_later (length events) which is
 odd_back state waiting (CallEnd ∷ events) zero is = none is
@@ -103,7 +103,7 @@ both true true odd free = cc
 both true false odd free = refl
 both false b odd free = cc
 
-noted_other : (flag : Bool) (waiting : List ℕ) (place word : ℕ) → (flag ≡ false → place ≢ word) → is_noted waiting word ≡ false → is_noted (waiting_behind flag waiting place) word ≡ false
+noted_other : (flag : Bool) (waiting : List ℕ) (place word : ℕ) → (flag ≡ false → place ≢ word) → is_noted waiting word ≡ false → is_noted (waiting_after flag waiting place) word ≡ false
 noted_other true waiting place word differ free = free
 noted_other false waiting place word differ free =
     list_any-append (λ other. other == word) waiting (place ∷ [])
@@ -130,13 +130,13 @@ may_back state waiting (Store place other ∷ events) (suc which) word value sto
       must = inr same;
     }) in
     no_store (sym waits ∙ (let e : flag ≡ true = cc in e)) in
-    may_back (next_state state) (waiting_behind flag waiting place) events which word value store own odd (noted_other flag waiting place word differ free)
-    (λ earlier comes. may (suc earlier) (ComesFirst-behind (Store place other) events earlier which comes))
+    may_back (next_state state) (waiting_after flag waiting place) events which word value store own odd (noted_other flag waiting place word differ free)
+    (λ earlier comes. may (suc earlier) (ComesFirst-after (Store place other) events earlier which comes))
 may_back state waiting (Barrier ∷ events) zero word value store own odd free may = cc
 may_back state waiting (Barrier ∷ events) (suc which) word value store own odd free may = absurd (omega arith)
 may_back state waiting (CallEnd ∷ events) zero word value store own odd free may = cc
 may_back state waiting (CallEnd ∷ events) (suc which) word value store own odd free may =
-    may_back state waiting events which word value store own odd free (λ earlier comes. may (suc earlier) (ComesFirst-behind CallEnd events earlier which comes))
+    may_back state waiting events which word value store own odd free (λ earlier comes. may (suc earlier) (ComesFirst-after CallEnd events earlier which comes))
 
 may_own : (state epoch : ℕ) (events : List Event) (which word value : ℕ) → slice_get events which ≡ Some (Store word value) → epoch_of events which ≡ epoch → IsOdd (draw_at state (epoch_stores epoch (take which events)))
     → AreBackBefore events (storm_flags state epoch [] events) which → slice_get (storm_flags state epoch [] events) which ≡ Some true
@@ -144,13 +144,13 @@ may_own state zero events which word value store own odd may = may_back state []
 may_own state (suc epoch) [] which word value store own odd may = cc
 may_own state (suc epoch) (Store place other ∷ events) zero word value store own odd may = absurd (omega arith)
 may_own state (suc epoch) (Store place other ∷ events) (suc which) word value store own odd may =
-    may_own state (suc epoch) events which word value store own odd (λ earlier comes. may (suc earlier) (ComesFirst-behind (Store place other) events earlier which comes))
+    may_own state (suc epoch) events which word value store own odd (λ earlier comes. may (suc earlier) (ComesFirst-after (Store place other) events earlier which comes))
 may_own state (suc epoch) (Barrier ∷ events) zero word value store own odd may = absurd (omega arith)
 may_own state (suc epoch) (Barrier ∷ events) (suc which) word value store own odd may =
-    may_own state epoch events which word value store (omega arith) odd (λ earlier comes. may (suc earlier) (ComesFirst-behind Barrier events earlier which comes))
+    may_own state epoch events which word value store (omega arith) odd (λ earlier comes. may (suc earlier) (ComesFirst-after Barrier events earlier which comes))
 may_own state (suc epoch) (CallEnd ∷ events) zero word value store own odd may = absurd (omega arith)
 may_own state (suc epoch) (CallEnd ∷ events) (suc which) word value store own odd may =
-    may_own state (suc epoch) events which word value store own odd (λ earlier comes. may (suc earlier) (ComesFirst-behind CallEnd events earlier which comes))
+    may_own state (suc epoch) events which word value store own odd (λ earlier comes. may (suc earlier) (ComesFirst-after CallEnd events earlier which comes))
 
 pub own_epoch : (state epoch : ℕ) (events : List Event) (which : ℕ) → IsStoreAt events which → epoch_of events which ≡ epoch → (slice_get (storm_flags state epoch [] events) which ≡ Some true) ↔ (IsOdd (draw_at state (place_in_epoch events which)) × AreBackBefore events (storm_flags state epoch [] events) which)
 own_epoch state epoch events which store own =

@@ -1,4 +1,4 @@
--- The cut at which the machine stands behind a storm, found from where the storm's epoch begins.
+-- The cut at which the machine stands after a storm, found from where the storm's epoch begins.
 use Rattle.std.proofs.Common.{◌≡◌, ℕ, zero, suc, ◌+◌, ◌<◌, ◌≤◌, Bool, true, false, not, ◌||◌, Some, List, [], ◌∷◌, ◌++◌, length, take, drop, replicate, refl, sym, ◌∙◌, ap, arith, add-one, append_assoc}
 use Rattle.std.specs.List.{slice_get}
 use Rattle.std.proofs.lemmas.List.{append-nil, length-take}
@@ -11,7 +11,7 @@ use Rattle.pm_steps.specs.Machine.{open_epoch, epoch_flags, cut_of}
 use Rattle.pm_steps.proofs.Scan.{open_epoch-none, epoch_flags-none}
 use Rattle.pm_steps.proofs.Cuts.{right_open}
 use Rattle.bp_replay.specs.Generator.{next_state}
-use Rattle.bp_replay.specs.Storm.{goes_back, waiting_behind, storm_flags}
+use Rattle.bp_replay.specs.Storm.{goes_back, waiting_after, storm_flags}
 use Rattle.bp_replay.proofs.Storms.{length-storm_flags, in_order_storm}
 
 -- ## Event by event
@@ -23,13 +23,13 @@ with_place cut flag = record cut { mask = cut.mask ++ flag ∷ [] }
 abbrev pub at_next : PowerCut → PowerCut
 at_next cut = record { moment = cut.moment; epoch = cut.epoch + 1; mask = [] }
 
--- The cut behind these events: whether a store of the cut's epoch waits, and whether its stores are drawn for, since it is the
+-- The cut after these events: whether a store of the cut's epoch waits, and whether its stores are drawn for, since it is the
 -- storm's own.
 abbrev pub stands : List Event → Bool → Bool → ℕ → List ℕ → PowerCut → PowerCut
 stands [] waits draws state waiting cut = cut
 stands (Store word value ∷ events) waits true state waiting cut =
     let flag = goes_back state waiting word in
-    stands events (waits || not flag) true (next_state state) (waiting_behind flag waiting word) (with_place cut flag)
+    stands events (waits || not flag) true (next_state state) (waiting_after flag waiting word) (with_place cut flag)
 stands (Store word value ∷ events) waits false state waiting cut = stands events true false state waiting (with_place cut false)
 stands (Barrier ∷ events) true draws state waiting cut = cut
 stands (Barrier ∷ events) false draws state waiting cut = stands events false false state waiting (at_next cut)
@@ -54,7 +54,7 @@ abbrev flags_on : Bool → ℕ → List ℕ → List Event → List Bool
 flags_on true state waiting events = storm_flags state 0 waiting events
 flags_on false state waiting events = replicate (length events) false
 
--- the flags of the epoch where the machine stands, behind those of the epoch that it came from
+-- the flags of the epoch where the machine stands, after those of the epoch that it came from
 abbrev mask_on : ℕ → List Bool → List Event → List Bool → List Bool
 mask_on zero mask events back = mask ++ epoch_flags 0 events back
 mask_on (suc more) mask events back = epoch_flags (suc more) events back
@@ -80,8 +80,8 @@ stands_waiting : (events : List Event) (draws : Bool) (state : ℕ) (waiting : L
 stands_waiting [] draws state waiting cut = here-nil cut
 stands_waiting (Store word value ∷ events) true state waiting cut =
     let flag = goes_back state waiting word in
-    stands_waiting events true (next_state state) (waiting_behind flag waiting word) (with_place cut flag)
-    ∙ here-place cut flag word value events (storm_flags (next_state state) 0 (waiting_behind flag waiting word) events)
+    stands_waiting events true (next_state state) (waiting_after flag waiting word) (with_place cut flag)
+    ∙ here-place cut flag word value events (storm_flags (next_state state) 0 (waiting_after flag waiting word) events)
 stands_waiting (Store word value ∷ events) false state waiting cut =
     stands_waiting events false state waiting (with_place cut false)
     ∙ here-place cut false word value events (replicate (length events) false)
@@ -121,10 +121,10 @@ on-next cut events back = cut_is cut.moment (cut.epoch + 1 + open_epoch events b
 on-call_end : (cut : PowerCut) (events : List Event) (back : List Bool) → cut_on cut events back ≡ cut_on cut (CallEnd ∷ events) (false ∷ back)
 on-call_end cut events back = ap (λ m. record { moment = cut.moment; epoch = cut.epoch + open_epoch events back; mask = m }) (mask_on-call_end (open_epoch events back) cut.mask events back)
 
--- behind a store that was drawn for
+-- after a store that was drawn for
 drawn_on : (flag : Bool) (word value : ℕ) (events : List Event) (state : ℕ) (waiting : List ℕ) (cut : PowerCut)
     → ((next : PowerCut) → stands events false true state waiting next ≡ cut_on next events (storm_flags state 0 waiting events))
-    → stands events (false || not flag) true state (waiting_behind flag waiting word) (with_place cut flag) ≡ cut_on cut (Store word value ∷ events) (flag ∷ storm_flags state 0 (waiting_behind flag waiting word) events)
+    → stands events (false || not flag) true state (waiting_after flag waiting word) (with_place cut flag) ≡ cut_on cut (Store word value ∷ events) (flag ∷ storm_flags state 0 (waiting_after flag waiting word) events)
 drawn_on true word value events state waiting cut more = more (with_place cut true) ∙ on-back cut word value events (storm_flags state 0 waiting events)
 drawn_on false word value events state waiting cut more =
     stands_waiting events true state (waiting ++ word ∷ []) (with_place cut false)
@@ -146,20 +146,20 @@ stands_on (CallEnd ∷ events) false state waiting cut = stands_on events false 
 abbrev from_epoch : ℕ → List Event → List Event
 from_epoch epoch events = drop (epoch_start epoch events) events
 
-open_behind : (state epoch : ℕ) (events : List Event) → epoch ≤ barriers events → open_epoch events (storm_flags state epoch [] events) ≡ epoch + open_epoch (from_epoch epoch events) (storm_flags state 0 [] (from_epoch epoch events))
-open_behind state zero events begun = omega arith
-open_behind state (suc epoch) [] begun = absurd (omega arith)
-open_behind state (suc epoch) (Store word value ∷ events) begun = open_behind state (suc epoch) events begun
-open_behind state (suc epoch) (Barrier ∷ events) begun = let more = open_behind state epoch events (omega arith) in omega arith
-open_behind state (suc epoch) (CallEnd ∷ events) begun = open_behind state (suc epoch) events begun
+open_after : (state epoch : ℕ) (events : List Event) → epoch ≤ barriers events → open_epoch events (storm_flags state epoch [] events) ≡ epoch + open_epoch (from_epoch epoch events) (storm_flags state 0 [] (from_epoch epoch events))
+open_after state zero events begun = omega arith
+open_after state (suc epoch) [] begun = absurd (omega arith)
+open_after state (suc epoch) (Store word value ∷ events) begun = open_after state (suc epoch) events begun
+open_after state (suc epoch) (Barrier ∷ events) begun = let more = open_after state epoch events (omega arith) in omega arith
+open_after state (suc epoch) (CallEnd ∷ events) begun = open_after state (suc epoch) events begun
 
-flags_behind : (state epoch total more : ℕ) (events : List Event) → total ≡ epoch + more → epoch ≤ barriers events → epoch_flags total events (storm_flags state epoch [] events) ≡ epoch_flags more (from_epoch epoch events) (storm_flags state 0 [] (from_epoch epoch events))
-flags_behind state zero total more events is begun = ap (λ e. epoch_flags e events (storm_flags state 0 [] events)) (let same : total ≡ more = omega arith in same)
-flags_behind state (suc epoch) zero more events is begun = absurd (omega arith)
-flags_behind state (suc epoch) (suc total) more [] is begun = absurd (omega arith)
-flags_behind state (suc epoch) (suc total) more (Store word value ∷ events) is begun = flags_behind state (suc epoch) (suc total) more events is begun
-flags_behind state (suc epoch) (suc total) more (Barrier ∷ events) is begun = flags_behind state epoch total more events (omega arith) (omega arith)
-flags_behind state (suc epoch) (suc total) more (CallEnd ∷ events) is begun = flags_behind state (suc epoch) (suc total) more events is begun
+flags_after : (state epoch total more : ℕ) (events : List Event) → total ≡ epoch + more → epoch ≤ barriers events → epoch_flags total events (storm_flags state epoch [] events) ≡ epoch_flags more (from_epoch epoch events) (storm_flags state 0 [] (from_epoch epoch events))
+flags_after state zero total more events is begun = ap (λ e. epoch_flags e events (storm_flags state 0 [] events)) (let same : total ≡ more = omega arith in same)
+flags_after state (suc epoch) zero more events is begun = absurd (omega arith)
+flags_after state (suc epoch) (suc total) more [] is begun = absurd (omega arith)
+flags_after state (suc epoch) (suc total) more (Store word value ∷ events) is begun = flags_after state (suc epoch) (suc total) more events is begun
+flags_after state (suc epoch) (suc total) more (Barrier ∷ events) is begun = flags_after state epoch total more events (omega arith) (omega arith)
+flags_after state (suc epoch) (suc total) more (CallEnd ∷ events) is begun = flags_after state (suc epoch) (suc total) more events is begun
 
 -- ## Over the whole log
 
@@ -186,16 +186,16 @@ flags_take epoch (CallEnd ∷ events) (suc moment) (flag ∷ back) few = flags_t
 stands_open : (state moment epoch : ℕ) (events own : List Event) → moment ≤ length events → epoch ≤ barriers (take moment events) → own ≡ from_epoch epoch (take moment events)
     → stands own false true state [] (record { moment = moment; epoch = epoch; mask = [] }) ≡ cut_of events (storm_flags state epoch [] (take moment events))
 stands_open state moment epoch events own taken begun own_is =
-    let front = take moment events in
-    let back = storm_flags state epoch [] front in
-    let rest = from_epoch epoch front in
+    let prefix = take moment events in
+    let back = storm_flags state epoch [] prefix in
+    let rest = from_epoch epoch prefix in
     let flags = storm_flags state 0 [] rest in
     let more = open_epoch rest flags in
-    let count : length back ≡ moment = length-storm_flags state epoch [] front ∙ omega (arith, length-take moment events) in
+    let count : length back ≡ moment = length-storm_flags state epoch [] prefix ∙ omega (arith, length-take moment events) in
     let few : length back ≤ moment = omega arith in
-    let epoch_is : open_epoch events back ≡ epoch + more = sym (open_take events moment back few) ∙ open_behind state epoch front begun in
+    let epoch_is : open_epoch events back ≡ epoch + more = sym (open_take events moment back few) ∙ open_after state epoch prefix begun in
     let mask_is : epoch_flags (open_epoch events back) events back ≡ epoch_flags more rest flags =
-    sym (flags_take (open_epoch events back) events moment back few) ∙ flags_behind state epoch (open_epoch events back) more front epoch_is begun in
+    sym (flags_take (open_epoch events back) events moment back few) ∙ flags_after state epoch (open_epoch events back) more prefix epoch_is begun in
     let cut : PowerCut = record { moment = moment; epoch = epoch; mask = [] } in
     ap (λ es. stands es false true state [] cut) own_is
     ∙ stands_on rest true state [] cut

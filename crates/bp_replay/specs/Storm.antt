@@ -15,9 +15,9 @@ abbrev pub goes_back : ℕ → List ℕ → ℕ → Bool
 goes_back state waiting word = drawn state % 2 == 1 && not (is_noted waiting word)
 
 -- The words of the waiting stores, after a store to this word that is written back or not.
-abbrev pub waiting_behind : Bool → List ℕ → ℕ → List ℕ
-waiting_behind true waiting word = waiting
-waiting_behind false waiting word = waiting ++ word ∷ []
+abbrev pub waiting_after : Bool → List ℕ → ℕ → List ℕ
+waiting_after true waiting word = waiting
+waiting_after false waiting word = waiting ++ word ∷ []
 
 -- Which of the executed events are stores that are written back. All stores of the epochs before the storm's are, and
 -- none of later epochs. In the storm's own epoch each store is drawn for; the list of words has those to which a store
@@ -26,7 +26,7 @@ abbrev pub storm_flags : ℕ → ℕ → List ℕ → List Event → List Bool
 storm_flags state epoch waiting [] = []
 storm_flags state zero waiting (Store word value ∷ events) =
     goes_back state waiting word
-    ∷ storm_flags (next_state state) zero (waiting_behind (goes_back state waiting word) waiting word) events
+    ∷ storm_flags (next_state state) zero (waiting_after (goes_back state waiting word) waiting word) events
 storm_flags state zero waiting (Barrier ∷ events) = false ∷ replicate (length events) false
 storm_flags state (suc epoch) waiting (Store word value ∷ events) = true ∷ storm_flags state (suc epoch) waiting events
 storm_flags state (suc epoch) waiting (Barrier ∷ events) = false ∷ storm_flags state epoch waiting events

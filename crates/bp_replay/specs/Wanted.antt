@@ -37,13 +37,13 @@ abbrev pub bits : List ℕ → List Bool
 bits bytes = flat_map bits_of bytes
 
 -- The mask without the positions after the last true one.
-abbrev pub behind_true : Bool → List Bool → List Bool
-behind_true false [] = []
-behind_true place rest = place ∷ rest
+abbrev pub cons_trimmed : Bool → List Bool → List Bool
+cons_trimmed false [] = []
+cons_trimmed place rest = place ∷ rest
 
 abbrev pub trimmed : List Bool → List Bool
 trimmed [] = []
-trimmed (place ∷ mask) = behind_true place (trimmed mask)
+trimmed (place ∷ mask) = cons_trimmed place (trimmed mask)
 
 -- The crash point of a log that is asked for.
 abbrev pub cut_for : List Event → Wanted → PowerCut

@@ -1,15 +1,15 @@
 //! What a script's crash keeps: crash points that the script spells out, and storms.
 #![tactic(auto)]
 
-pub mod caching;
+pub mod caches;
+pub mod choices;
 mod cut;
 pub mod generator;
 pub mod laws;
-pub mod storming;
-pub mod wanted;
+pub mod random_crashes;
 
-pub use caching::cache;
+pub use caches::cache;
+pub use choices::choice_of;
 pub use cut::Cut;
 pub use generator::Generator;
-pub use storming::storm;
-pub use wanted::choice_of;
+pub use random_crashes::storm;

@@ -2,6 +2,6 @@
 #![tactic(auto)]
 
 mod replies;
-pub mod sending;
+pub mod send;
 
 pub use replies::{GATHERED, Replies};

@@ -4,7 +4,7 @@ ghost use Rattle.std.specs.Prelude.{◌+◌, ◌≡◌, ◌≤◌, IfOk, [], len
 ghost use Rattle.bp_limits.specs.Limits.{max_text};
 ghost use Rattle.bp_replies.specs.Room.{gathered_size};
 
-use crate::sending::send;
+use crate::send::send;
 use bp_io::{Failed, Sink};
 use bp_limits::MAX_TEXT;
 use bp_script::{Said, say};
@@ -101,7 +101,7 @@ impl Replies {
     ///
     /// * `Failed`: the sink failed. It took a proper prefix of the lines that waited, the rest is dropped, and the
     ///   line is not added.
-    pub fn tell<K: Sink>(&mut self, said: &Said<'_>, out: &mut K) -> Result<(), Failed>
+    pub fn report<K: Sink>(&mut self, said: &Said<'_>, out: &mut K) -> Result<(), Failed>
         requires { FitsReply said.now }
         ensures all { OnOk result (PassesOn (said_text said.now) (waiting self.old) (waiting self.new)
             (K.view out.old).taken (K.view out.new).taken) }

@@ -3,17 +3,17 @@
 //! row.
 #![tactic(auto)]
 
-mod comparing;
-mod cutting;
+mod comparison;
+mod crashes;
 mod image;
 mod line;
 mod parts;
-mod playing;
 mod report;
 mod row;
 mod rows;
+mod runs;
 mod script;
-mod showing;
+mod show;
 mod side;
 mod stage;
 

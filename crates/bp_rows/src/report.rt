@@ -4,12 +4,12 @@ use bp_session::Broken;
 use std::alloc::AllocError;
 
 /// Writes the printed bytes, with two blanks before each line, and whether all was served.
-pub fn tell(
+pub fn write_report(
     report: &mut String,
-    told: &[u8],
+    reported: &[u8],
     served: Result<(), Broken>,
 ) -> Result<(), AllocError> {
-    match str::from_utf8(told) {
+    match str::from_utf8(reported) {
         Ok(text) => {
             for line in text.lines() {
                 report.push_str("  ")?;

@@ -2,7 +2,7 @@
 
 use crate::image::set_word;
 use crate::line::{Device, InputLine, number};
-use crate::playing::formatted;
+use crate::runs::formatted;
 use crate::script::expand;
 use bp_limits::{BLOCK_SIZE, MAX_FILE_BLOCKS, Version};
 use std::alloc::{AllocError, Global};

@@ -1,11 +1,11 @@
 //! A row in one version of the format.
 
-use crate::comparing::compare;
-use crate::cutting::cut_all_over;
+use crate::comparison::compare;
+use crate::crashes::cut_all_over;
 use crate::line::{Device, InputLine};
-use crate::playing::{formatted, play};
 use crate::row::{Failing, Row};
-use crate::showing::{show, show_short};
+use crate::runs::{formatted, play};
+use crate::show::{show, show_short};
 use bp_limits::Version;
 use std::alloc::{AllocError, Global};
 
@@ -87,16 +87,16 @@ impl Side {
             return refuse(text, report);
         }
         let ran = play(self.alloc, &self.row)?;
-        self.compare_told(&ran.told, report)?;
+        self.compare_reported(&ran.reported, report)?;
         self.row.go_on(self.alloc, ran.file);
         Ok(())
     }
 
     /// Compares the replies to the script with those of the abstract tree.
-    fn compare_told(&self, told: &[u8], report: &mut String) -> Result<(), AllocError> {
-        let told = str::from_utf8(told).unwrap_or("");
+    fn compare_reported(&self, reported: &[u8], report: &mut String) -> Result<(), AllocError> {
+        let reported = str::from_utf8(reported).unwrap_or("");
         let script = self.row.script.as_str();
-        compare(self.alloc, self.row.version, script, told, report)
+        compare(self.alloc, self.row.version, script, reported, report)
     }
 
     fn cut(&mut self, text: &str, blocks: &str, report: &mut String) -> Result<(), AllocError> {

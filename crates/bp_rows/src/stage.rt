@@ -5,7 +5,7 @@ ghost use Rattle.bp_limits.specs.Limits.{log_events};
 ghost use Rattle.bp_session.specs.Files.{CanSave};
 ghost use Rattle.std.specs.Prelude.{◌≡◌, ◌≤◌};
 
-use crate::report::tell;
+use crate::report::write_report;
 use bp_io::{FairFiles, FairSource, MemSink};
 use bp_session::{Work, serve, serve_line};
 use bp_volume::Volume;
@@ -32,7 +32,7 @@ pub fn serve_script<R: Region>(
     let mut source = FairSource::new(script.as_bytes());
     let mut sink = MemSink::new(alloc, ROOM, &[])?;
     let served = serve(alloc, volume, work, &mut source, &mut sink, files);
-    tell(report, sink.bytes(), served)
+    write_report(report, sink.bytes(), served)
 }
 
 /// Sets the line and serves it, and writes its length, its reply and whether it was served.
@@ -53,7 +53,7 @@ pub fn serve_bytes<R: Region>(
     report_line(work, report)?;
     let mut sink = MemSink::new(alloc, ROOM, &[])?;
     let served = serve_line(alloc, volume, work, &mut sink, files);
-    tell(report, sink.bytes(), served)
+    write_report(report, sink.bytes(), served)
 }
 
 fn report_line(work: &Work, report: &mut String) -> Result<(), AllocError> {

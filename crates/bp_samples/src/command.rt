@@ -67,7 +67,7 @@ fn takes_words(rt: HostRuntime) {
 }
 
 /// Returns the line that reports the mistake in the arguments.
-fn told(alloc: Global, words: &[&str]) -> Option<String> {
+fn reported(alloc: Global, words: &[&str]) -> Option<String> {
     match read_words(alloc, words) {
         Err(WordsFault::Usage(mistake)) => mistake_line(alloc, &mistake).ok(),
         _ => None,
@@ -120,7 +120,7 @@ const REFUSED: [(&[&str], &str); 12] = [
 #[test]
 fn refuses_words(rt: HostRuntime) {
     for (words, line) in &REFUSED {
-        assert_eq!(rt; told(rt.alloc(), *words).as_deref(), Some(*line));
+        assert_eq!(rt; reported(rt.alloc(), *words).as_deref(), Some(*line));
     }
 }
 

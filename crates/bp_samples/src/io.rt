@@ -156,8 +156,8 @@ fn disk_files_are_replaced(rt: HostRuntime) {
     assert_eq!(rt; files.flush(), Ok(()));
     let bytes = fs::read(&rt, "front.img").expect(&rt, "it is there");
     assert_eq!(rt; bytes.len(), 32_768);
-    let front = [(0, 6), (4095, 6), (4096, 0), (12_287, 0)];
-    has_bytes(&rt, &bytes, &front);
+    let prefix = [(0, 6), (4095, 6), (4096, 0), (12_287, 0)];
+    has_bytes(&rt, &bytes, &prefix);
     has_bytes(&rt, &bytes, &[(20_480, 6), (24_576, 0)]);
     fs::remove_file(&rt, "front.img").expect(&rt, "it is removed");
 }
@@ -391,7 +391,7 @@ fn std_source_fails_at_a_folder(rt: HostRuntime) {
 }
 
 #[test]
-fn std_source_reads_behind_signals(rt: HostRuntime) {
+fn std_source_reads_after_signals(rt: HostRuntime) {
     let mut interrupted = StdSource::new(Interrupted { signals: 3 });
     let mut into = *b"lol";
     assert_eq!(rt; interrupted.read(&mut into), Ok(1));
@@ -418,7 +418,7 @@ fn std_sink_fails_at_a_full_disk(rt: HostRuntime) {
 }
 
 #[test]
-fn std_sink_writes_behind_signals(rt: HostRuntime) {
+fn std_sink_writes_after_signals(rt: HostRuntime) {
     let mut interrupted = StdSink::new(Interrupted { signals: 3 });
     assert_eq!(rt; interrupted.write(b"ok\n"), Ok(1));
     let mut stuck = StdSink::new(Stuck);

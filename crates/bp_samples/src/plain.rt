@@ -41,9 +41,9 @@ fn is_done(reply: &Reply) -> bool {
 }
 
 /// Whether an answer has these bytes.
-fn tells(reply: &Reply, bytes: &[u8]) -> bool {
+fn reports(reply: &Reply, bytes: &[u8]) -> bool {
     match reply.answer() {
-        Answer::Bytes(told) => told == bytes,
+        Answer::Bytes(reported) => reported == bytes,
         _ => false,
     }
 }
@@ -60,13 +60,13 @@ fn answers_numbers(rt: &impl Abort, reply: &mut Reply) {
 fn answers_bytes(rt: &impl Abort, reply: &mut Reply) {
     reply.buffer()[..3].copy_from_slice(b"abc");
     reply.set_bytes(3);
-    assert!(rt; tells(reply, b"abc"));
+    assert!(rt; reports(reply, b"abc"));
     reply.buffer()[0] = b'x';
     assert!(rt; is_done(reply));
     reply.set_bytes(2);
-    assert!(rt; tells(reply, b"xb"));
+    assert!(rt; reports(reply, b"xb"));
     reply.set_bytes(0);
-    assert!(rt; tells(reply, b""));
+    assert!(rt; reports(reply, b""));
 }
 
 fn answers_others(rt: &impl Abort, reply: &mut Reply, listing: Listing) {
@@ -129,7 +129,7 @@ impl Asked {
             len: 9,
         };
         self.ask(&call)?;
-        Ok(tells(&self.reply, bytes))
+        Ok(reports(&self.reply, bytes))
     }
 
     /// Whether a file has this number of links.
@@ -142,7 +142,7 @@ impl Asked {
 }
 
 #[test]
-fn a_plain_tree_tells_names(rt: HostRuntime) {
+fn a_plain_tree_reports_names(rt: HostRuntime) {
     let mut asked = Asked::new(&rt, rt.alloc());
     assert_eq!(rt; asked.does(&Call::Create(b"/a")), Ok(true));
     let answer = asked

@@ -15,7 +15,7 @@ fn takes_the_blocks_of_a_tree(rt: HostRuntime) {
 }
 
 #[test]
-fn tells_a_hole_of_a_directory(rt: HostRuntime) {
+fn reports_a_hole_of_a_directory(rt: HostRuntime) {
     let region = sample(rt.alloc()).expect(&rt, "there is memory");
     let mut blocks = Blocks::new(rt.alloc(), 8).expect(&rt, "there is memory");
     blocks.fill(1, 8);

@@ -38,26 +38,26 @@ module _ (free : Set) (i to : ℕ) (some : 1 ≤ i) (low : i < to) (room : i < l
   abbrev before : ℕ
   before = i - 1
 
-  abbrev behind : ℕ
-  behind = to - 1 - i
+  abbrev beyond : ℕ
+  beyond = to - 1 - i
 
   abbrev used : Set → ℕ → Bool
   used set k = not (has set k)
 
-  parts : range_with_len 1 (to - 1) ≡ range_with_len 1 before ++ i ∷ range_with_len (i + 1) behind
+  parts : range_with_len 1 (to - 1) ≡ range_with_len 1 before ++ i ∷ range_with_len (i + 1) beyond
   parts =
-      let whole : to - 1 ≡ before + suc behind = omega (arith, some, low) in
+      let whole : to - 1 ≡ before + suc beyond = omega (arith, some, low) in
       let place : 1 + before ≡ i = omega (arith, some) in
-      ap (range_with_len 1) whole ∙ range_split 1 before (suc behind) ∙ ap (λ b. range_with_len 1 before ++ range_with_len b (suc behind)) place
+      ap (range_with_len 1) whole ∙ range_split 1 before (suc beyond) ∙ ap (λ b. range_with_len 1 before ++ range_with_len b (suc beyond)) place
 
-  kept : (p : ℕ → Bool) → filter p (range_with_len 1 (to - 1)) ≡ filter p (range_with_len 1 before) ++ filter p (i ∷ range_with_len (i + 1) behind)
-  kept p = ap (filter p) parts ∙ filter-append p (range_with_len 1 before) (i ∷ range_with_len (i + 1) behind)
+  kept : (p : ℕ → Bool) → filter p (range_with_len 1 (to - 1)) ≡ filter p (range_with_len 1 before) ++ filter p (i ∷ range_with_len (i + 1) beyond)
+  kept p = ap (filter p) parts ∙ filter-append p (range_with_len 1 before) (i ∷ range_with_len (i + 1) beyond)
 
   abbrev lower : List ℕ
   lower = filter (used free) (range_with_len 1 before)
 
   abbrev higher : List ℕ
-  higher = filter (used free) (range_with_len (i + 1) behind)
+  higher = filter (used free) (range_with_len (i + 1) beyond)
 
   old_parts : used_below free to ≡ lower ++ higher
   old_parts = kept (used free) ∙ ap (λ b. lower ++ cond b (i ∷ higher) higher) (not_from_true (has free i) is)
@@ -68,7 +68,7 @@ module _ (free : Set) (i to : ℕ) (some : 1 ≤ i) (low : i < to) (room : i < l
   new_parts : used_below (without free i) to ≡ lower ++ i ∷ higher
   new_parts =
       let first : filter (used (without free i)) (range_with_len 1 before) ≡ lower = filter_same _ _ 1 before (λ k from high. same_else k (λ same. omega (arith, same, high, some))) in
-      let last : filter (used (without free i)) (range_with_len (i + 1) behind) ≡ higher = filter_same _ _ (i + 1) behind (λ k from high. same_else k (λ same. omega (arith, same, from))) in
+      let last : filter (used (without free i)) (range_with_len (i + 1) beyond) ≡ higher = filter_same _ _ (i + 1) beyond (λ k from high. same_else k (λ same. omega (arith, same, from))) in
       let head : used (without free i) i ≡ true = not_from_false (has (without free i) i) (has_without free i room) in
       kept (used (without free i))
       ∙ ap₂ (λ xs ys. xs ++ cond (used (without free i) i) (i ∷ ys) ys) first last
@@ -236,7 +236,7 @@ same_snapshot_blocks image p q one other = λ i b. at b (known (p b)) (known (q 
     at b (inr x) (inl y) = absurd (clash (one.all b (other.are b y)) x)
     at b (inr x) (inr y) = x ∙ sym y
 
--- With the blocks of the second tree told, so many are in one of both.
+-- With the blocks of the second tree reported, as many are in one of both.
 pub has_live : (image : Image) (snapshot_blocks blocks : Set) (live : ℕ) → AreInSnapshot image (has snapshot_blocks) → AreFreeBlocks image (has snapshot_blocks) (has blocks) → length blocks ≡ block_count image →
     live + length (members blocks) + 1 ≡ block_count image → HasLive image live
 has_live image snapshot_blocks blocks live are free room sum space has_space =

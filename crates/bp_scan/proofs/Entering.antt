@@ -14,7 +14,7 @@ use Rattle.bp_layout.specs.declared.check.Check.TheVariants.{BlockTwice}
 use Rattle.bp_layout.proofs.TreeLaws.{tree_word-zero}
 use Rattle.bp_layout.proofs.OnePlace.{IsAbove, above_pointer, inode_block, low_slot}
 use Rattle.bp_layout.proofs.OnePlace.IsAbove.{pointer_above, inode_above}
-use Rattle.bp_layout.proofs.OncePointer.{TellsBlocks, other_root}
+use Rattle.bp_layout.proofs.OncePointer.{SeparatesPointers, other_root}
 use Rattle.bp_walk.specs.Taken.{block_at, NamesBlock, Takes}
 use Rattle.bp_scan.specs.Scanned.{IsChecked, IsSeen, IsScanned, HasAllBlocks}
 use Rattle.bp_walk.specs.Walk.{IsPlace, IsTreePlace, TakesTree, FailsBelow, FailsTree}
@@ -79,14 +79,14 @@ module _ (image : Image) (E : ℕ → Type 0) (all left : Set) (blocks : HasAllB
       let w : block_at image n.place ≡ node image (root_of image n.is.tree) n.is.depth n.is.index = ap block_of (pointer_word image n.is.tree n.is.depth n.is.index n.place n.is.pointer) in
       twice at n.is.pointer (fresh n.is.tree n.is.depth n.is.index n.place n.is.entered n.is.pointer) present (sym n.named ∙ w)
 
-  module _ (t : ℕ) (tells : t ≢ 0 → TellsBlocks image E) (found : IsFound image t) (first : t ≢ 0 → E 0) (new : E t → ⊥) (alone : t ≡ 0 → (u : ℕ) → E u → ⊥) (holes : Bool)
+  module _ (t : ℕ) (reports : t ≢ 0 → SeparatesPointers image E) (found : IsFound image t) (first : t ≢ 0 → E 0) (new : E t → ⊥) (alone : t ≡ 0 → (u : ℕ) → E u → ⊥) (holes : Bool)
       (which : holes ≡ false → (t ≡ 0) ⊎ (kind_of image t ≡ 2)) where
     fresh_root : (p : ℕ) → size_of image t ≤ covered (suc (height_of (root_of image t))) → IsPointer image t 0 0 p → (u e l q : ℕ) → E u → IsPointer image u e l q → p ≢ q
     fresh_root p fits at u e l q z also = go (cases_eq t 0)
       where
         go : (t ≡ 0) ⊎ (t ≡ 0 → ⊥) → p ≢ q
         go (inl file) same = alone file u z
-        go (inr other) same = other_root image E (tells other) t u e l p q z new fits at also same
+        go (inr other) same = other_root image E (reports other) t u e l p q z new fits at also same
 
     fresh_deep : (p : ℕ) → has left (p / 512) ≡ true → (u e l q : ℕ) → E u → IsPointer image u e l q → p ≢ q
     fresh_deep p there u e l q z also same = clash there (ap (λ x. has left (x / 512)) same ∙ outside u e l q z also)
@@ -137,9 +137,9 @@ module _ (image : Image) (E : ℕ → Type 0) (all left : Set) (blocks : HasAllB
             which_one (inr other) =
                 repeats t (suc d) k p (to_deep image t d k p found is) present in_range (sym (has_other left (block_of (root_of image t)) (node image (root_of image t) (suc d) k) other) ∙ gone) (fresh_deep p there)
 
--- what was seen tells its pointers apart
-pub tells_of : (image : Image) (E : ℕ → Type 0) (D : ℕ → ℕ → Type 0) (all left : Set) → 4096 ≤ size_of image 0 → E 0 → IsScanned image E D all left → TellsBlocks image E
-tells_of image E D all left some first scanned = record {
+-- what was seen reports its pointers apart
+pub reports_of : (image : Image) (E : ℕ → Type 0) (D : ℕ → ℕ → Type 0) (all left : Set) → 4096 ≤ size_of image 0 → E 0 → IsScanned image E D all left → SeparatesPointers image E
+reports_of image E D all left some first scanned = record {
   some = some;
   first = first;
   fits = λ t e. (scanned.checked t e).fits;

@@ -42,7 +42,7 @@ first_faults image (BadSize found wanted) is = is
 first_faults image (Damaged check place) is = (is.0, is.1, first is.2)
 first_faults image Memory is = is
 
--- and so is one of the second, told at the places of that
+-- and so is one of the second, stated at the places of that
 pub second_faults : (image : Image) → has_snapshot image ≡ true → (fault : MountFault) → IsTreeFault (snapshot_of image) fault → IsFault image (of_second fault)
 second_faults image there fault is = go fault is
   where

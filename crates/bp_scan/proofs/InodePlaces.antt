@@ -50,9 +50,9 @@ words_of image (suc i) at some stands low whole kind root size = record {
     first : inode_place image (suc i) 0 ≡ at.place
     first = field_place image (suc i) at.place stands 0 (omega arith) ∙ omega arith
 
--- the place of the size is two behind that of the kind
-pub size_behind : (image : Image) (i : ℕ) → size_place image (suc i) ≡ inode_place image (suc i) 0 + 2
-size_behind image i =
+-- the place of the size is two after that of the kind
+pub size_after : (image : Image) (i : ℕ) → size_place image (suc i) ≡ inode_place image (suc i) 0 + 2
+size_after image i =
     placed _ _ (suc i) 2 (inode_place image (suc i) 0) (omega arith) (ap (node image (root_of image 0) (height_of (root_of image 0))) (same_leaf (suc i) 2 (omega arith))) refl
 
 pub moved : (P : ℕ → ℕ → ℕ → Type 0) (a b c x y z : ℕ) → a ≡ x → b ≡ y → c ≡ z → P x y z → P a b c

@@ -16,7 +16,7 @@ use Rattle.bp_layout.specs.Checks.Fails.{inode_twice}
 use Rattle.bp_layout.specs.declared.check.Check.TheVariants.{InodeTwice}
 use Rattle.bp_layout.proofs.OncePointer.{once_pointer}
 use Rattle.bp_scan.specs.Scanned.{IsChecked, IsScanned}
-use Rattle.bp_scan.proofs.Entering.{tells_of}
+use Rattle.bp_scan.proofs.Entering.{reports_of}
 
 module _ (image : Image) (E : ℕ → Type 0) (D : ℕ → ℕ → Type 0) (all left : Set) (some : 4096 ≤ size_of image 0) (first : E 0) (scanned : IsScanned image E D all left)
     (t : ℕ) (entered : E t) (which : (t ≡ 0) ⊎ (kind_of image t ≡ 2)) where
@@ -46,7 +46,7 @@ module _ (image : Image) (E : ℕ → Type 0) (D : ℕ → ℕ → Type 0) (all 
     in_range = λ d k live. in_range d k (passes d k live);
     once = λ d k e l live also present same.
         let one : SamePointer t d k t e l =
-        once_pointer image E (tells_of image E D all left some first scanned) t entered d k t e l entered (at d k live) (at e l also) present same in
+        once_pointer image E (reports_of image E D all left some first scanned) t entered d k t e l entered (at d k live) (at e l also) present same in
         (one.depth, one.index);
     fits = (scanned.checked t entered).fits;
   }
@@ -64,7 +64,7 @@ module _ (image : Image) (E : ℕ → Type 0) (D : ℕ → ℕ → Type 0) (all 
       let f : IsFollowed image (root_of image t) (size_of image t) (height_of (root_of image t)) (k / 512) = followed (height_of (root_of image t)) (k / 512) above in
       ((scanned.checked t entered).fits, f, passes (height_of (root_of image t)) (k / 512) above, is_full (height_of (root_of image t)) (k / 512) above)
 
--- the entry at hand, for the checks that tell of it
+-- the entry at hand, for the checks that describe it
 pub entry_seen : (image : Image) (E : ℕ → Type 0) (D : ℕ → ℕ → Type 0) (all left : Set) → 4096 ≤ size_of image 0 → E 0 → IsScanned image E D all left → (i s j : ℕ) → E i → EntryNames image i s j →
     IsEntry image i s j (entry_place image i s 0)
 entry_seen image E D all left some first scanned i s j entered names = record {
@@ -91,7 +91,7 @@ one_entry image E D all left some first scanned i s j k r h entered also n m pla
     let same : (node image (root_of image i) (height_of (root_of image i)) ((32 * s + 0) / 512) ≡ node image (root_of image k) (height_of (root_of image k)) ((32 * r + 0) / 512)) × ((32 * s + 0) % 512 ≡ (32 * r + 0) % 512) =
     same_block _ _ ((32 * s + 0) % 512) ((32 * r + 0) % 512) _ (low_slot (32 * s + 0)) (low_slot (32 * r + 0)) place refl in
     let one : SamePointer i (height_of (root_of image i)) ((32 * s + 0) / 512) k (height_of (root_of image k)) ((32 * r + 0) / 512) =
-    once_pointer image E (tells_of image E D all left some first scanned) i entered (height_of (root_of image i)) ((32 * s + 0) / 512) k (height_of (root_of image k)) ((32 * r + 0) / 512) also
+    once_pointer image E (reports_of image E D all left some first scanned) i entered (height_of (root_of image i)) ((32 * s + 0) / 512) k (height_of (root_of image k)) ((32 * r + 0) / 512) also
     (leaf i s j entered n) (leaf k r h also m) (present i s j entered n) same.0 in
     (one.tree, same_slot s r one.index same.1)
   where

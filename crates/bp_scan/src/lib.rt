@@ -12,21 +12,21 @@
 
 mod directories;
 mod fault;
+mod first_tree;
+mod inode_count;
 pub mod laws;
 mod length;
 mod pending;
-mod reading;
-mod scanning;
-mod totalling;
 mod totals;
+mod tree_walk;
 mod trees;
 mod whole;
 mod work;
 
 pub use bp_layout::Check;
 pub use fault::MountFault;
+pub use first_tree::scan;
 pub use length::image_length;
 pub use pending::Pending;
-pub use scanning::scan;
 pub use totals::Totals;
 pub use whole::{fill_others, has_second, scan_whole};

@@ -13,7 +13,7 @@ ghost use Rattle.bp_scan.specs.Room.{HasScanMemory};
 ghost use Rattle.bp_scan.specs.Scanned.{HasAllBlocks};
 ghost use Rattle.pm_region.specs.Memory.{words_in};
 
-use crate::totalling::count_inode;
+use crate::inode_count::count_inode;
 use crate::work::Scan;
 use bp_free::Blocks;
 use bp_inodes::{inode_file, place};

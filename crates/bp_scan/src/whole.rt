@@ -16,8 +16,8 @@ ghost use Rattle.bp_scan.specs.Totals.{HasTotals};
 ghost use Rattle.pm_region.specs.Memory.{words_in};
 
 use crate::fault::MountFault;
+use crate::first_tree::scan;
 use crate::pending::Pending;
-use crate::scanning::scan;
 use crate::totals::Totals;
 use bp_free::{Blocks, Counts, Inodes};
 use bp_limits::{SUPER_ROOT, SUPER_SIZE, SUPER_SNAPSHOT_ROOT, SUPER_SNAPSHOT_SIZE, Version};

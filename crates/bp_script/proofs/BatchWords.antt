@@ -13,19 +13,19 @@ use Rattle.bp_plain.specs.declared.calls.Piece.{Piece as GivenPiece}
 use Rattle.bp_plain.specs.declared.calls.Span.{Span}
 use Rattle.bp_script.specs.Commands.{Command, and_pieces, asked_by, batch_of, bytes_spelled, decoded, decoded_piece, is_empty_word, number_spelled, path_bytes, piece_spelled, piece_words}
 use Rattle.bp_script.specs.Commands.Command.{bad_syntax, file_call}
-use Rattle.bp_script.specs.Lines.{len_behind, piece_decoded, bytes_in_word}
+use Rattle.bp_script.specs.Lines.{len_after, piece_decoded, bytes_in_word}
 
--- ---- parts of a text that keeps its front
+-- ---- parts of a text that keeps its prefix
 
-pub front_kept : (at end : ℕ) (text longer : List ℕ) → at ≤ end → take end longer ≡ take end text → take at longer ≡ take at text
-front_kept at end text longer before same = sym (take-take at end longer before) ∙ ap (take at) same ∙ take-take at end text before
+pub prefix_kept : (at end : ℕ) (text longer : List ℕ) → at ≤ end → take end longer ≡ take end text → take at longer ≡ take at text
+prefix_kept at end text longer before same = sym (take-take at end longer before) ∙ ap (take at) same ∙ take-take at end text before
 
 pub part_kept : (end : ℕ) (text longer : List ℕ) (part : Span) → take end longer ≡ take end text → part.at + part.len ≤ end → spanned longer part ≡ spanned text part
 part_kept end text longer part same inside =
     let n : (part.at + part.len) - part.at ≡ part.len = omega arith in
     rw (n) (
     sym (drop-take part.at part.len longer)
-    ∙ ap (drop part.at) (front_kept (part.at + part.len) end text longer inside same)
+    ∙ ap (drop part.at) (prefix_kept (part.at + part.len) end text longer inside same)
     ∙ drop-take part.at part.len text
     )
 
@@ -53,29 +53,29 @@ lie_on text longer pieces fits lie =
 pub lie_in_all : (end : ℕ) (text : List ℕ) (pieces : List GivenPiece) → All (LiesIn (take end text)) pieces → All (LiesIn text) pieces
 lie_in_all end text pieces lie = lie_on (take end text) text pieces (omega (arith, length-take end text)) lie
 
--- one more, behind them
-pub one_more_lies : (end behind : ℕ) (text longer : List ℕ) (pieces : List GivenPiece) (piece : GivenPiece) → All (LiesIn (take end text)) pieces → end ≤ behind → behind ≤ length longer
-    → piece.path.at + piece.path.len ≤ behind → piece.bytes.at + piece.bytes.len ≤ behind → All (LiesIn (take behind longer)) (pieces ++ piece ∷ [])
-one_more_lies end behind text longer pieces piece lie later inside path bytes =
-    let n : length (take behind longer) ≡ behind = length-take-le behind longer inside in
-    All-append (LiesIn (take behind longer)) pieces (piece ∷ [])
-    (lie_on (take end text) (take behind longer) pieces (omega (arith, n, length-take end text, later)) lie)
-    (All-cons (LiesIn (take behind longer)) piece [] (record { path = omega (arith, n, path); bytes = omega (arith, n, bytes) }) (λ k d low. absurd (omega (arith, low))))
+-- one more, after them
+pub one_more_lies : (end following : ℕ) (text longer : List ℕ) (pieces : List GivenPiece) (piece : GivenPiece) → All (LiesIn (take end text)) pieces → end ≤ following → following ≤ length longer
+    → piece.path.at + piece.path.len ≤ following → piece.bytes.at + piece.bytes.len ≤ following → All (LiesIn (take following longer)) (pieces ++ piece ∷ [])
+one_more_lies end following text longer pieces piece lie later inside path bytes =
+    let n : length (take following longer) ≡ following = length-take-le following longer inside in
+    All-append (LiesIn (take following longer)) pieces (piece ∷ [])
+    (lie_on (take end text) (take following longer) pieces (omega (arith, n, length-take end text, later)) lie)
+    (All-cons (LiesIn (take following longer)) piece [] (record { path = omega (arith, n, path); bytes = omega (arith, n, bytes) }) (λ k d low. absurd (omega (arith, low))))
 
--- ---- a part that is written behind the front of a text
+-- ---- a part that is written after the prefix of a text
 
-pub part_written : (front part_bytes longer : List ℕ) (end : ℕ) (part : Span) → take end longer ≡ front ++ part_bytes → length front ≡ part.at → part.at + part.len ≡ end → spanned longer part ≡ part_bytes
-part_written front part_bytes longer end part is len ends =
+pub part_written : (prefix part_bytes longer : List ℕ) (end : ℕ) (part : Span) → take end longer ≡ prefix ++ part_bytes → length prefix ≡ part.at → part.at + part.len ≡ end → spanned longer part ≡ part_bytes
+part_written prefix part_bytes longer end part is len ends =
     let n : (part.at + part.len) - part.at ≡ part.len = omega arith in
     rw (n) (
     sym (drop-take part.at part.len longer)
     ∙ ap (λ n. drop part.at (take n longer)) ends
     ∙ ap (drop part.at) is
-    ∙ drop_at front part_bytes part.at len
+    ∙ drop_at prefix part_bytes part.at len
     )
 
-pub front_stays : (at end : ℕ) (text part_bytes longer : List ℕ) → at ≤ length text → at ≤ end → take end longer ≡ take at text ++ part_bytes → take at longer ≡ take at text
-front_stays at end text part_bytes longer within later is =
+pub prefix_stays : (at end : ℕ) (text part_bytes longer : List ℕ) → at ≤ length text → at ≤ end → take end longer ≡ take at text ++ part_bytes → take at longer ≡ take at text
+prefix_stays at end text part_bytes longer within later is =
     sym (take-take at end longer later) ∙ ap (take at) is ∙ take_at (take at text) part_bytes at (length-take-le at text within)
 
 -- ---- the piece of three words
@@ -194,9 +194,9 @@ on_full done path offset bytes words full =
     go (Some piece) (Some pieces) = too_many done (decoded_piece piece) (map decoded_piece pieces) full
 
 -- a text is shorter than what a separator and it are
-pub len_behind_less : (text : Option (Bor (List ℕ))) → len_behind text ≤ option_map_or (λ rest. length rest.now + 1) text 0
-len_behind_less None = omega arith
-len_behind_less (Some text) = omega arith
+pub len_after_less : (text : Option (Bor (List ℕ))) → len_after text ≤ option_map_or (λ rest. length rest.now + 1) text 0
+len_after_less None = omega arith
+len_after_less (Some text) = omega arith
 
 -- so what all words ask for is what those that are left do
 pub asked_so : (words : List (List ℕ)) (done : List Piece) (left : List (List ℕ)) (command : Command) → asks_on done left ≡ asks_on [] words → asks_on done left ≡ command

@@ -82,19 +82,19 @@ not_true : (t : Bool) → not t ≡ true → t ≡ false
 not_true true e = absurd (true≢false (sym e))
 not_true false e = refl
 
--- bytes in front of a word stand in front of its first part
-parts-front : (bytes rest first : List ℕ) (more : List (List ℕ)) → list_all (λ b. not (b == 47)) bytes ≡ true → parts_of rest ≡ first ∷ more → parts_of (bytes ++ rest) ≡ (bytes ++ first) ∷ more
+-- bytes before a word stand before its first part
+parts-prefix : (bytes rest first : List ℕ) (more : List (List ℕ)) → list_all (λ b. not (b == 47)) bytes ≡ true → parts_of rest ≡ first ∷ more → parts_of (bytes ++ rest) ≡ (bytes ++ first) ∷ more
 unfolding parts_of
-parts-front [] rest first more inner is = is
-parts-front (b ∷ bytes) rest first more inner is =
-    rw (not_true (b == 47) (first_so (not (b == 47)) _ inner), parts-front bytes rest first more (second_so (not (b == 47)) _ inner) is) refl
+parts-prefix [] rest first more inner is = is
+parts-prefix (b ∷ bytes) rest first more inner is =
+    rw (not_true (b == 47) (first_so (not (b == 47)) _ inner), parts-prefix bytes rest first more (second_so (not (b == 47)) _ inner) is) refl
 
 -- what stands for one byte of a part
 one_byte : (bytes rest : List ℕ) (b : ℕ) → list_all (λ c. not (c == 47)) bytes ≡ true → ((first : List ℕ) → part_bytes (bytes ++ first) ≡ b ∷ part_bytes first) → path_bytes (bytes ++ rest) ≡ b ∷ path_bytes rest
 unfolding parts_of
 one_byte bytes rest b inner stands =
     let cut = slice_split-cons (λ c. c == 47) rest in
-    ap (join_by part_bytes (47 ∷ [])) (parts-front bytes rest cut.0 cut.1 inner cut.2)
+    ap (join_by part_bytes (47 ∷ [])) (parts-prefix bytes rest cut.0 cut.1 inner cut.2)
     ∙ ap (λ xs. xs ++ flat_map (λ y. (47 ∷ []) ++ part_bytes y) cut.1) (stands cut.0)
     ∙ ap (λ ps. b ∷ join_by part_bytes (47 ∷ []) ps) (sym cut.2)
 
@@ -138,10 +138,10 @@ path_word-decoded (b ∷ text) bytes = go (b == 47) refl (is_escaped b) refl (pa
 
 -- ---- the words of a line
 
-words-front : (word rest : List ℕ) → is_whole word ≡ true → words_of (word ++ 32 ∷ rest) ≡ word ∷ words_of rest
-words-front [] rest whole = refl
-words-front (b ∷ word) rest whole =
-    rw (not_true (b == 32) (second_so (not (b == 10)) _ (first_so (is_inner b) _ whole)), words-front word rest (second_so (is_inner b) _ whole)) refl
+words-prefix : (word rest : List ℕ) → is_whole word ≡ true → words_of (word ++ 32 ∷ rest) ≡ word ∷ words_of rest
+words-prefix [] rest whole = refl
+words-prefix (b ∷ word) rest whole =
+    rw (not_true (b == 32) (second_so (not (b == 10)) _ (first_so (is_inner b) _ whole)), words-prefix word rest (second_so (is_inner b) _ whole)) refl
 
 words-last : (word : List ℕ) → is_whole word ≡ true → words_of word ≡ word ∷ []
 words-last [] whole = refl
@@ -254,14 +254,14 @@ module _ (text : List ℕ) (word : IsWord text) where
       → ((path : List ℕ) → decoded_call (call path) ≡ call (path_bytes path)) → call_line (call text) ≡ verb ++ 32 ∷ w → IsRead (call text)
   path_asks verb call whole some row spelled line fits =
       asks (call text) (verb ∷ w ∷ []) (call w) fits
-      (ap words_of line ∙ words-front verb w whole ∙ ap (λ ws. verb ∷ ws) (words-last w has.whole))
+      (ap words_of line ∙ words-prefix verb w whole ∙ ap (λ ws. verb ∷ ws) (words-last w has.whole))
       (rw (some, has.some) (row_two verb w ∙ row w))
       (ap file_call (spelled w ∙ ap call has.is))
 
   truncate_asks : (size : ℕ) → size < 2 ^ 64 → IsRead (truncate text size)
   truncate_asks size low fits =
       asks (truncate text size) (codes "truncate" ∷ w ∷ decimal size ∷ []) (truncate w size) fits
-      (ap words_of line ∙ ap (λ ws. codes "truncate" ∷ ws) (words-front w (decimal size) has.whole ∙ ap (λ ws. w ∷ ws) (words-last (decimal size) (decimal_whole size low))))
+      (ap words_of line ∙ ap (λ ws. codes "truncate" ∷ ws) (words-prefix w (decimal size) has.whole ∙ ap (λ ws. w ∷ ws) (words-last (decimal size) (decimal_whole size low))))
       (rw (has.some, filled (decimal size) (decimal_nonempty size low), decimal_spells size low) refl)
       (ap (λ p. file_call (truncate p size)) has.is)
     where
@@ -272,8 +272,8 @@ module _ (text : List ℕ) (word : IsWord text) where
   three_words : (first second : List ℕ) → is_whole first ≡ true → is_whole second ≡ true
       → words_of (w ++ 32 ∷ (first ++ 32 ∷ second)) ≡ w ∷ first ∷ second ∷ []
   three_words first second one two =
-      words-front w (first ++ 32 ∷ second) has.whole
-      ∙ ap (λ ws. w ∷ ws) (words-front first second one ∙ ap (λ ws. first ∷ ws) (words-last second two))
+      words-prefix w (first ++ 32 ∷ second) has.whole
+      ∙ ap (λ ws. w ∷ ws) (words-prefix first second one ∙ ap (λ ws. first ∷ ws) (words-last second two))
 
   read_asks : (offset len : ℕ) → offset < 2 ^ 64 → len ≤ max_read → IsRead (read text offset len)
   read_asks offset len low few fits =
@@ -320,8 +320,8 @@ pair_asks from to from_word to_word verb call whole some row spelled line fits =
     let one = stands from from_word in
     let two = stands to to_word in
     asks (call from to) (verb ∷ path_word from ∷ path_word to ∷ []) (call (path_word from) (path_word to)) fits
-    (ap words_of line ∙ words-front verb (path_word from ++ 32 ∷ path_word to) whole
-    ∙ ap (λ ws. verb ∷ ws) (words-front (path_word from) (path_word to) one.whole ∙ ap (λ ws. path_word from ∷ ws) (words-last (path_word to) two.whole)))
+    (ap words_of line ∙ words-prefix verb (path_word from ++ 32 ∷ path_word to) whole
+    ∙ ap (λ ws. verb ∷ ws) (words-prefix (path_word from) (path_word to) one.whole ∙ ap (λ ws. path_word from ∷ ws) (words-last (path_word to) two.whole)))
     (rw (some, one.some, two.some) (row_three verb (path_word from) (path_word to) ∙ row (path_word from) (path_word to)))
     (ap file_call (spelled (path_word from) (path_word to) ∙ ap₂ call one.is two.is))
 

@@ -31,8 +31,8 @@ bytes (high ∷ low ∷ rest) = one (hex_digit_value high) (hex_digit_value low)
 -- the bytes of two texts
 abbrev pub both : Option (List ℕ) → Option (List ℕ) → Option (List ℕ)
 both None back = None
-both (Some front) None = None
-both (Some front) (Some back) = Some (front ++ back)
+both (Some prefix) None = None
+both (Some prefix) (Some back) = Some (prefix ++ back)
 
 one_is : (a b i : ℕ) (h l : Option ℕ) (r : Result (List ℕ) FromHexError)
     → result_ok ((digit_or_error a i h >>= (λ x. digit_or_error b (i + 1) l >>= (λ y. Ok (x * 16 + y)))) >>= (λ byte. r >>= (λ rest. Ok (byte ∷ rest)))) ≡ one h l (result_ok r)
@@ -79,11 +79,11 @@ bytes_parted n s fits =
     ap bytes (sym (take-append-drop (2 * n) s)) ∙ bytes_joined n (take (2 * n) s) (drop (2 * n) s) (omega (arith, length-take (2 * n) s))
 
 -- a text of two, where the first has bytes
-pub front_decoded : (n : ℕ) (s f b u v : List ℕ) (y : Bool) → length s % 2 ≡ 0 → 2 * n ≤ length s → f ≡ take (2 * n) s → b ≡ drop (2 * n) s
+pub prefix_decoded : (n : ℕ) (s f b u v : List ℕ) (y : Bool) → length s % 2 ≡ 0 → 2 * n ≤ length s → f ≡ take (2 * n) s → b ≡ drop (2 * n) s
     → result_ok (decode_of f) ≡ Some u → result_ok (decode_of b) ≡ (if y then Some v else None)
     → result_ok (decode_of s) ≡ (if y then Some (u ++ v) else None)
-front_decoded n s f b u v y even fits is_f is_b front back =
-    let first : bytes (take (2 * n) s) ≡ Some u = ap bytes (sym is_f) ∙ sym (decoded_is f (omega (arith, ap length is_f, length-take (2 * n) s))) ∙ front in
+prefix_decoded n s f b u v y even fits is_f is_b prefix back =
+    let first : bytes (take (2 * n) s) ≡ Some u = ap bytes (sym is_f) ∙ sym (decoded_is f (omega (arith, ap length is_f, length-take (2 * n) s))) ∙ prefix in
     let second : bytes (drop (2 * n) s) ≡ (if y then Some v else None) = ap bytes (sym is_b) ∙ sym (decoded_is b (omega (arith, ap length is_b, length-drop (2 * n) s))) ∙ back in
     decoded_is s even ∙ bytes_parted n s fits ∙ rw (first, second) (go y)
   where
@@ -91,10 +91,10 @@ front_decoded n s f b u v y even fits is_f is_b front back =
     go true = refl
     go false = refl
 
-pub front_refused : (n : ℕ) (s f : List ℕ) → length s % 2 ≡ 0 → 2 * n ≤ length s → f ≡ take (2 * n) s
+pub prefix_refused : (n : ℕ) (s f : List ℕ) → length s % 2 ≡ 0 → 2 * n ≤ length s → f ≡ take (2 * n) s
     → result_ok (decode_of f) ≡ None → result_ok (decode_of s) ≡ None
-front_refused n s f even fits is_f front =
-    let first : bytes (take (2 * n) s) ≡ None = ap bytes (sym is_f) ∙ sym (decoded_is f (omega (arith, ap length is_f, length-take (2 * n) s))) ∙ front in
+prefix_refused n s f even fits is_f prefix =
+    let first : bytes (take (2 * n) s) ≡ None = ap bytes (sym is_f) ∙ sym (decoded_is f (omega (arith, ap length is_f, length-take (2 * n) s))) ∙ prefix in
     decoded_is s even ∙ bytes_parted n s fits ∙ rw first refl
 
 -- the same where the rest goes into what is left of a memory of just their length
@@ -102,18 +102,18 @@ pub rest_decoded : (n : ℕ) (s out v : List ℕ) (y : Bool) → length s ≡ 2 
     → result_ok (decode_of (take (2 * n) s)) ≡ Some (take n out)
     → result_ok (decode_of (take (length s - 2 * n) (drop (2 * n) s))) ≡ (if y then Some v else None)
     → result_ok (decode_of s) ≡ (if y then Some (put_mid n (length out - n) out v) else None)
-rest_decoded n s out v y pairs within front back =
+rest_decoded n s out v y pairs within prefix back =
     let whole = take_all (length s - 2 * n) (drop (2 * n) s) (omega (arith, length-drop (2 * n) s)) in
     let none : post_of n (length out - n) out ≡ [] = drop_all (length out - n) (drop n out) (omega (arith, length-drop n out)) in
-    rw (none, append-nil v) (front_decoded n s _ _ (take n out) v y (omega (arith, pairs)) within refl refl front (rw whole at back))
+    rw (none, append-nil v) (prefix_decoded n s _ _ (take n out) v y (omega (arith, pairs)) within refl refl prefix (rw whole at back))
 
 -- ---- the loop over runs
 
-pub run_told : (s : List ℕ) (at : ℕ) (r : Option (List ℕ)) → at + 32 ≤ length s
+pub run_reported : (s : List ℕ) (at : ℕ) (r : Option (List ℕ)) → at + 32 ≤ length s
     → result_ok (decode_of (take 32 (take (length s - at) (drop at s)))) ≡ r → bytes (take 32 (drop at s)) ≡ r
-run_told s at r fits told =
+run_reported s at r fits reported =
     let whole = take_all (length s - at) (drop at s) (omega (arith, length-drop at s)) in
-    sym (decoded_is (take 32 (drop at s)) (omega (arith, length-take 32 (drop at s), length-drop at s))) ∙ rw whole at told
+    sym (decoded_is (take 32 (drop at s)) (omega (arith, length-take 32 (drop at s), length-drop at s))) ∙ rw whole at reported
 
 pub run_added : (s out r : List ℕ) (i : ℕ) → length r ≡ 16 → 16 * i + 16 ≤ length out → 32 * i + 32 ≤ length s
     → bytes (take 32 (drop (32 * i) s)) ≡ Some r
@@ -121,26 +121,26 @@ pub run_added : (s out r : List ℕ) (i : ℕ) → length r ≡ 16 → 16 * i + 
     → bytes (take (32 * (i + 1)) s) ≡ Some (take (16 * (i + 1)) (put_chunk (16 * i) out r))
 run_added s out r i long room fits is so_far =
     let more : 32 * (i + 1) ≡ 32 * i + 32 = omega arith in
-    let front = take_more_put_chunk (16 * i) out r (16 * (i + 1)) (omega (arith, long)) (omega arith) in
+    let prefix = take_more_put_chunk (16 * i) out r (16 * (i + 1)) (omega (arith, long)) (omega arith) in
     ap (λ n. bytes (take n s)) more ∙ ap bytes (take-add (32 * i) 32 s)
     ∙ bytes_joined (16 * i) (take (32 * i) s) (take 32 (drop (32 * i) s)) (omega (arith, fits, length-take (32 * i) s))
-    ∙ rw (so_far, is, front) refl
+    ∙ rw (so_far, is, prefix) refl
 
 -- n bytes after i runs
-pub front_told : (s out : List ℕ) (i n : ℕ) → n ≡ 16 * i → 32 * i ≤ length s → bytes (take (32 * i) s) ≡ Some (take (16 * i) out)
+pub prefix_reported : (s out : List ℕ) (i n : ℕ) → n ≡ 16 * i → 32 * i ≤ length s → bytes (take (32 * i) s) ≡ Some (take (16 * i) out)
     → result_ok (decode_of (take (2 * n) s)) ≡ Some (take n out)
-front_told s out i n is fits so_far =
+prefix_reported s out i n is fits so_far =
     let digits : 2 * n ≡ 32 * i = omega (arith, is) in
     rw (digits, is) (decoded_is (take (32 * i) s) (omega (arith, fits, length-take (32 * i) s)) ∙ so_far)
 
--- behind a front that has bytes
+-- after a prefix that has bytes
 pub run_refused : (n : ℕ) (s u : List ℕ) → length s % 2 ≡ 0 → 2 * n + 32 ≤ length s → result_ok (decode_of (take (2 * n) s)) ≡ Some u
     → result_ok (decode_of (take 32 (drop (2 * n) s))) ≡ None
     → result_ok (decode_of s) ≡ None
-run_refused n s u even fits front is =
+run_refused n s u even fits prefix is =
     let rest = drop (2 * n) s in
     let long : 32 ≤ length rest = omega (arith, fits, length-drop (2 * n) s) in
-    let first : bytes (take (2 * n) s) ≡ Some u = sym (decoded_is (take (2 * n) s) (omega (arith, fits, length-take (2 * n) s))) ∙ front in
+    let first : bytes (take (2 * n) s) ≡ Some u = sym (decoded_is (take (2 * n) s) (omega (arith, fits, length-take (2 * n) s))) ∙ prefix in
     let run : bytes (take 32 rest) ≡ None = sym (decoded_is (take 32 rest) (omega (arith, long, length-take 32 rest))) ∙ is in
     let second : bytes rest ≡ None = bytes_parted 16 rest long ∙ ap (λ (b : Option (List ℕ)). both b (bytes (drop 32 rest))) run in
     decoded_is s even ∙ bytes_parted n s (omega (arith, fits)) ∙ rw (first, second) refl

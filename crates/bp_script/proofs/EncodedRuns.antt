@@ -72,14 +72,14 @@ pub run_written : (s out f g : List ℕ) (i : ℕ) → length f ≡ 16 → lengt
     → take (32 * (i + 1)) (put_chunk (32 * i + 16) (put_chunk (32 * i) out f) g) ++ encode_lower (drop (16 * (i + 1)) s) ≡ encode_lower s
 run_written s out f g i long_f long_g room fits is so_far =
     let whole = take_all (length s - 16 * i) (drop (16 * i) s) (omega (arith, length-drop (16 * i) s)) in
-    let told : f ++ g ≡ encode_lower (take 16 (drop (16 * i) s)) = rw whole at is in
+    let reported : f ++ g ≡ encode_lower (take 16 (drop (16 * i) s)) = rw whole at is in
     let len = length-put_chunk (32 * i) out f in
     let second = take_more_put_chunk (32 * i + 16) (put_chunk (32 * i) out f) g (32 * (i + 1)) (omega (arith, long_g)) (omega (arith, len)) in
     let first = take_more_put_chunk (32 * i) out f (32 * i + 16) (omega (arith, long_f)) (omega arith) in
     let on : drop 16 (drop (16 * i) s) ≡ drop (16 * (i + 1)) s = drop-drop 16 (16 * i) s ∙ ap (λ (k : ℕ). drop k s) (omega arith) in
-    let front : take (32 * (i + 1)) (put_chunk (32 * i + 16) (put_chunk (32 * i) out f) g) ≡ take (32 * i) out ++ (f ++ g) = second ∙ ap (λ (t : List ℕ). t ++ g) first ∙ append_assoc (take (32 * i) out) f g in
-    let rest : (f ++ g) ++ encode_lower (drop (16 * (i + 1)) s) ≡ encode_lower (drop (16 * i) s) = ap (λ (t : List ℕ). t ++ encode_lower (drop (16 * (i + 1)) s)) told ∙ ap (λ (t : List ℕ). encode_lower (take 16 (drop (16 * i) s)) ++ encode_lower t) (sym on) ∙ encoded_parted 16 (drop (16 * i) s) in
-    ap (λ (t : List ℕ). t ++ encode_lower (drop (16 * (i + 1)) s)) front
+    let prefix : take (32 * (i + 1)) (put_chunk (32 * i + 16) (put_chunk (32 * i) out f) g) ≡ take (32 * i) out ++ (f ++ g) = second ∙ ap (λ (t : List ℕ). t ++ g) first ∙ append_assoc (take (32 * i) out) f g in
+    let rest : (f ++ g) ++ encode_lower (drop (16 * (i + 1)) s) ≡ encode_lower (drop (16 * i) s) = ap (λ (t : List ℕ). t ++ encode_lower (drop (16 * (i + 1)) s)) reported ∙ ap (λ (t : List ℕ). encode_lower (take 16 (drop (16 * i) s)) ++ encode_lower t) (sym on) ∙ encoded_parted 16 (drop (16 * i) s) in
+    ap (λ (t : List ℕ). t ++ encode_lower (drop (16 * (i + 1)) s)) prefix
     ∙ append_assoc (take (32 * i) out) (f ++ g) (encode_lower (drop (16 * (i + 1)) s))
     ∙ ap (λ (t : List ℕ). take (32 * i) out ++ t) rest ∙ so_far
 

@@ -1,4 +1,4 @@
--- The word of digits that a text begins with, of which a front is decoded before the rest.
+-- The word of digits that a text begins with, of which a prefix is decoded before the rest.
 use Rattle.std.proofs.Common.{◌≡◌, ℕ, zero, suc, ◌+◌, ◌-◌, ◌*◌, ◌/◌, ◌%◌, ◌≤◌, ◌==◌, ◌&&◌, List, [], ◌∷◌, ◌++◌, get_or, length, take, drop, Bool, true, false, if◌then◌else◌, nat_eq, Option, None, Some, refl, sym, ap, ap₂, ◌∙◌, arith, inl, inr}
 use Rattle.std.specs.List.{onto_first}
 use Rattle.std.specs.Result.{result_ok}
@@ -10,7 +10,7 @@ use Rattle.bp_script.specs.Commands.{bytes_spelled, words_of}
 use Rattle.bp_script.specs.Lines.{first_word, bytes_in_word}
 use Rattle.bp_script.proofs.DigitRuns.{both, both_nil, bytes, bytes_joined, decoded_is, one, one_none}
 
--- ---- a word behind digits
+-- ---- a word after digits
 
 digit_is : (a v : ℕ) → hex_digit_value a ≡ Some v → (a == 32) ≡ false
 digit_is a v is = go (a == 32) refl
@@ -51,24 +51,24 @@ bytes_are s =
       | inr odd ↦ ap result_ok (decode_of-odd s (omega (arith, odd))) ∙ sym (odd_none (length s / 2) s (omega (arith, odd)))
     ]
 
--- ---- the first word of a text whose front is decoded
+-- ---- the first word of a text whose prefix is decoded
 
 pub words_split : (n : ℕ) (text u w : List ℕ) (ws : List (List ℕ)) → 2 * n ≤ length text → result_ok (decode_of (take (2 * n) text)) ≡ Some u
     → words_of (take (length text - 2 * n) (drop (2 * n) text)) ≡ w ∷ ws
     → words_of text ≡ (take (2 * n) text ++ w) ∷ ws
-words_split n text u w ws within told split =
+words_split n text u w ws within reported split =
     let whole = take_all (length text - 2 * n) (drop (2 * n) text) (omega (arith, length-drop (2 * n) text)) in
     ap words_of (sym (take-append-drop (2 * n) text))
-    ∙ words_on (take (2 * n) text) (drop (2 * n) text) w ws u (sym (bytes_are (take (2 * n) text)) ∙ told) (rw whole at split)
+    ∙ words_on (take (2 * n) text) (drop (2 * n) text) w ws u (sym (bytes_are (take (2 * n) text)) ∙ reported) (rw whole at split)
 
 pub first_is : (text w : List ℕ) (ws : List (List ℕ)) → words_of text ≡ w ∷ ws → first_word text ≡ w
 first_is text w ws split = ap (λ words. get_or words 0 []) split
 
--- and the words behind it
-pub words_told : (text w : List ℕ) (ws : List (List ℕ)) → words_of text ≡ w ∷ ws → words_of text ≡ first_word text ∷ ws
-words_told text w ws split = split ∙ ap (λ word. word ∷ ws) (sym (first_is text w ws split))
+-- and the words after it
+pub words_reported : (text w : List ℕ) (ws : List (List ℕ)) → words_of text ≡ w ∷ ws → words_of text ≡ first_word text ∷ ws
+words_reported text w ws split = split ∙ ap (λ word. word ∷ ws) (sym (first_is text w ws split))
 
--- ---- the bytes of a word whose front is decoded
+-- ---- the bytes of a word whose prefix is decoded
 
 long_word : (f w : List ℕ) → 2 ≤ length f → bytes_in_word (f ++ w) ≡ result_ok (decode_of (f ++ w))
 long_word [] w long = absurd (omega (arith, long))
@@ -89,17 +89,17 @@ empty_of (a ∷ f) none = absurd (omega (arith, none))
 pub word_is : (n : ℕ) (f w u : List ℕ) (d : Option (List ℕ)) → length f ≡ 2 * n → length u ≡ n → result_ok (decode_of f) ≡ Some u
     → (n ≡ 0 → (length w == 0) ≡ false) → d ≡ (if n == 0 then bytes_spelled w else result_ok (decode_of w))
     → bytes_in_word (f ++ w) ≡ both (Some u) d
-word_is n f w u d long room told some is =
+word_is n f w u d long room reported some is =
     elim (cases_eq n 0) [
       | inl none ↦
           let test = eq-eqb n 0 none in
-          let no_front = empty_of f (omega (arith, long, none)) in
+          let no_prefix = empty_of f (omega (arith, long, none)) in
           let no_bytes = empty_of u (omega (arith, room, none)) in
-          rw (no_front, no_bytes, some none) (sym (rw test at is) ∙ both_nil d)
-      | inr front ↦
-          let test = ne_eqb n 0 front in
-          long_word f w (omega (arith, long, front)) ∙ bytes_are (f ++ w) ∙ bytes_joined n f w long
-          ∙ ap₂ both (sym (bytes_are f) ∙ told) (sym (bytes_are w) ∙ sym (rw test at is))
+          rw (no_prefix, no_bytes, some none) (sym (rw test at is) ∙ both_nil d)
+      | inr prefix ↦
+          let test = ne_eqb n 0 prefix in
+          long_word f w (omega (arith, long, prefix)) ∙ bytes_are (f ++ w) ∙ bytes_joined n f w long
+          ∙ ap₂ both (sym (bytes_are f) ∙ reported) (sym (bytes_are w) ∙ sym (rw test at is))
     ]
 
 -- so those of the first word of a text, whose bytes go into a memory
@@ -107,6 +107,6 @@ pub word_decoded : (n : ℕ) (text out w : List ℕ) (ws : List (List ℕ)) (d :
     → result_ok (decode_of (take (2 * n) text)) ≡ Some (take n out) → words_of (take (length text - 2 * n) (drop (2 * n) text)) ≡ w ∷ ws
     → (n ≡ 0 → (length w == 0) ≡ false) → d ≡ (if n == 0 then bytes_spelled w else result_ok (decode_of w))
     → bytes_in_word (first_word text) ≡ both (Some (take n out)) d
-word_decoded n text out w ws d within fits told split some is =
-    ap bytes_in_word (first_is text _ ws (words_split n text (take n out) w ws within told split))
-    ∙ word_is n (take (2 * n) text) w (take n out) d (omega (arith, within, length-take (2 * n) text)) (omega (arith, fits, length-take n out)) told some is
+word_decoded n text out w ws d within fits reported split some is =
+    ap bytes_in_word (first_is text _ ws (words_split n text (take n out) w ws within reported split))
+    ∙ word_is n (take (2 * n) text) w (take n out) d (omega (arith, within, length-take (2 * n) text)) (omega (arith, fits, length-take n out)) reported some is

@@ -18,15 +18,15 @@ pub piece_fits : (pieces : List (Bor (List ℕ))) (i at : ℕ) (d : Bor (List �
     at ≡ length (joined (take i pieces)) → at + length (get_or pieces i d).now ≤ length into
 piece_fits pieces i at d into first low room end = omega (arith, length-flat_map-take (λ (piece : Bor (List ℕ)). piece.now) pieces i d low)
 
--- a piece behind what was written
+-- a piece after what was written
 pub piece_placed : (before piece into first new : List ℕ) (at end : ℕ) → into ≡ before ++ drop at first → at ≡ length before →
     new ≡ take at into ++ piece ++ drop (at + length piece) into → end ≡ at + length piece → new ≡ (before ++ piece) ++ drop end first
 piece_placed before piece into first new at end is len put ends =
     let same : length before ≡ at = sym len in
-    let front : take at into ≡ before = ap (take at) is ∙ take_at before (drop at first) at same in
+    let prefix : take at into ≡ before = ap (take at) is ∙ take_at before (drop at first) at same in
     let back : drop (at + length piece) into ≡ drop end first =
     ap (drop (at + length piece)) is ∙ drop-append-drop at first before (at + length piece) (omega arith) same ∙ ap (λ n. drop n first) (sym ends) in
-    put ∙ ap₂ (λ x y. x ++ piece ++ y) front back
+    put ∙ ap₂ (λ x y. x ++ piece ++ y) prefix back
 
 -- two pieces at a place
 pub two_placed : (first one two middle new : List ℕ) (at mid end : ℕ) → at ≤ length first → middle ≡ take at first ++ one ++ drop (at + length one) first → mid ≡ at + length one →
@@ -37,7 +37,7 @@ two_placed first one two middle new at mid end inside put mid_is also end_is =
     piece_placed (take at first ++ one) two middle first new mid end (put ∙ ap (λ n. take at first ++ one ++ drop n first) (sym mid_is)) (omega (arith, mid_is, long, length-append (take at first) one)) also end_is
     ∙ ap (λ n. take at first ++ one ++ two ++ drop n first) last
 
--- a space and a piece behind what was written to the front
+-- a space and a piece after what was written to the prefix
 pub spaced_placed : (before piece into first new : List ℕ) (at end : ℕ) → into ≡ before ++ drop at first → at ≡ length before →
     new ≡ take at into ++ 32 ∷ [] ++ piece ++ drop (at + 1 + length piece) into → end ≡ at + 1 + length piece → new ≡ before ++ 32 ∷ [] ++ piece ++ drop end first
 spaced_placed before piece into first new at end is len put ends =

@@ -56,7 +56,7 @@ all_digits (d ∷ ds) bytes all = go (is_ascii_digit d) refl (all_digits ds (λ 
     go true at rest = (omega (arith, digit_is d (bytes 0) at, is_digit d at), rest (rw at at all))
     go false at rest = absurd (true≢false (sym (rw at at all)))
 
--- one more digit fits behind so few
+-- one more digit fits after so few
 pub few_fit : (ds : List ℕ) → ((k : ℕ) → get_or ds k 0 < 256) → list_all is_ascii_digit ds ≡ true → length ds ≤ 18 → digits_value 10 ds * 10 + 9 < 2 ^ 64
 few_fit ds bytes all few =
     let below : digits_value 10 ds < 10 ^ length ds = digits_value-lt 10 ds (all_digits ds bytes all) in
@@ -69,8 +69,8 @@ all_fit ds bytes all few =
     let most : 10 ^ length ds ≤ 10 ^ 19 = pow-le-pow_right {n = 10} (omega arith) few in
     omega (arith, below, most)
 
-pub bytes_of_front : (word : List ℕ) (n : ℕ) → ((k : ℕ) → get_or word k 0 < 256) → (k : ℕ) → get_or (take n word) k 0 < 256
-bytes_of_front word zero bytes k = omega arith
-bytes_of_front [] (suc n) bytes k = omega arith
-bytes_of_front (b ∷ word) (suc n) bytes zero = bytes 0
-bytes_of_front (b ∷ word) (suc n) bytes (suc k) = bytes_of_front word n (λ j. bytes (suc j)) k
+pub bytes_of_prefix : (word : List ℕ) (n : ℕ) → ((k : ℕ) → get_or word k 0 < 256) → (k : ℕ) → get_or (take n word) k 0 < 256
+bytes_of_prefix word zero bytes k = omega arith
+bytes_of_prefix [] (suc n) bytes k = omega arith
+bytes_of_prefix (b ∷ word) (suc n) bytes zero = bytes 0
+bytes_of_prefix (b ∷ word) (suc n) bytes (suc k) = bytes_of_prefix word n (λ j. bytes (suc j)) k

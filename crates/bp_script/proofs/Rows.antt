@@ -150,10 +150,10 @@ long_with_space verb first second third i inside is =
     go false false false true = refl
     go false false false false = refl
 
--- what is behind the third space, as a whole
-pub asked_behind : (verb first second rest : List ℕ) → bytes_eq verb (codes "batch") ≡ false → 0 < length first → 0 < length second → 0 < length rest
+-- what is after the third space, as a whole
+pub asked_after : (verb first second rest : List ℕ) → bytes_eq verb (codes "batch") ≡ false → 0 < length first → 0 < length second → 0 < length rest
     → long_command verb first second rest ≡ asked_by (verb ∷ first ∷ second ∷ words_of rest)
-asked_behind verb first second rest other some some_second some_rest = go (position (λ b. b == 32) rest) refl
+asked_after verb first second rest other some some_second some_rest = go (position (λ b. b == 32) rest) refl
   where
     go : (found : Option ℕ) → position (λ b. b == 32) rest ≡ found → long_command verb first second rest ≡ asked_by (verb ∷ first ∷ second ∷ words_of rest)
     go None at = rw (slice_split-none (λ b. b == 32) rest at) (sym (asked_four verb first second rest other some some_second some_rest))

@@ -18,16 +18,16 @@ both xs ys one two = list_all-append (λ b. not (b == 10)) xs ys ∙ both_true _
 path_line : (text : List ℕ) → IsWord text → IsOneLine (path_word text)
 path_line text word = word_line (path_word text) (path_whole text word.bytes)
 
--- a word behind another
-behind : (xs ys : List ℕ) → IsOneLine xs → IsOneLine ys → IsOneLine (xs ++ codes " " ++ ys)
-behind xs ys one two = both (xs ++ codes " ") ys (both xs (codes " ") one refl) two
+-- a word after another
+following : (xs ys : List ℕ) → IsOneLine xs → IsOneLine ys → IsOneLine (xs ++ codes " " ++ ys)
+following xs ys one two = both (xs ++ codes " ") ys (both xs (codes " ") one refl) two
 
 -- a verb, a path and two numbers
 read_line : (verb text : List ℕ) (offset len : ℕ) → IsOneLine verb → IsWord text → offset < 2 ^ 64 → len ≤ max_read
     → IsOneLine (verb ++ path_word text ++ codes " " ++ decimal offset ++ codes " " ++ decimal len)
 read_line verb text offset len one word low few =
-    behind (verb ++ path_word text ++ codes " " ++ decimal offset) (decimal len)
-    (behind (verb ++ path_word text) (decimal offset) (both verb (path_word text) one (path_line text word)) (word_line (decimal offset) (decimal_whole offset low)))
+    following (verb ++ path_word text ++ codes " " ++ decimal offset) (decimal len)
+    (following (verb ++ path_word text) (decimal offset) (both verb (path_word text) one (path_line text word)) (word_line (decimal offset) (decimal_whole offset low)))
     (word_line (decimal len) (decimal_whole len (omega (arith, few))))
 
 pub one_line : (call : Call) → IsSpelled call → IsOneLine (call_line call)
@@ -40,12 +40,12 @@ one_line (stat text) is = both (codes "stat ") (path_word text) refl (path_line 
 one_line (links text) is = both (codes "links ") (path_word text) refl (path_line text is)
 one_line (read text offset len) is = read_line (codes "read ") text offset len refl is.0 is.1 is.2
 one_line (write text offset new) is =
-    behind (codes "write " ++ path_word text ++ codes " " ++ decimal offset) (digits_or_dash new)
-    (behind (codes "write " ++ path_word text) (decimal offset) (both (codes "write ") (path_word text) refl (path_line text is.0)) (word_line (decimal offset) (decimal_whole offset is.1)))
+    following (codes "write " ++ path_word text ++ codes " " ++ decimal offset) (digits_or_dash new)
+    (following (codes "write " ++ path_word text) (decimal offset) (both (codes "write ") (path_word text) refl (path_line text is.0)) (word_line (decimal offset) (decimal_whole offset is.1)))
     (word_line (digits_or_dash new) (dash_whole new is.2))
-one_line (truncate text size) is = behind (codes "truncate " ++ path_word text) (decimal size) (both (codes "truncate ") (path_word text) refl (path_line text is.0)) (word_line (decimal size) (decimal_whole size is.1))
-one_line (rename from to) is = behind (codes "rename " ++ path_word from) (path_word to) (both (codes "rename ") (path_word from) refl (path_line from is.0)) (path_line to is.1)
-one_line (link from to) is = behind (codes "link " ++ path_word from) (path_word to) (both (codes "link ") (path_word from) refl (path_line from is.0)) (path_line to is.1)
+one_line (truncate text size) is = following (codes "truncate " ++ path_word text) (decimal size) (both (codes "truncate ") (path_word text) refl (path_line text is.0)) (word_line (decimal size) (decimal_whole size is.1))
+one_line (rename from to) is = following (codes "rename " ++ path_word from) (path_word to) (both (codes "rename ") (path_word from) refl (path_line from is.0)) (path_line to is.1)
+one_line (link from to) is = following (codes "link " ++ path_word from) (path_word to) (both (codes "link ") (path_word from) refl (path_line from is.0)) (path_line to is.1)
 one_line upgrade is = refl
 one_line snap is = refl
 one_line unsnap is = refl

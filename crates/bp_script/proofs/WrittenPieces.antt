@@ -1,9 +1,9 @@
--- A text that is written piece by piece, behind what stood in the buffer.
+-- A text that is written piece by piece, after what stood in the buffer.
 use Rattle.std.proofs.Common.{◌≡◌, ℕ, ◌+◌, ◌≤◌, List, [], ◌++◌, length, take, drop, sym, ◌∙◌, ap, arith, length-append, append-nil}
 use Rattle.std.proofs.lemmas.List.{append_assoc, take_at, take-append-drop, length-take-le}
 use Rattle.bp_script.proofs.Joining.{piece_placed}
 
--- What is written up to `end` and what is left make up the whole, and the bytes behind it are still those of `first`.
+-- What is written up to `end` and what is left make up the whole, and the bytes after it are still those of `first`.
 pub record IsWritten (first whole left into : List ℕ) (end : ℕ) : Type 0 where
   pub text : take end into ++ left ≡ whole
   pub rest : into ≡ take end into ++ drop end first
@@ -27,8 +27,8 @@ module _ (first whole left into : List ℕ) (end : ℕ) (written : IsWritten fir
   pub one_more : (piece later new : List ℕ) (next : ℕ) → left ≡ piece ++ later → new ≡ take end into ++ piece ++ drop (end + length piece) into →
       next ≡ end + length piece → next ≤ length new → IsWritten first whole later new next
   one_more piece later new next cut put ends inside = record {
-    text = ap (λ xs. xs ++ later) front ∙ append_assoc before piece later ∙ ap (λ xs. before ++ xs) (sym cut) ∙ written.text;
-    rest = placed ∙ ap (λ xs. xs ++ drop next first) (sym front);
+    text = ap (λ xs. xs ++ later) prefix ∙ append_assoc before piece later ∙ ap (λ xs. before ++ xs) (sym cut) ∙ written.text;
+    rest = placed ∙ ap (λ xs. xs ++ drop next first) (sym prefix);
     inside = inside;
   }
     where
@@ -41,16 +41,16 @@ module _ (first whole left into : List ℕ) (end : ℕ) (written : IsWritten fir
       placed : new ≡ before ++ piece ++ drop next first
       placed = piece_placed before piece into first new end next written.rest (sym long) put ends
 
-      front : take next new ≡ before ++ piece
-      front = ap (take next) placed ∙ take_at (before ++ piece) (drop next first) next (omega (arith, length-append before piece, long, ends))
+      prefix : take next new ≡ before ++ piece
+      prefix = ap (take next) placed ∙ take_at (before ++ piece) (drop next first) next (omega (arith, length-append before piece, long, ends))
 
 -- all is written
 module _ (first whole left into : List ℕ) (end : ℕ) (written : IsWritten first whole left into end) (none : left ≡ []) where
-  front : take end into ≡ whole
-  front = sym (append-nil (take end into)) ∙ ap (λ xs. take end into ++ xs) (sym none) ∙ written.text
+  prefix : take end into ≡ whole
+  prefix = sym (append-nil (take end into)) ∙ ap (λ xs. take end into ++ xs) (sym none) ∙ written.text
 
   pub end_is : end ≡ length whole
-  end_is = omega (arith, length-take-le end into written.inside, ap length front)
+  end_is = omega (arith, length-take-le end into written.inside, ap length prefix)
 
   pub text_is : into ≡ whole ++ drop end first
-  text_is = written.rest ∙ ap (λ xs. xs ++ drop end first) front
+  text_is = written.rest ∙ ap (λ xs. xs ++ drop end first) prefix

@@ -87,11 +87,11 @@ abbrev pub first_word : List ℕ → List ℕ
 first_word text = get_or (words_of text) 0 []
 
 -- The fields of a text, none if there is no text; and the number of its bytes.
-abbrev pub words_behind : Option (Bor (List ℕ)) → List (List ℕ)
-words_behind text = option_map_or (λ t. words_of t.now) text []
+abbrev pub words_after : Option (Bor (List ℕ)) → List (List ℕ)
+words_after text = option_map_or (λ t. words_of t.now) text []
 
-abbrev pub len_behind : Option (Bor (List ℕ)) → ℕ
-len_behind text = option_map_or (λ t. length t.now) text 0
+abbrev pub len_after : Option (Bor (List ℕ)) → ℕ
+len_after text = option_map_or (λ t. length t.now) text 0
 
 -- The batch of pieces whose paths and bytes are parts of a text.
 abbrev pub batch_in : List ℕ → List GivenPiece → Call

@@ -54,7 +54,7 @@ links_text count = codes "links " ++ decimal count ++ codes "\n"
 
 -- A line of two numbers.
 abbrev pub pair_text : List ℕ → ℕ → ℕ → List ℕ
-pair_text front first second = front ++ decimal first ++ codes " " ++ decimal second ++ codes "\n"
+pair_text prefix first second = prefix ++ decimal first ++ codes " " ++ decimal second ++ codes "\n"
 
 -- The line with the numbers of free and of live blocks.
 abbrev pub space_text : ℕ → ℕ → List ℕ

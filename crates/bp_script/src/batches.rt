@@ -3,13 +3,13 @@
 ghost use Rattle.bp_plain.specs.Seen.{LiesIn, piece_in, spanned};
 ghost use Rattle.bp_script.specs.Commands.Command.{bad_syntax, file_call};
 ghost use Rattle.bp_script.specs.Commands.{asked_batch, path_bytes, words_of};
-ghost use Rattle.bp_script.specs.Lines.{batch_in, first_piece, first_word, len_behind, most_room, bytes_in_word, words_at, words_behind, words_len};
+ghost use Rattle.bp_script.specs.Lines.{batch_in, first_piece, first_word, len_after, most_room, bytes_in_word, words_at, words_after, words_len};
 ghost use Rattle.std.specs.List.{All};
 ghost use Rattle.std.specs.Option.{option_map_or};
 ghost use Rattle.std.specs.Prelude.{if◌then◌else◌, ◌∷◌, ◌+◌, ◌≡◌, ◌≤◌, IfOk, OnErr, OnOk, [], length, option_map, take, vec_capacity};
 ghost use Rattle.std.specs.Result.{is_ok, result_ok};
 
-use crate::decoding::{decode_word, lengthen, put_path, split_once};
+use crate::fields::{decode_word, lengthen, put_path, split_once};
 use crate::lines::Syntax;
 use crate::numbers::number;
 use arrayvec::ArrayVec;
@@ -67,9 +67,9 @@ pub(crate) fn decode_pieces(
 ///
 /// * `Syntax`: the text has fewer than three fields.
 fn next_words(text: Option<&[u8]>) -> Result<Option<PieceWords<'_>>, Syntax>
-    ensures split { IfOk result (λ next. option_map_or words_at next [] ≡ words_behind text.entry) }
-    ensures few { OnErr result ((1 ≤ length (words_behind text.entry)) × (length (words_behind text.entry) ≤ 2)) }
-    ensures len { IfOk result (λ next. option_map_or words_len next 0 ≤ len_behind text.entry) }
+    ensures split { IfOk result (λ next. option_map_or words_at next [] ≡ words_after text.entry) }
+    ensures few { OnErr result ((1 ≤ length (words_after text.entry)) × (length (words_after text.entry) ≤ 2)) }
+    ensures len { IfOk result (λ next. option_map_or words_len next 0 ≤ len_after text.entry) }
 {
     let Some(text) = text else {
         return Ok(None);
@@ -96,12 +96,12 @@ fn add_piece<'a>(
     requires low { at + length words.path.now + length words.rest.now ≤ most_room }
     ensures piece { option_map (λ added. piece_in text.new.items added.0) (result_ok result) ≡
         first_piece words.entry }
-    ensures behind { IfOk result (λ added. words_of words.entry.rest.now ≡ first_word words.entry.rest.now ∷ words_behind added.1) }
+    ensures following { IfOk result (λ added. words_of words.entry.rest.now ≡ first_word words.entry.rest.now ∷ words_after added.1) }
     ensures lies { IfOk result (λ added. LiesIn text.new.items added.0) }
     ensures later { IfOk result (λ added. at ≤ added.0.bytes.at) }
     ensures order { IfOk result (λ added. added.0.path.at + added.0.path.len ≤ added.0.bytes.at) }
-    ensures front { OnOk result (take at text.new.items ≡ take at text.old.items) }
-    ensures len { IfOk result (λ added. added.0.bytes.at + added.0.bytes.len + len_behind added.1 ≤ at + words_len words.entry) }
+    ensures prefix { OnOk result (take at text.new.items ≡ take at text.old.items) }
+    ensures len { IfOk result (λ added. added.0.bytes.at + added.0.bytes.len + len_after added.1 ≤ at + words_len words.entry) }
     ensures less { IfOk result (λ added. option_map_or (λ rest. length rest.now + 1) added.1 0 ≤ length words.entry.rest.now) }
     ensures room { vec_capacity text.old ≤ vec_capacity text.new }
 {
@@ -112,14 +112,14 @@ fn add_piece<'a>(
         return Err(Syntax);
     };
     let path = add_path_part(words.path, text, at);
-    let (bytes, behind) = add_bytes_part(words.rest, text, end_of(path))?;
+    let (bytes, following) = add_bytes_part(words.rest, text, end_of(path))?;
     Ok((
         Piece {
             path,
             offset,
             bytes,
         },
-        behind,
+        following,
     ))
 }
 
@@ -139,7 +139,7 @@ fn add_path_part(word: &[u8], text: &mut Vec<u8>, at: usize) -> Span
     ensures part { spanned text.new.items result ≡ path_bytes word.now }
     ensures place { result.at ≡ at }
     ensures lies { result.at + result.len ≤ length text.new.items }
-    ensures front { take at text.new.items ≡ take at text.old.items }
+    ensures prefix { take at text.new.items ≡ take at text.old.items }
     ensures len { result.len ≤ length word.now }
     ensures room { vec_capacity text.old ≤ vec_capacity text.new }
 {
@@ -165,19 +165,19 @@ fn add_bytes_part<'a>(
     requires room { at + length rest.now ≤ vec_capacity text.old }
     requires low { at + length rest.now ≤ most_room }
     ensures part { option_map (λ added. spanned text.new.items added.0) (result_ok result) ≡ bytes_in_word (first_word rest.now) }
-    ensures behind { IfOk result (λ added. words_of rest.now ≡ first_word rest.now ∷ words_behind added.1) }
+    ensures following { IfOk result (λ added. words_of rest.now ≡ first_word rest.now ∷ words_after added.1) }
     ensures place { IfOk result (λ added. added.0.at ≡ at) }
     ensures lies { IfOk result (λ added. added.0.at + added.0.len ≤ length text.new.items) }
-    ensures front { take at text.new.items ≡ take at text.old.items }
+    ensures prefix { take at text.new.items ≡ take at text.old.items }
     ensures len { IfOk result (λ added. added.0.len + option_map_or (λ more. length more.now + 1) added.1 0 ≤ length rest.now) }
     ensures room { vec_capacity text.old ≤ vec_capacity text.new }
 {
     // Long enough for the bytes of all remaining fields: mostly only the first piece of a line fills missing bytes.
     lengthen(at + rest.len() / 2, text);
-    let (len, behind) = decode_word(rest, &mut text[at..])?;
+    let (len, following) = decode_word(rest, &mut text[at..])?;
     let part = Span {
         at: at as u32,
         len: len as u32,
     };
-    Ok((part, behind))
+    Ok((part, following))
 }

@@ -11,7 +11,7 @@ ghost use Rattle.std.specs.Result.{is_ok, result_ok};
 ghost use Rattle.std.specs.Prelude.{◌*◌, if◌then◌else◌, None, Ok, Some, IfOk, OnOk, length, min, option_map, ◌∷◌, ◌+◌, ◌<◌, ◌≡◌, ◌≤◌};
 
 use crate::batches::{PieceWords, decode_pieces};
-use crate::decoding::{decode_bytes, decode_escaped, decoded_or, digits_of, split_once};
+use crate::fields::{decode_bytes, decode_escaped, decoded_or, digits_of, split_once};
 use crate::lines::{
     Line, Syntax, bare, cache, path_line, read, snap_read, storm, truncate, whole_crash,
 };
@@ -76,13 +76,13 @@ impl Decoded {
     {
         let (verb, rest) = split_once(bytes, b' ');
         match rest {
-            Some(rest) => self.behind_verb(verb, rest),
+            Some(rest) => self.after_verb(verb, rest),
             None => bare(verb),
         }
     }
 
     /// Decodes a line from its verb and the text after the space of the verb.
-    fn behind_verb<'a>(&'a mut self, verb: &[u8], rest: &'a [u8]) -> Result<Line<'a>, Syntax>
+    fn after_verb<'a>(&'a mut self, verb: &[u8], rest: &'a [u8]) -> Result<Line<'a>, Syntax>
         requires { length rest.now ≤ decoded_room self.old }
         ensures* keeps_room { sem 𝓛 (KeepsRoom self.entry) }
         ensures meaning { line_asks result ≡ decoded (asked_by (verb.now ∷ words_of rest.now)) }
@@ -93,13 +93,13 @@ impl Decoded {
             return Err(Syntax);
         }
         match more {
-            Some(more) => self.behind_pair(verb, word, more),
+            Some(more) => self.after_pair(verb, word, more),
             None => self.on_word(verb, word),
         }
     }
 
     /// Decodes a line from two fields and the text after the space of the second.
-    fn behind_pair<'a>(
+    fn after_pair<'a>(
         &'a mut self,
         verb: &[u8],
         first: &'a [u8],

@@ -71,19 +71,19 @@ pub(crate) fn decode_digits(digits: &[u8], into: &mut [u8]) -> bool
     requires { length digits.now ≡ 2 * length into.old }
     ensures { result_ok (decode_of digits.now) ≡ (if result then Some into.new else None) }
 {
-    let front = decode_front(digits, into);
-    if front + LANES <= into.len() {
+    let prefix = decode_prefix(digits, into);
+    if prefix + LANES <= into.len() {
         // The next run has a byte that is no digit.
         return false;
     }
-    decode_few(&digits[2 * front..], &mut into[front..])
+    decode_few(&digits[2 * prefix..], &mut into[prefix..])
 }
 
 /// Decodes the digits that a text begins with, run by run, up to the first run that has another byte. Returns the
 /// number of decoded bytes.
-pub(crate) fn decode_front(text: &[u8], into: &mut [u8]) -> usize
+pub(crate) fn decode_prefix(text: &[u8], into: &mut [u8]) -> usize
     requires { length text.now / 2 ≤ length into.old }
-    ensures front { result_ok (decode_of (take (2 * result) text.now)) ≡ Some (take result into.new) }
+    ensures prefix { result_ok (decode_of (take (2 * result) text.now)) ≡ Some (take result into.new) }
     ensures within { 2 * result ≤ length text.now }
     ensures last { 2 * (result + LANES) ≤ length text.now → result_ok (decode_of (take (2 * LANES) (drop (2 * result) text.now))) ≡ None }
 {
@@ -153,8 +153,8 @@ fn decode_few(digits: &[u8], into: &mut [u8]) -> bool
         return decode_pairs(digits, into);
     }
     let (first, rest) = digits.split_at(2 * FEW_LANES);
-    let (front, back) = into.split_at_mut(FEW_LANES);
-    decode_short_run(first, front) && decode_pairs(rest, back)
+    let (prefix, back) = into.split_at_mut(FEW_LANES);
+    decode_short_run(first, prefix) && decode_pairs(rest, back)
 }
 
 /// Decodes a short run of digits, as `decode_digits` does.
@@ -211,8 +211,8 @@ pub(crate) fn encode_digits(content: &[u8], into: &mut [u8])
 {
     let whole = content.len() / LANES * LANES;
     let (long, short) = content.split_at(whole);
-    let (front, back) = into.split_at_mut(2 * whole);
-    encode_runs(long, front);
+    let (prefix, back) = into.split_at_mut(2 * whole);
+    encode_runs(long, prefix);
     encode_bytes(short, back);
 }
 

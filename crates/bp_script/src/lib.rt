@@ -4,8 +4,8 @@
 mod batches;
 mod calls;
 mod decoded;
-mod decoding;
 mod digits;
+mod fields;
 pub mod laws;
 mod lines;
 mod notices;

@@ -58,7 +58,7 @@ pub enum Notice {
 /// Writes a notice, one line with its newline, to the beginning of `into`, and returns its length in bytes.
 pub fn announce(notice: &Notice, into: &mut [u8]) -> usize
     requires { MAX_NOTICE ≤ length into.old }
-    ensures front { take result into.new ≡ notice_text notice.now }
+    ensures prefix { take result into.new ≡ notice_text notice.now }
     ensures whole { into.new ≡ notice_text notice.now ++ drop result into.old }
     ensures len { result ≡ length (notice_text notice.now) }
     ensures fits { result ≤ length into.new }

@@ -24,18 +24,18 @@ pub(crate) fn write_pieces(into: &mut [u8], pieces: &[&[u8]]) -> usize
     end
 }
 
-/// Writes a line of two numbers after `front`, and returns its length in bytes.
-pub(crate) fn write_pair(into: &mut [u8], front: &[u8], first: u64, second: u64) -> usize
-    requires { length front.now + PAIR_ROOM ≤ length into.old }
-    ensures whole { into.new ≡ pair_text front.now first second ++ drop result into.old }
-    ensures len { result ≡ length (pair_text front.now first second) }
+/// Writes a line of two numbers after `prefix`, and returns its length in bytes.
+pub(crate) fn write_pair(into: &mut [u8], prefix: &[u8], first: u64, second: u64) -> usize
+    requires { length prefix.now + PAIR_ROOM ≤ length into.old }
+    ensures whole { into.new ≡ pair_text prefix.now first second ++ drop result into.old }
+    ensures len { result ≡ length (pair_text prefix.now first second) }
 {
     let mut left = itoa::Buffer::new();
     let mut right = itoa::Buffer::new();
     write_pieces(
         into,
         &[
-            front,
+            prefix,
             left.format(first).as_bytes(),
             b" ",
             right.format(second).as_bytes(),

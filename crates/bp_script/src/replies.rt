@@ -70,7 +70,7 @@ pub enum Said<'a> {
 pub fn say(said: &Said<'_>, into: &mut [u8]) -> usize
     requires room { max_text ≤ length into.old }
     requires short { FitsReply said.now }
-    ensures front { take result into.new ≡ said_text said.now }
+    ensures prefix { take result into.new ≡ said_text said.now }
     ensures whole { into.new ≡ said_text said.now ++ drop result into.old }
     ensures len { result ≡ length (said_text said.now) }
     ensures fits { result ≤ length into.new }
@@ -204,13 +204,13 @@ fn say_name(kind: Kind, name: &[u8], into: &mut [u8]) -> usize
     ensures whole { into.new ≡ entry_text (kind, name.now) ++ drop result into.old }
     ensures len { result ≡ length (entry_text (kind, name.now)) }
 {
-    let end = put(into, 0, name_front(kind).as_bytes());
+    let end = put(into, 0, name_prefix(kind).as_bytes());
     let end = put_name(into, end, name);
     put(into, end, b"\n")
 }
 
 /// Returns the text before the name in the line of an entry.
-fn name_front(kind: Kind) -> &'static str
+fn name_prefix(kind: Kind) -> &'static str
     ensures { result.now ≡ codes "entry " ++ kind_letter kind ++ codes " " }
 {
     match kind {

@@ -1,4 +1,4 @@
--- What a region and its second tree's view have alike: the number of words, and each run of words behind the head.
+-- What a region and its second tree's view have alike: the number of words, and each run of words after the head.
 use Rattle.std.proofs.Common.{◌≡◌, ℕ, ◌+◌, ◌-◌, ◌≤◌, length, set, take, ◌∙◌, ap, arith}
 use Rattle.std.proofs.lemmas.List.{drop-set-lt}
 use Rattle.std.specs.Prelude.{slice_range}
@@ -12,6 +12,6 @@ pub length-second : (memory : Memory) → length (snapshot_of (current_words mem
 length-second memory = length-snapshot (current_words memory) ∙ length-current_words memory
 
 pub second-run : (image : Image) (first count : ℕ) → 8 ≤ first → slice_range (snapshot_of image) first (first + count) ≡ slice_range image first (first + count)
-second-run image first count behind =
+second-run image first count beyond =
     ap (take ((first + count) - first))
-    (drop-set-lt first (set image 2 (word image 4)) 3 (word image 5) (omega (arith, behind)) ∙ drop-set-lt first image 2 (word image 4) (omega (arith, behind)))
+    (drop-set-lt first (set image 2 (word image 4)) 3 (word image 5) (omega (arith, beyond)) ∙ drop-set-lt first image 2 (word image 4) (omega (arith, beyond)))

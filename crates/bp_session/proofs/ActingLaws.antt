@@ -58,7 +58,7 @@ size-file_call old call answer new done = ap (λ (m : Memory). length m.base) do
 
 pub does_call : (old new : Memory) (call : Call) (answer : Answer) → FileCall old call answer new → Does old (file_call call) Answered answer new
 does_call old new call answer done = record {
-  line = λ saved. record { answer = answer; told = refl; does = done; saved = refl };
+  line = λ saved. record { answer = answer; reported = refl; does = done; saved = refl };
   size = size-file_call old call answer new done;
   capacity = capacity-file_call old call answer new done;
   comes = refl;
@@ -67,7 +67,7 @@ does_call old new call answer done = record {
 
 pub does_sync : (old new : Memory) (answer : Answer) → new ≡ drained old → Does old sync Synced answer new
 does_sync old new answer done = record {
-  line = λ saved. record { told = refl; done = ap (λ m. state m (current_words old)) done };
+  line = λ saved. record { reported = refl; done = ap (λ m. state m (current_words old)) done };
   size = ap (λ (m : Memory). length m.base) done ∙ size-drained old;
   capacity = ap (λ (m : Memory). m.capacity) done;
   comes = refl;
@@ -76,7 +76,7 @@ does_sync old new answer done = record {
 
 pub does_space : (memory : Memory) (free live : ℕ) (answer : Answer) → HasSpace (current_words memory) free → HasLive (current_words memory) live → Does memory space (Counted free live) answer memory
 does_space memory free live answer has_free has_live = record {
-  line = λ saved. record { free = free; live = live; told = refl; has_free = has_free; has_live = has_live; same = refl };
+  line = λ saved. record { free = free; live = live; reported = refl; has_free = has_free; has_live = has_live; same = refl };
   size = refl;
   capacity = refl;
   comes = refl;
@@ -90,24 +90,24 @@ module _ (old new : Memory) (cut : PowerCut) (outcome : Outcome) (answer : Answe
   does_crashed command does line comes = record {
     line = λ saved. line saved (record {
       right = does.right;
-      told = ap (λ o. reply_of o answer) does.told;
+      reported = ap (λ o. reply_of o answer) does.reported;
       done = ap (λ m. state m saved) does.left;
     });
     size = ap (λ (m : Memory). length m.base) does.left ∙ size-crashed old cut;
     capacity = ap (λ (m : Memory). m.capacity) does.left;
-    comes = rw does.told (comes (kept_calls old.events cut) (call_ends old.events));
-    base = rw does.told tt;
+    comes = rw does.reported (comes (kept_calls old.events cut) (call_ends old.events));
+    base = rw does.reported tt;
   }
 
 pub does_crash : (old new : Memory) (wanted : Wanted) (outcome : Outcome) (answer : Answer) → CrashesTo old (cut_for old.events wanted) outcome new → Does old (crash wanted) outcome answer new
 does_crash old new wanted outcome answer (inl does) =
     does_crashed old new (cut_for old.events wanted) outcome answer (crash wanted) does (λ saved line. inl line) (λ c n. refl)
 does_crash old new wanted outcome answer (inr does) = record {
-  line = λ saved. inr (record { wrong = does.wrong; told = ap (λ o. reply_of o answer) does.told; same = ap (λ m. state m saved) does.same });
+  line = λ saved. inr (record { wrong = does.wrong; reported = ap (λ o. reply_of o answer) does.reported; same = ap (λ m. state m saved) does.same });
   size = ap (λ (m : Memory). length m.base) does.same;
   capacity = ap (λ (m : Memory). m.capacity) does.same;
-  comes = rw does.told refl;
-  base = rw does.told (ap (λ (m : Memory). m.base) does.same);
+  comes = rw does.reported refl;
+  base = rw does.reported (ap (λ (m : Memory). m.base) does.same);
 }
 
 -- a mask has a place for each bit of its bytes, of two digits each
@@ -124,16 +124,16 @@ pub does_cache : (old new : Memory) (seed : ℕ) (outcome : Outcome) (answer : A
 does_cache old new seed outcome answer (inl does) =
     does_crashed old new (caches_cut old seed) outcome answer (cache seed) does (λ saved line. inl line) (λ c n. refl)
 does_cache old new seed outcome answer (inr lacks) = record {
-  line = λ saved. inr (record { told = ap (λ o. reply_of o answer) lacks.told; same = ap (λ m. state m saved) lacks.same });
+  line = λ saved. inr (record { reported = ap (λ o. reply_of o answer) lacks.reported; same = ap (λ m. state m saved) lacks.same });
   size = ap (λ (m : Memory). length m.base) lacks.same;
   capacity = ap (λ (m : Memory). m.capacity) lacks.same;
-  comes = rw lacks.told refl;
-  base = rw lacks.told (ap (λ (m : Memory). m.base) lacks.same);
+  comes = rw lacks.reported refl;
+  base = rw lacks.reported (ap (λ (m : Memory). m.base) lacks.same);
 }
 
 pub does_log : (memory : Memory) (outcome : Outcome) (answer : Answer) → outcome ≡ Logged (length memory.events) (barriers memory.events) (call_ends memory.events) → Does memory log outcome answer memory
 does_log memory outcome answer is = record {
-  line = λ saved. record { told = ap (λ o. reply_of o answer) is; same = refl };
+  line = λ saved. record { reported = ap (λ o. reply_of o answer) is; same = refl };
   size = refl;
   capacity = refl;
   comes = rw is refl;
@@ -152,7 +152,7 @@ one_more_call_end events i event at = ap call_ends (taken_more events i event at
 
 pub does_long : (memory : Memory) (answer : Answer) → Does memory too_long TooLong answer memory
 does_long memory answer = record {
-  line = λ saved. record { told = refl; same = refl };
+  line = λ saved. record { reported = refl; same = refl };
   size = refl;
   capacity = refl;
   comes = refl;
@@ -175,8 +175,8 @@ to_save_other command outcome memory saved comes other = refl
 
 -- a crash comes to none
 pub crash_not_left : {P : Type 0} (old new : Memory) (cut : PowerCut) (outcome : Outcome) → CrashesTo old cut outcome new → outcome ≡ Synced → P
-crash_not_left old new cut outcome (inl does) e = absurd (let no : ◌≡◌ {A = Outcome} (Kept (kept_calls old.events cut) (call_ends old.events)) Synced = sym does.told ∙ e in cc)
-crash_not_left old new cut outcome (inr does) e = absurd (let no : ◌≡◌ {A = Outcome} BadChoice Synced = sym does.told ∙ e in cc)
+crash_not_left old new cut outcome (inl does) e = absurd (let no : ◌≡◌ {A = Outcome} (Kept (kept_calls old.events cut) (call_ends old.events)) Synced = sym does.reported ∙ e in cc)
+crash_not_left old new cut outcome (inr does) e = absurd (let no : ◌≡◌ {A = Outcome} BadChoice Synced = sym does.reported ∙ e in cc)
 
 pub no_sync_storm : (seed : ℕ) → ¬ (storm seed ≡ sync)
 no_sync_storm seed e = cc
@@ -203,7 +203,7 @@ module _ (old new : Memory) (command : Command) (answer : Answer) where
 
   module _ (is : command ≡ sync) (done : new ≡ drained old) where
     pub acts_synced : (saved : Image) (holds : Image → Type 0) → holds (current_words old) → Acts (state old saved) new holds command synced
-    acts_synced saved holds file = rw is (record { after = current_words old; line = record { told = refl; done = ap (λ m. state m (current_words old)) done }; file = file })
+    acts_synced saved holds file = rw is (record { after = current_words old; line = record { reported = refl; done = ap (λ m. state m (current_words old)) done }; file = file })
 
     pub fails_synced : (saved : Image) (partly : Image → Image → Type 0) → partly saved (current_words old) → SyncFails (state old saved) new partly command
     fails_synced saved partly file = record { is = is; drained = done; file = file }

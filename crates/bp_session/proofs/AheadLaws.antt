@@ -24,42 +24,42 @@ use Rattle.bp_session.specs.declared.broken.Broken.{Broken}
 use Rattle.bp_session.specs.declared.broken.Broken.TheVariants as cause
 use Rattle.bp_session.specs.Serving.{BreaksOff, Carries, DoesBreakOff, FailsLine, Keeps, LineOutcome, Moment, PieceOutcome, ServeOutcome, StopsAtSave, SyncFails}
 use Rattle.bp_replies.specs.Taking.{TakesPart}
-use Rattle.bp_session.specs.Gathering.{Clears, AwaitsReply, IsUnheard, IsUntold, LineGathers}
+use Rattle.bp_session.specs.Gathering.{Clears, AwaitsReply, IsUnheard, IsUnreported, LineGathers}
 use Rattle.bp_replies.specs.Gathering.{PassesOn}
-use Rattle.bp_replies.proofs.PassingLaws.{handed_behind, part_behind, passed_part, passes_behind, taken_behind, with_nothing, with_waiting}
+use Rattle.bp_replies.proofs.PassingLaws.{handed_after, part_after, passed_part, passes_after, taken_after, with_nothing, with_waiting}
 use Rattle.bp_session.proofs.OutcomeLaws.{files_fault, first_after, line_broken, line_stopped, line_whole, piece_newline, piece_quiet, piece_then, quiet, sink_fault, stops_after}
 use Rattle.bp_session.proofs.ChangedLaws.{holds_lost}
 use Rattle.bp_session.proofs.OthersLaws.{others_same, others_then}
 use Rattle.bp_session.proofs.SavingLaws.{stays_attached, still_attached}
-use Rattle.bp_session.proofs.ServingLaws.{all_as, breaks_as, breaks_behind, breaks_line, commands_at_newline, serves_as, serves_one, session_append, text_none}
+use Rattle.bp_session.proofs.ServingLaws.{all_as, breaks_as, breaks_later, breaks_line, commands_at_newline, serves_as, serves_one, session_append, text_none}
 
 -- ---- what a line adds to what a sink took and what waits
 
 added : (command : Command) (reply : List ℕ) (a b w : List ℕ) (t u v : Option (List ℕ)) (f g : View) → Clears command a w t u f g → PassesOn reply w b u v → Appends (with_waiting t a) (with_waiting v b) reply
 added command reply a b w t u v f g (inl same) passes =
-    passes_behind reply a b t v (subst (λ (s : Option (List ℕ)). PassesOn reply a b s v) same.2 (subst (λ (l : List ℕ). PassesOn reply l b u v) same.1 passes))
+    passes_after reply a b t v (subst (λ (s : Option (List ℕ)). PassesOn reply a b s v) same.2 (subst (λ (l : List ℕ). PassesOn reply l b u v) same.1 passes))
 added command reply a b w t u v f g (inr sent) passes =
     let one : PassesOn reply [] b u v = subst (λ (l : List ℕ). PassesOn reply l b u v) sent.0 passes in
-    let two : Appends u (with_waiting v b) reply = subst (λ (s : Option (List ℕ)). Appends s (with_waiting v b) reply) (with_nothing u) (passes_behind reply [] b u v one) in
-    Appends-trans (with_waiting t a) u (with_waiting v b) [] reply (handed_behind a t u sent.1) two
+    let two : Appends u (with_waiting v b) reply = subst (λ (s : Option (List ℕ)). Appends s (with_waiting v b) reply) (with_nothing u) (passes_after reply [] b u v one) in
+    Appends-trans (with_waiting t a) u (with_waiting v b) [] reply (handed_after a t u sent.1) two
 
--- a sync that couldn't save, behind what was handed over
+-- a sync that couldn't save, after what was handed over
 stops_handed : (old : State) (memory : Memory) (partly : Image → Image → Type 0) (command : Command) (more : List Command) (t u : Option (List ℕ)) → SyncFails old memory partly command → Appends t u []
     → StopsAtSave old memory partly (command ∷ more) t u
 stops_handed old memory partly command more t u fails took = record {
-  front = [];
+  prefix = [];
   last = command;
   more = more;
   are = refl;
   middle = old;
-  told = record { replies = []; session = refl; taken = rw text_none took };
+  reported = record { replies = []; session = refl; taken = rw text_none took };
   fails = fails;
 }
 
 -- what waited is handed over
 piece_handed : (most : ℕ) (held : List ℕ) (now : Moment) (u : Option (List ℕ)) → Appends now.taken u [] → PieceOutcome None most held [] held now (record now { taken = u })
 piece_handed most held now u took = record {
-  whole = λ _ saved. record { commands = []; lines = λ rest. refl; after = saved; file = λ name file. file; told = record { replies = []; session = refl; taken = rw text_none took } };
+  whole = λ _ saved. record { commands = []; lines = λ rest. refl; after = saved; file = λ name file. file; reported = record { replies = []; session = refl; taken = rw text_none took } };
   broken = λ e. absurd cc;
   stopped = λ e. absurd cc;
   keeps_files = record { size = refl; capacity = refl; attached = still_attached now.files; others = others_same now.files; flushed = λ _ e. e };
@@ -69,7 +69,7 @@ piece_handed most held now u took = record {
 
 -- ---- a reply that may break off
 
--- The reply to one of the lines that this input ends broke off, and all lines behind it were done.
+-- The reply to one of the lines that this input ends broke off, and all lines after it were done.
 pub record IsAhead (most : ℕ) (old : State) (memory : Memory) (holds : Image → Type 0) (held input keeps : List ℕ) (before now : Option (List ℕ)) : Type 0 where
   pub commands : List Command
   pub lines : (rest : List ℕ) → commands_from held (input ++ rest) ≡ commands ++ commands_from keeps rest
@@ -80,7 +80,7 @@ abbrev pub LeadsTo : ℕ → Moment → Moment → Option (List ℕ) → List �
 LeadsTo most start now taken held input keeps =
     (saved : Image) → IsAhead most (state start.memory saved) now.memory (Carries start now saved) held input keeps start.taken taken
 
--- where a sink takes a proper front of what waits, a reply broke off
+-- where a sink takes a proper prefix of what waits, a reply broke off
 abbrev pub MayBreakOff : ℕ → Moment → Moment → List ℕ → List ℕ → List ℕ → List ℕ → Type 0
 MayBreakOff most start now waits held input keeps = (taken : Option (List ℕ)) → TakesPart waits now.taken taken → LeadsTo most start now taken held input keeps
 
@@ -105,7 +105,7 @@ leads_off : (most : ℕ) (start now : Moment) (taken : Option (List ℕ)) (held 
     → DoesBreakOff most start (record now { taken = taken; faults = faults }) (commands_from held (input ++ rest))
 leads_off most start now taken held input keeps leads faults rest saved =
     let ahead = leads saved in
-    rw (ahead.lines rest) (breaks_behind most _ _ _ ahead.commands (commands_from keeps rest) _ _ ahead.breaks)
+    rw (ahead.lines rest) (breaks_later most _ _ _ ahead.commands (commands_from keeps rest) _ _ ahead.breaks)
 
 module _ (start : Moment) (most : ℕ) (held input middle a : List ℕ) (now : Moment) (one : Waits start most held input middle a now) where
   module _ (new : Moment) (done : AwaitsReply (command_of middle) a now new) where
@@ -118,14 +118,14 @@ module _ (start : Moment) (most : ℕ) (held input middle a : List ℕ) (now : M
           commands = first.commands ++ command_of middle ∷ [];
           lines = λ rest. rw (append_assoc input (10 ∷ []) rest) (first.lines (10 ∷ rest) ∙ ap (λ cs. first.commands ++ cs) (commands_at_newline middle rest) ∙ sym (append_assoc first.commands (command_of middle ∷ []) (commands_from [] rest)));
           breaks = record {
-            front = first.commands;
+            prefix = first.commands;
             last = command_of middle;
             ahead = [];
             more = [];
             are = sym (append-nil (first.commands ++ command_of middle ∷ []));
             middle = state now.memory first.after;
-            replies = first.told.replies;
-            session = first.told.session;
+            replies = first.reported.replies;
+            session = first.reported.session;
             reply = done.reply;
             reached = state new.memory acts.after;
             line = acts.line;
@@ -137,12 +137,12 @@ module _ (start : Moment) (most : ℕ) (held input middle a : List ℕ) (now : M
             file = λ name file. acts.file name (first.file name file);
             count = n;
             proper = low;
-            taken = Appends-trans start.taken (with_waiting now.taken a) taken _ _ first.told.taken took;
+            taken = Appends-trans start.taken (with_waiting now.taken a) taken _ _ first.reported.taken took;
           };
           all = refl;
         }
 
-    -- .. or one before it, behind which no sync follows
+    -- .. or one before it, after which no sync follows
     leads_old : (taken : Option (List ℕ)) → ¬ (command_of middle ≡ sync) → TakesPart a now.taken taken → LeadsTo most start new taken held (input ++ 10 ∷ []) []
     leads_old taken other part saved =
         let old = one.may taken part saved in
@@ -152,12 +152,12 @@ module _ (start : Moment) (most : ℕ) (held input middle a : List ℕ) (now : M
           commands = old.commands ++ command_of middle ∷ [];
           lines = λ rest. rw (append_assoc input (10 ∷ []) rest) (old.lines (10 ∷ rest) ∙ ap (λ cs. old.commands ++ cs) (commands_at_newline middle rest) ∙ sym (append_assoc old.commands (command_of middle ∷ []) (commands_from [] rest)));
           breaks = record {
-            front = broken.front;
+            prefix = broken.prefix;
             last = broken.last;
             ahead = broken.ahead ++ command_of middle ∷ [];
             more = [];
-            are = ap (λ cs. cs ++ command_of middle ∷ []) (broken.are ∙ ap (λ cs. (broken.front ++ broken.last ∷ broken.ahead) ++ cs) old.all ∙ append-nil (broken.front ++ broken.last ∷ broken.ahead))
-                ∙ append_assoc broken.front (broken.last ∷ broken.ahead) (command_of middle ∷ []) ∙ sym (append-nil (broken.front ++ broken.last ∷ (broken.ahead ++ command_of middle ∷ [])));
+            are = ap (λ cs. cs ++ command_of middle ∷ []) (broken.are ∙ ap (λ cs. (broken.prefix ++ broken.last ∷ broken.ahead) ++ cs) old.all ∙ append-nil (broken.prefix ++ broken.last ∷ broken.ahead))
+                ∙ append_assoc broken.prefix (broken.last ∷ broken.ahead) (command_of middle ∷ []) ∙ sym (append-nil (broken.prefix ++ broken.last ∷ (broken.ahead ++ command_of middle ∷ [])));
             middle = broken.middle;
             replies = broken.replies;
             session = broken.session;
@@ -177,9 +177,9 @@ module _ (start : Moment) (most : ℕ) (held input middle a : List ℕ) (now : M
           all = refl;
         }
 
-    -- behind what still waits
-    leads_behind : (taken : Option (List ℕ)) → ¬ (command_of middle ≡ sync) → TakesPart (a ++ reply_text done.reply) now.taken taken → LeadsTo most start new taken held (input ++ 10 ∷ []) []
-    leads_behind taken other part = go (nat_lt part.0 (length a)) refl
+    -- after what still waits
+    leads_after : (taken : Option (List ℕ)) → ¬ (command_of middle ≡ sync) → TakesPart (a ++ reply_text done.reply) now.taken taken → LeadsTo most start new taken held (input ++ 10 ∷ []) []
+    leads_after taken other part = go (nat_lt part.0 (length a)) refl
       where
         go : (early : Bool) → nat_lt part.0 (length a) ≡ early → LeadsTo most start new taken held (input ++ 10 ∷ []) []
         go true e =
@@ -191,7 +191,7 @@ module _ (start : Moment) (most : ℕ) (held input middle a : List ℕ) (now : M
             let whole : part.0 ≡ length a + n = omega (arith, high) in
             let split : take part.0 (a ++ reply_text done.reply) ≡ a ++ take n (reply_text done.reply) = ap (λ m. take m (a ++ reply_text done.reply)) whole ∙ take-append-add a (reply_text done.reply) n in
             leads_new n taken (omega (arith, high, part.1, length-append a (reply_text done.reply)))
-            (taken_behind (take n (reply_text done.reply)) a now.taken taken (subst (λ (l : List ℕ). Appends now.taken taken l) split part.2))
+            (taken_after (take n (reply_text done.reply)) a now.taken taken (subst (λ (l : List ℕ). Appends now.taken taken l) split part.2))
 
     leads_part : (taken : Option (List ℕ)) → TakesPart (done.waits ++ reply_text done.reply) done.taken taken → LeadsTo most start new taken held (input ++ 10 ∷ []) []
     leads_part taken part = go done.clears
@@ -199,10 +199,10 @@ module _ (start : Moment) (most : ℕ) (held input middle a : List ℕ) (now : M
         go : Clears (command_of middle) a done.waits now.taken done.taken now.files new.files → LeadsTo most start new taken held (input ++ 10 ∷ []) []
         go (inl same) =
             let here : TakesPart (done.waits ++ reply_text done.reply) now.taken taken = subst (λ (t : Option (List ℕ)). TakesPart (done.waits ++ reply_text done.reply) t taken) same.2 part in
-            leads_behind taken same.0 (subst (λ (l : List ℕ). TakesPart (l ++ reply_text done.reply) now.taken taken) same.1 here)
+            leads_after taken same.0 (subst (λ (l : List ℕ). TakesPart (l ++ reply_text done.reply) now.taken taken) same.1 here)
         go (inr sent) =
             let here : TakesPart (reply_text done.reply) done.taken taken = subst (λ (l : List ℕ). TakesPart (l ++ reply_text done.reply) done.taken taken) sent.0 part in
-            leads_new here.0 taken here.1 (Appends-trans (with_waiting now.taken a) done.taken taken [] _ (handed_behind a now.taken done.taken sent.1) here.2)
+            leads_new here.0 taken here.1 (Appends-trans (with_waiting now.taken a) done.taken taken [] _ (handed_after a now.taken done.taken sent.1) here.2)
 
   -- ---- the next line
 
@@ -238,8 +238,8 @@ module _ (start : Moment) (most : ℕ) (held input middle a : List ℕ) (now : M
     broken_off : (b : List ℕ) → LineGathers (Some cause.Sink) (command_of middle) a b now new → (rest : List ℕ) → DoesBreakOff most start new (commands_from held ((input ++ 10 ∷ []) ++ rest))
     broken_off b line rest = go (line.broken refl)
       where
-        go : IsUntold (command_of middle) a now new ⊎ IsUnheard a now new → DoesBreakOff most start new (commands_from held ((input ++ 10 ∷ []) ++ rest))
-        go (inl untold) = leads_off most start new new.taken held (input ++ 10 ∷ []) [] (leads_part new untold.done new.taken untold.part) new.faults rest
+        go : IsUnreported (command_of middle) a now new ⊎ IsUnheard a now new → DoesBreakOff most start new (commands_from held ((input ++ 10 ∷ []) ++ rest))
+        go (inl unreported) = leads_off most start new new.taken held (input ++ 10 ∷ []) [] (leads_part new unreported.done new.taken unreported.part) new.faults rest
         go (inr unheard) =
             subst (λ (m : Moment). DoesBreakOff most start m (commands_from held ((input ++ 10 ∷ []) ++ rest))) (sym unheard.same)
             (rw (append_assoc input (10 ∷ []) rest) (leads_off most start now new.taken held input middle (one.may new.taken unheard.part) new.faults (10 ∷ rest)))
@@ -257,12 +257,12 @@ module _ (start : Moment) (most : ℕ) (held input middle a : List ℕ) (now : M
     stop_ends : (b keeps : List ℕ) → LineGathers (Some cause.Files) (command_of middle) a b now new → PieceOutcome (Some cause.Files) most held (input ++ 10 ∷ []) keeps start new
     stop_ends b keeps line =
         let unsaved = line.stopped refl in
-        let behind : Moment = record now { taken = with_waiting now.taken a } in
+        let following : Moment = record now { taken = with_waiting now.taken a } in
         record {
           whole = λ e. absurd cc;
           broken = λ e. absurd cc;
-          stopped = λ _ rest. rw (append_assoc input (10 ∷ []) rest) (stops_after most held input middle start behind new one.piece (10 ∷ rest) (record {
-            stops = λ saved. rw (commands_at_newline middle rest) (stops_handed _ _ _ (command_of middle) (commands_from [] rest) _ _ (unsaved.fails.fails saved) (handed_behind a now.taken new.taken unsaved.taken));
+          stopped = λ _ rest. rw (append_assoc input (10 ∷ []) rest) (stops_after most held input middle start following new one.piece (10 ∷ rest) (record {
+            stops = λ saved. rw (commands_at_newline middle rest) (stops_handed _ _ _ (command_of middle) (commands_from [] rest) _ _ (unsaved.fails.fails saved) (handed_after a now.taken new.taken unsaved.taken));
             lost = unsaved.fails.lost;
           }));
           keeps_files = keeps_on (Some cause.Files) line.keeps;
@@ -300,7 +300,7 @@ module _ (start : Moment) (most : ℕ) (held input middle a : List ℕ) (now : M
   pub waits_handed : (taken : Option (List ℕ)) → Appends now.taken taken a → PieceOutcome None most held input middle start (record now { taken = taken })
   waits_handed taken took =
       subst (λ (l : List ℕ). PieceOutcome None most held l middle start (record now { taken = taken })) (append-nil input)
-      (piece_then most held input middle _ _ _ one.piece None [] middle (piece_handed most middle (record now { taken = with_waiting now.taken a }) taken (handed_behind a now.taken taken took)))
+      (piece_then most held input middle _ _ _ one.piece None [] middle (piece_handed most middle (record now { taken = with_waiting now.taken a }) taken (handed_after a now.taken taken took)))
 
   -- .. or the sink fails
   pub waits_broken : (taken : Option (List ℕ)) (faults : ℕ) (keeps : List ℕ) → TakesPart a now.taken taken → Rose now.faults faults → PieceOutcome (Some cause.Sink) most held input keeps start (record now { taken = taken; faults = faults })
@@ -316,9 +316,9 @@ module _ (start : Moment) (most : ℕ) (held input middle a : List ℕ) (now : M
 -- ---- what a line came to
 
 module _ (command : Command) (a b : List ℕ) (old new : Moment) (size : length new.memory.base ≡ length old.memory.base) (capacity : new.memory.capacity ≡ old.memory.capacity) (attached : StaysAttached old.files new.files) (others : KeepsOthers old.files new.files) where
-  pub line_told : (flushed : old.files.is_flushed ≡ true → new.files.is_flushed ≡ true) (done : AwaitsReply command a old new) → PassesOn (reply_text done.reply) done.waits b done.taken new.taken
+  pub line_reported : (flushed : old.files.is_flushed ≡ true → new.files.is_flushed ≡ true) (done : AwaitsReply command a old new) → PassesOn (reply_text done.reply) done.waits b done.taken new.taken
       → new.faults ≡ old.faults → new.files.faults ≡ old.files.faults → LineGathers None command a b old new
-  line_told flushed done passes sink files = record {
+  line_reported flushed done passes sink files = record {
     whole = λ _. record { done = done; passes = passes };
     broken = λ e. absurd cc;
     stopped = λ e. absurd cc;
@@ -327,7 +327,7 @@ module _ (command : Command) (a b : List ℕ) (old new : Moment) (size : length 
     one_of = inl refl;
   }
 
-  line_broken_off : (flushed : old.files.is_flushed ≡ true → new.files.is_flushed ≡ true) → IsUntold command a old new ⊎ IsUnheard a old new → Rose old.faults new.faults → new.files.faults ≡ old.files.faults → LineGathers (Some cause.Sink) command a b old new
+  line_broken_off : (flushed : old.files.is_flushed ≡ true → new.files.is_flushed ≡ true) → IsUnreported command a old new ⊎ IsUnheard a old new → Rose old.faults new.faults → new.files.faults ≡ old.files.faults → LineGathers (Some cause.Sink) command a b old new
   line_broken_off flushed broken rose files = record {
     whole = λ e. absurd cc;
     broken = λ _. broken;
@@ -337,9 +337,9 @@ module _ (command : Command) (a b : List ℕ) (old new : Moment) (size : length 
     one_of = inr (inl refl);
   }
 
-  pub line_untold : (flushed : old.files.is_flushed ≡ true → new.files.is_flushed ≡ true) (done : AwaitsReply command a old new) → TakesPart (done.waits ++ reply_text done.reply) done.taken new.taken
+  pub line_unreported : (flushed : old.files.is_flushed ≡ true → new.files.is_flushed ≡ true) (done : AwaitsReply command a old new) → TakesPart (done.waits ++ reply_text done.reply) done.taken new.taken
       → Rose old.faults new.faults → new.files.faults ≡ old.files.faults → LineGathers (Some cause.Sink) command a b old new
-  line_untold flushed done part = line_broken_off flushed (inl (record { done = done; part = part }))
+  line_unreported flushed done part = line_broken_off flushed (inl (record { done = done; part = part }))
 
   pub line_unheard : TakesPart a old.taken new.taken → new ≡ record old { taken = new.taken; faults = new.faults } → Rose old.faults new.faults → LineGathers (Some cause.Sink) command a b old new
   line_unheard part same rose =
@@ -358,8 +358,8 @@ module _ (command : Command) (a b : List ℕ) (old new : Moment) (size : length 
 -- ---- a line alone
 
 module _ (command : Command) (old new : Moment) where
-  told_alone : (done : AwaitsReply command [] old new) (taken : Option (List ℕ)) → TakesPart (done.waits ++ reply_text done.reply) done.taken taken → TakesPart (reply_text done.reply) old.taken taken
-  told_alone done taken part = go done.clears
+  reported_alone : (done : AwaitsReply command [] old new) (taken : Option (List ℕ)) → TakesPart (done.waits ++ reply_text done.reply) done.taken taken → TakesPart (reply_text done.reply) old.taken taken
+  reported_alone done taken part = go done.clears
     where
       go : Clears command [] done.waits old.taken done.taken old.files new.files → TakesPart (reply_text done.reply) old.taken taken
       go (inl same) =
@@ -367,7 +367,7 @@ module _ (command : Command) (old new : Moment) where
           subst (λ (t : Option (List ℕ)). TakesPart (reply_text done.reply) t taken) same.2 here
       go (inr sent) =
           let here : TakesPart (reply_text done.reply) done.taken taken = subst (λ (l : List ℕ). TakesPart (l ++ reply_text done.reply) done.taken taken) sent.0 part in
-          part_behind (reply_text done.reply) [] (reply_text done.reply) old.taken done.taken taken refl sent.1 here
+          part_after (reply_text done.reply) [] (reply_text done.reply) old.taken done.taken taken refl sent.1 here
 
   alone_whole : LineGathers None command [] [] old new → LineOutcome None (command ∷ []) old new
   alone_whole line =
@@ -379,10 +379,10 @@ module _ (command : Command) (old new : Moment) where
   alone_broken : (b : List ℕ) → LineGathers (Some cause.Sink) command [] b old new → LineOutcome (Some cause.Sink) (command ∷ []) old new
   alone_broken b line = go (line.broken refl)
     where
-      go : IsUntold command [] old new ⊎ IsUnheard [] old new → LineOutcome (Some cause.Sink) (command ∷ []) old new
-      go (inl untold) =
-          let part = told_alone untold.done new.taken untold.part in
-          line_broken _ _ _ (λ saved. breaks_line _ 0 _ _ _ [] _ part.0 _ _ (untold.done.does saved) part.1 part.2) line.keeps (line.first.sink refl) (line.first.no_files (λ e. cc))
+      go : IsUnreported command [] old new ⊎ IsUnheard [] old new → LineOutcome (Some cause.Sink) (command ∷ []) old new
+      go (inl unreported) =
+          let part = reported_alone unreported.done new.taken unreported.part in
+          line_broken _ _ _ (λ saved. breaks_line _ 0 _ _ _ [] _ part.0 _ _ (unreported.done.does saved) part.1 part.2) line.keeps (line.first.sink refl) (line.first.no_files (λ e. cc))
       go (inr unheard) = absurd (not_part [] old.taken new.taken refl unheard.part)
 
   alone_stopped : (b : List ℕ) → LineGathers (Some cause.Files) command [] b old new → LineOutcome (Some cause.Files) (command ∷ []) old new

@@ -49,9 +49,9 @@ one_more words k low =
     let next : k + 1 ≡ suc k = omega arith in
     rw (next, take-suc words k 0 low, image_bytes-append (take k words) (get_or words k 0 ∷ [])) (ap (λ l. image_bytes (take k words) ++ l) (image_bytes-one (get_or words k 0)))
 
--- the first eight words and those behind them
-pub front_rest : (image : Image) (count : ℕ) → 8 ≤ count → image_bytes (take 8 image) ++ image_bytes (take ((8 + (count - 8)) - 8) (drop 8 image)) ≡ image_bytes (take count image)
-front_rest image count some =
+-- the first eight words and those after them
+pub prefix_rest : (image : Image) (count : ℕ) → 8 ≤ count → image_bytes (take 8 image) ++ image_bytes (take ((8 + (count - 8)) - 8) (drop 8 image)) ≡ image_bytes (take count image)
+prefix_rest image count some =
     let width : (8 + (count - 8)) - 8 ≡ count - 8 = omega arith in
     let whole : 8 + (count - 8) ≡ count = omega (arith, some) in
     sym (image_bytes-append (take 8 image) (take ((8 + (count - 8)) - 8) (drop 8 image)))
@@ -66,7 +66,7 @@ word_more words read first k word low is before =
     let next : k + 1 ≡ suc k = omega arith in
     rw (next, take-suc (drop first words) k 0 inside, is ∙ sym at) (ap (λ l. l ++ get_or (drop first words) k 0 ∷ []) before)
 
--- ---- fronts
+-- ---- prefixes
 
 pub take_least : (xs : List ℕ) (k n : ℕ) → k ≡ min (length xs) n → take k xs ≡ take n xs
 take_least [] zero zero e = refl
@@ -78,7 +78,7 @@ take_least (x ∷ xs) zero (suc n) e = absurd (omega (arith, e))
 take_least (x ∷ xs) (suc k) zero e = absurd (omega (arith, e))
 take_least (x ∷ xs) (suc k) (suc n) e = ap (λ l. x ∷ l) (take_least xs k n (omega (arith, e)))
 
--- ---- an image is told by its bytes
+-- ---- an image is stated by its bytes
 
 pub image_once : (first second : Image) → AreWordsOf64Bits first → AreWordsOf64Bits second → image_bytes first ≡ image_bytes second → first ≡ second
 unfolding image_bytes

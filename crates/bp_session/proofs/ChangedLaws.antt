@@ -2,12 +2,12 @@
 use Rattle.std.proofs.Common.{refl, sym, ◌∙◌, ap, subst, arith, ◌≡◌, ℕ, ◌+◌, ◌*◌, ◌/◌, ◌%◌, ◌<◌, List, length, take, drop, get_or, get_or-drop, Bool, true, false, inr}
 use Rattle.std.specs.Prelude.{None, Some, is_some}
 use Rattle.std.proofs.lemmas.List.{ext_get_or, get_or-take, length-drop, length-take-le}
-use Rattle.bp_io.specs.Files.{TellsFile, block_bytes}
+use Rattle.bp_io.specs.Files.{FileSatisfies, block_bytes}
 use Rattle.bp_io.specs.Views.{Known, View, HasBytes}
 use Rattle.bp_layout.specs.Bytes.{image_bytes}
 use Rattle.bp_layout.specs.Words.{Image, word}
 use Rattle.bp_session.specs.Changed.{AreDirty, HasChanged, HoldsChanged, IsChanged, CoversChanges, is_dirty}
-use Rattle.bp_session.specs.Files.{HasClean, Holds, HoldsAs, StaysTold}
+use Rattle.bp_session.specs.Files.{HasClean, Holds, HoldsAs, StaysKnown}
 use Rattle.bp_session.proofs.ActingLaws.{holds_bytes}
 use Rattle.bp_session.proofs.BlockLaws.{blocks-image_bytes, length-image_bytes}
 use Rattle.bp_session.proofs.SavingLaws.{block_is}
@@ -58,21 +58,21 @@ module _ (before after : List Bool) (base next : Image) (n : ℕ) (one : length 
       held i inside (off_before before after i (more i) offset)
       ∙ sym (bytes_same base next i n one two (omega (arith, inside, size)) (λ place within there. changes place within (ap (λ a. is_dirty after a) there ∙ offset)))
 
-  told_more : (known : Known) (image : Image) → length image ≡ 512 * n → HasBytes known (image_bytes image) → TellsFile known (HasClean before base) → TellsFile known (HasClean after next)
-  told_more None image size bytes held = tt
-  told_more (Some None) image size bytes held = tt
-  told_more (Some (Some found)) image size bytes held =
+  reported_more : (known : Known) (image : Image) → length image ≡ 512 * n → HasBytes known (image_bytes image) → FileSatisfies known (HasClean before base) → FileSatisfies known (HasClean after next)
+  reported_more None image size bytes held = tt
+  reported_more (Some None) image size bytes held = tt
+  reported_more (Some (Some found)) image size bytes held =
       let same : found ≡ image_bytes image = bytes in
       more_without_call_ends found (omega (arith, ap length same, length-image_bytes image, size)) held
 
   pub holds_more : (files : View) (name : List ℕ) (image : Image) → files.blocks ≡ n → HoldsAs before files base name image → HoldsAs after files next name image
-  holds_more files name image is held = record { file = held.file; fresh = told_more (files.contents name) image (omega (arith, held.file.size, is)) held.file.bytes held.fresh }
+  holds_more files name image is held = record { file = held.file; fresh = reported_more (files.contents name) image (omega (arith, held.file.size, is)) held.file.bytes held.fresh }
 
 -- a file that holds just these words, whatever is dirty
 pub holds_drained : (flags : List Bool) (files : View) (base : Image) (name : List ℕ) → Holds files name base → HoldsAs flags files base name base
 holds_drained flags files base name file = record { file = file; fresh = go (files.contents name) file.bytes }
   where
-    go : (known : Known) → HasBytes known (image_bytes base) → TellsFile known (HasClean flags base)
+    go : (known : Known) → HasBytes known (image_bytes base) → FileSatisfies known (HasClean flags base)
     go None has = tt
     go (Some None) has = tt
     go (Some (Some found)) has = λ i inside offset. ap (λ l. block_bytes l i) has
@@ -81,7 +81,7 @@ holds_drained flags files base name file = record { file = file; fresh = go (fil
 pub holds_lost : (flags : List Bool) (files : View) (base : Image) (name : List ℕ) (image : Image) → AreDirty flags → Holds files name image → HoldsAs flags files base name image
 holds_lost flags files base name image all file = record { file = file; fresh = go (files.contents name) }
   where
-    go : (known : Known) → TellsFile known (HasClean flags base)
+    go : (known : Known) → FileSatisfies known (HasClean flags base)
     go None = tt
     go (Some None) = tt
     go (Some (Some found)) = λ i inside offset. absurd (let no : true ≡ false = sym (all i) ∙ offset in cc)
@@ -98,22 +98,22 @@ module _ (flags : List Bool) (now : Image) (n : ℕ) (two : length now ≡ 512 *
       go i low inside true e = is.dirtied i low inside e
       go i low inside false e = is.others i inside (inr e) ∙ held i (omega (arith, low, size)) e
 
-  known_saved : (known new : Known) (was : List ℕ) → length was ≡ 4096 * n → HasBytes known was → TellsFile known (HasClean flags now) → is_some new ≡ is_some known → HasChanged new flags n was (image_bytes now)
+  known_saved : (known new : Known) (was : List ℕ) → length was ≡ 4096 * n → HasBytes known was → FileSatisfies known (HasClean flags now) → is_some new ≡ is_some known → HasChanged new flags n was (image_bytes now)
       → HasBytes new (image_bytes now)
-  known_saved None None was size first held told has = tt
-  known_saved None (Some new) was size first held told has = absurd (let no : true ≡ false = told in cc)
-  known_saved (Some None) new was size first held told has = absurd first
-  known_saved (Some (Some old)) None was size first held told has = tt
-  known_saved (Some (Some old)) (Some None) was size first held told has = has
-  known_saved (Some (Some old)) (Some (Some found)) was size first held told has = all_saved was found size (subst (λ (l : List ℕ). HasClean flags now l) first held) has
+  known_saved None None was size first held reported has = tt
+  known_saved None (Some new) was size first held reported has = absurd (let no : true ≡ false = reported in cc)
+  known_saved (Some None) new was size first held reported has = absurd first
+  known_saved (Some (Some old)) None was size first held reported has = tt
+  known_saved (Some (Some old)) (Some None) was size first held reported has = has
+  known_saved (Some (Some old)) (Some (Some found)) was size first held reported has = all_saved was found size (subst (λ (l : List ℕ). HasClean flags now l) first held) has
 
 -- ---- the whole
 
 -- what a save leaves of a file
-pub saves_words : (flags : List Bool) (now : Image) (old new : View) → length now ≡ 512 * old.blocks → StaysTold old new → new.blocks ≡ old.blocks → (name : List ℕ) (was : Image)
+pub saves_words : (flags : List Bool) (now : Image) (old new : View) → length now ≡ 512 * old.blocks → StaysKnown old new → new.blocks ≡ old.blocks → (name : List ℕ) (was : Image)
     → HoldsAs flags old now name was → HoldsChanged flags new name (image_bytes was) (image_bytes now) → Holds new name now
-saves_words flags now old new size told blocks name was held saved = record {
+saves_words flags now old new size reported blocks name was held saved = record {
   attached = saved.attached;
   size = omega (arith, size, blocks);
-  bytes = known_saved flags now new.blocks (omega (arith, size, blocks)) (old.contents name) (new.contents name) (image_bytes was) saved.size held.file.bytes held.fresh (told name (image_bytes was) (holds_bytes old name was held.file)) saved.has;
+  bytes = known_saved flags now new.blocks (omega (arith, size, blocks)) (old.contents name) (new.contents name) (image_bytes was) saved.size held.file.bytes held.fresh (reported name (image_bytes was) (holds_bytes old name was held.file)) saved.has;
 }

@@ -11,23 +11,23 @@ use Rattle.pm_region.specs.Memory.{AreInRow, AreWithin, Follows, Memory, current
 use Rattle.bp_layout.specs.Words.{Image, word}
 use Rattle.bp_session.specs.Changed.{AreDirty, AreClean, CoversChanges, CoversDrain, is_dirty}
 
--- each word to which one of the first events stores, so many, lies in a block that is dirty
+-- each word to which one of the first events stores, as many, lies in a block that is dirty
 abbrev pub CoversStores : List Bool → List Event → ℕ → Type 0
 CoversStores flags events count =
     (i at value : ℕ) → i < count → slice_get events i ≡ Some (Store at value) → is_dirty flags (at / 512) ≡ true
 
 -- where each store's word does, no other word changes
 pub covers_changes : (flags : List Bool) (base : Image) (events : List Event) → CoversStores flags events (length events) → CoversChanges flags base (words_after base events)
-covers_changes flags base [] told place inside offset = refl
-covers_changes flags base (Store at value ∷ events) told place inside offset =
-    covers_changes flags (set base at value) events (λ i a v low. told (suc i) a v (omega (arith, low))) place (omega (arith, inside, length-set base at value)) offset
+covers_changes flags base [] reported place inside offset = refl
+covers_changes flags base (Store at value ∷ events) reported place inside offset =
+    covers_changes flags (set base at value) events (λ i a v low. reported (suc i) a v (omega (arith, low))) place (omega (arith, inside, length-set base at value)) offset
     ∙ apart (cases_eq place at)
   where
     apart : ((place ≡ at) ⊎ (place ≡ at → ⊥)) → word (set base at value) place ≡ word base place
-    apart (inl e) = absurd (let no : true ≡ false = sym (told zero at value (omega arith) refl) ∙ (rw (sym e) offset) in cc)
+    apart (inl e) = absurd (let no : true ≡ false = sym (reported zero at value (omega arith) refl) ∙ (rw (sym e) offset) in cc)
     apart (inr other) = get_or-set_other base at place value 0 other
-covers_changes flags base (Barrier ∷ events) told place inside offset = covers_changes flags base events (λ i a v low. told (suc i) a v (omega (arith, low))) place inside offset
-covers_changes flags base (CallEnd ∷ events) told place inside offset = covers_changes flags base events (λ i a v low. told (suc i) a v (omega (arith, low))) place inside offset
+covers_changes flags base (Barrier ∷ events) reported place inside offset = covers_changes flags base events (λ i a v low. reported (suc i) a v (omega (arith, low))) place inside offset
+covers_changes flags base (CallEnd ∷ events) reported place inside offset = covers_changes flags base events (λ i a v low. reported (suc i) a v (omega (arith, low))) place inside offset
 
 -- ---- a row of stores
 
@@ -81,8 +81,8 @@ row_alone events first count event is alone row fits = at (cases_lt 1 count)
         go None none = absurd (some_at events (first + 1) (omega (arith, more, fits)) none)
         go (Some next) some =
             let here : first + 0 ≡ first = omega arith in
-            let behind : first + 0 + 1 ≡ first + 1 = omega arith in
-            absurd (alone next (row 0 event next (omega (arith, more)) (ap (slice_get events) here ∙ is) (ap (slice_get events) behind ∙ some)))
+            let following : first + 0 + 1 ≡ first + 1 = omega arith in
+            absurd (alone next (row 0 event next (omega (arith, more)) (ap (slice_get events) here ∙ is) (ap (slice_get events) following ∙ some)))
     at (inr few) = few
 
 within_at : (count : ℕ) (events : List Event) (i at value : ℕ) → AreWithin count events → slice_get events i ≡ Some (Store at value) → at < count
@@ -108,17 +108,17 @@ row_within words events first count at value is row fits some within = go (slice
         end Barrier here to = absurd to
         end CallEnd here to = absurd to
 
--- ---- the flags of a row, behind those of the events before it
+-- ---- the flags of a row, after those of the events before it
 
 pub covers_more : (old new : List Bool) (events : List Event) (count : ℕ) → ((i : ℕ) → is_dirty old i ≡ true → is_dirty new i ≡ true) → CoversStores old events count → CoversStores new events count
-covers_more old new events count more told i at value low here = more (at / 512) (told i at value low here)
+covers_more old new events count more reported i at value low here = more (at / 512) (reported i at value low here)
 
 pub covers_row : (flags : List Bool) (events : List Event) (first count at value : ℕ) → slice_get events first ≡ Some (Store at value) → AreInRow events first count → first + count ≤ length events
     → ((place : ℕ) → at ≤ place → place < at + count → is_dirty flags (place / 512) ≡ true) → CoversStores flags events first → CoversStores flags events (first + count)
-covers_row flags events first count at value is row fits dirtied told i store given low here = go (cases_lt i first)
+covers_row flags events first count at value is row fits dirtied reported i store given low here = go (cases_lt i first)
   where
     go : (i < first) ⊎ (first ≤ i) → is_dirty flags (store / 512) ≡ true
-    go (inl before) = told i store given before here
+    go (inl before) = reported i store given before here
     go (inr past) =
         let place : first + (i - first) ≡ i = omega (arith, past) in
         let to : store ≡ at + (i - first) = row_at events first count at value is row fits (i - first) (Store store given) (omega (arith, low, past)) (ap (slice_get events) place ∙ here) in
@@ -126,10 +126,10 @@ covers_row flags events first count at value is row fits dirtied told i store gi
 
 pub covers_alone : (flags : List Bool) (events : List Event) (first count : ℕ) (event : Event) → slice_get events first ≡ Some event → ((at value : ℕ) → event ≡ Store at value → ⊥) → count ≤ 1
     → CoversStores flags events first → CoversStores flags events (first + count)
-covers_alone flags events first count event is alone few told i store given low here = go (cases_lt i first)
+covers_alone flags events first count event is alone few reported i store given low here = go (cases_lt i first)
   where
     go : (i < first) ⊎ (first ≤ i) → is_dirty flags (store / 512) ≡ true
-    go (inl before) = told i store given before here
+    go (inl before) = reported i store given before here
     go (inr past) =
         let place : i ≡ first = omega (arith, past, low, few) in
         let same : Some event ≡ Some (Store store given) = sym is ∙ sym (ap (slice_get events) place) ∙ here in
@@ -147,11 +147,11 @@ none_at (CallEnd ∷ events) (suc i) at value none here = none_at events i at va
 -- the words of blocks that are dirty, up to the last or to the end of the flags
 pub dirty_within : (flags : List Bool) (first count end block : ℕ) → 0 < count → end ≡ min (length flags) ((first + (count - 1)) / 512 + 1) → end ≤ block
     → ((k : ℕ) → first / 512 ≤ k → k < block → is_dirty flags k ≡ true) → (word : ℕ) → first ≤ word → word < first + count → is_dirty flags (word / 512) ≡ true
-dirty_within flags first count end block some is past told word low high = at (cases_lt (word / 512) block)
+dirty_within flags first count end block some is past reported word low high = at (cases_lt (word / 512) block)
   where
     at : (word / 512 < block) ⊎ (block ≤ word / 512) → is_dirty flags (word / 512) ≡ true
-    at (inl before) = told (word / 512) (omega (arith, low)) before
-    at (inr behind) = get_or_past flags (word / 512) true (omega (arith, some, is, past, high, behind))
+    at (inl before) = reported (word / 512) (omega (arith, low)) before
+    at (inr following) = get_or_past flags (word / 512) true (omega (arith, some, is, past, high, following))
 
 -- ---- the flags of a drain that a call begins with
 
@@ -179,15 +179,15 @@ all_are_dirty flags each i = go (cases_lt i (length flags))
   where
     go : (i < length flags) ⊎ (length flags ≤ i) → is_dirty flags i ≡ true
     go (inl inside) = each i inside
-    go (inr behind) = get_or_past flags i true behind
+    go (inr following) = get_or_past flags i true following
 
 -- the first of flags of which none is
-pub front_clean : (count : ℕ) → AreClean (take count (replicate 65536 false))
-front_clean count i low =
+pub prefix_clean : (count : ℕ) → AreClean (take count (replicate 65536 false))
+prefix_clean count i low =
     let size : length (take count (replicate 65536 false)) ≡ min count 65536 = length-take count (replicate 65536 false) ∙ ap (min count) (length-replicate 65536 false) in
     get_or-take count (replicate 65536 false) i true (omega (arith, low, size)) ∙ get_or-replicate 65536 i false true (omega (arith, low, size))
 
--- the first flags, so many, which were lent and came back before those behind them
+-- the first flags, as many, which were lent and came back before those after them
 pub lent_back : (count lent : ℕ) (flags new : List Bool) → lent ≡ min count (length flags) → length new ≡ lent → take count (new ++ drop lent flags) ≡ new
 lent_back count lent flags new is size = at (cases_lt (length flags) count)
   where
@@ -197,6 +197,6 @@ lent_back count lent flags new is size = at (cases_lt (length flags) count)
         rw none (take_all count (new ++ []) (omega (arith, length-append new [], size, short, is)) ∙ append-nil new)
     at (inr fits) = take_at new (drop lent flags) count (omega (arith, size, fits, is))
 
--- what is told of a file where none is dirty, by those before a log without a store
+-- what is stated of a file where none is dirty, by those before a log without a store
 pub kept_still : {P : Type 0} (old new : List Bool) (words now : ℕ) → (AreClean new → now ≤ 512 * length new → P) → new ≡ old → now ≡ words → AreClean old → words ≤ 512 * length old → P
 kept_still old new words now kept same size none covers = kept (subst (λ (flags : List Bool). AreClean flags) (sym same) none) (omega (arith, covers, size, ap length same))

@@ -1,4 +1,4 @@
--- What a file holds of the words of the last drain behind a line, and which of its blocks may lack some.
+-- What a file holds of the words of the last drain after a line, and which of its blocks may lack some.
 use Rattle.std.proofs.Common.{refl, sym, ◌∙◌, subst, inl, inr, ◌≡◌, ℕ, ◌*◌, List, length, Bool, false, true}
 use Rattle.pm_epochs.specs.Replay.{PowerCut}
 use Rattle.bp_io.specs.Views.{View}
@@ -33,12 +33,12 @@ leaves_other outcome memory before noted after other notes crashed others = reco
 }
 
 pub notes_crash : (old new : Memory) (cut : PowerCut) (outcome : Outcome) (flags : List Bool) → CrashesTo old cut outcome new → NotesDrain outcome old flags flags
-notes_crash old new cut outcome flags (inl does) = rw does.told refl
-notes_crash old new cut outcome flags (inr does) = rw does.told refl
+notes_crash old new cut outcome flags (inl does) = rw does.reported refl
+notes_crash old new cut outcome flags (inr does) = rw does.reported refl
 
 pub notes_cache : (old new : Memory) (seed : ℕ) (outcome : Outcome) (flags : List Bool) → CrashesByCaches old seed outcome new → NotesDrain outcome old flags flags
-notes_cache old new seed outcome flags (inl does) = rw does.told refl
-notes_cache old new seed outcome flags (inr lacks) = rw lacks.told refl
+notes_cache old new seed outcome flags (inl does) = rw does.reported refl
+notes_cache old new seed outcome flags (inr lacks) = rw lacks.reported refl
 
 pub notes_log : (memory : Memory) (outcome : Outcome) (events barriers calls : ℕ) (flags : List Bool) → outcome ≡ Logged events barriers calls → NotesDrain outcome memory flags flags
 notes_log memory outcome events barriers calls flags is = rw is refl
@@ -49,24 +49,24 @@ module _ (old new : Memory) (command : Command) (answer : Answer) (before after 
   stays : after ≡ before → new.base ≡ old.base → HoldsAs after files new.base name saved
   stays flags base = rw (flags, base) held
 
-  holds_behind : (outcome : Outcome) → Does old command outcome answer new → ¬ (outcome ≡ Synced) → LeavesDirty outcome old before after → HoldsAs after files new.base name saved
-  holds_behind Synced does other leaves = absurd (other refl)
-  holds_behind Answered does other leaves =
+  holds_after : (outcome : Outcome) → Does old command outcome answer new → ¬ (outcome ≡ Synced) → LeavesDirty outcome old before after → HoldsAs after files new.base name saved
+  holds_after Synced does other leaves = absurd (other refl)
+  holds_after Answered does other leaves =
       let notes : CoversDrain old before after = leaves.others refl other in
       let next : length (with_room call_room old).base ≡ 512 * files.blocks = size-with_room call_room old ∙ size in
       subst (λ (base : Image). HoldsAs after files base name saved) (sym does.base)
       (holds_more before after old.base (with_room call_room old).base files.blocks size next notes.more notes.changes files name saved refl held)
-  holds_behind (Kept c n) does other leaves = holds_lost after files new.base name saved (leaves.crashed refl) held.file
-  holds_behind (Counted free live) does other leaves = stays (leaves.others refl other) does.base
-  holds_behind (Logged events barriers calls) does other leaves =
+  holds_after (Kept c n) does other leaves = holds_lost after files new.base name saved (leaves.crashed refl) held.file
+  holds_after (Counted free live) does other leaves = stays (leaves.others refl other) does.base
+  holds_after (Logged events barriers calls) does other leaves =
       stays (leaves.others refl other) does.base
-  holds_behind BadChoice does other leaves = stays (leaves.others refl other) does.base
-  holds_behind NoMemory does other leaves = stays (leaves.others refl other) does.base
-  holds_behind BadSyntax does other leaves = stays (leaves.others refl other) does.base
-  holds_behind TooLong does other leaves = stays (leaves.others refl other) does.base
+  holds_after BadChoice does other leaves = stays (leaves.others refl other) does.base
+  holds_after NoMemory does other leaves = stays (leaves.others refl other) does.base
+  holds_after BadSyntax does other leaves = stays (leaves.others refl other) does.base
+  holds_after TooLong does other leaves = stays (leaves.others refl other) does.base
 
   pub acts_done : (outcome : Outcome) → Does old command outcome answer new → ¬ (outcome ≡ Synced) → LeavesDirty outcome old before after → HoldsAs after files new.base name (to_save command old saved)
-  acts_done outcome does other leaves = rw (saves_nothing old new command answer does other saved) (holds_behind outcome does other leaves)
+  acts_done outcome does other leaves = rw (saves_nothing old new command answer does other saved) (holds_after outcome does other leaves)
 
 -- ---- a sync
 

@@ -6,7 +6,7 @@ pub mod SavingLaws
 pub mod DirtyLaws
 pub mod ChangedLaws
 pub mod BlockLaws
-pub mod TellingLaws
+pub mod ReportLaws
 pub mod OutcomeLaws
 pub mod AheadLaws
 pub mod Runs

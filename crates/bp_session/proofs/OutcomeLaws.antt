@@ -16,7 +16,7 @@ use Rattle.bp_session.specs.declared.broken.Broken.{Broken}
 use Rattle.bp_session.specs.declared.broken.Broken.TheVariants as cause
 use Rattle.bp_session.proofs.OthersLaws.{others_same, others_then}
 use Rattle.bp_session.proofs.SavingLaws.{stays_attached, still_attached}
-use Rattle.bp_session.proofs.ServingLaws.{all_as, breaks_as, breaks_behind, breaks_in, commands_at_newline, commands_of_nothing, not_long, serves_as, serves_newline, serves_quietly, serves_then, serves_to_end, stops_as, stops_behind, stops_in, told_none}
+use Rattle.bp_session.proofs.ServingLaws.{all_as, breaks_as, breaks_later, breaks_in, commands_at_newline, commands_of_nothing, not_long, serves_as, serves_newline, serves_quietly, serves_then, serves_to_end, stops_as, stops_later, stops_in, reported_none}
 
 -- ---- how serving ends
 
@@ -29,8 +29,8 @@ where_whole (Err broken) holds e = absurd (never_whole broken e)
 
 -- ---- faults
 
-pub no_fault : (ended : Option Broken) (tells_line : Bool) (a b : Faults) → ¬ (ended ≡ Some cause.Source) → ¬ (ended ≡ Some cause.Sink) → ¬ (ended ≡ Some cause.Files) → b.source ≡ a.source → b.sink ≡ a.sink → b.files ≡ a.files → IsFirstFault ended tells_line a b
-no_fault ended tells_line a b no_source no_sink no_files source sink files = record {
+pub no_fault : (ended : Option Broken) (prints_line : Bool) (a b : Faults) → ¬ (ended ≡ Some cause.Source) → ¬ (ended ≡ Some cause.Sink) → ¬ (ended ≡ Some cause.Files) → b.source ≡ a.source → b.sink ≡ a.sink → b.files ≡ a.files → IsFirstFault ended prints_line a b
+no_fault ended prints_line a b no_source no_sink no_files source sink files = record {
   source = λ e. absurd (no_source e);
   sink = λ e. absurd (no_sink e);
   files = λ e. absurd (no_files e);
@@ -39,8 +39,8 @@ no_fault ended tells_line a b no_source no_sink no_files source sink files = rec
   no_files = λ _. files;
 }
 
-pub quiet : (tells_line : Bool) (a b : Faults) → b.source ≡ a.source → b.sink ≡ a.sink → b.files ≡ a.files → IsFirstFault None tells_line a b
-quiet tells_line a b source sink files = no_fault None tells_line a b (λ e. cc) (λ e. cc) (λ e. cc) source sink files
+pub quiet : (prints_line : Bool) (a b : Faults) → b.source ≡ a.source → b.sink ≡ a.sink → b.files ≡ a.files → IsFirstFault None prints_line a b
+quiet prints_line a b source sink files = no_fault None prints_line a b (λ e. cc) (λ e. cc) (λ e. cc) source sink files
 
 pub source_fault : (a b : Faults) → Rose a.source b.source → b.sink ≡ a.sink → b.files ≡ a.files → IsFirstFault (Some cause.Source) false a b
 source_fault a b rose sink files = record {
@@ -72,7 +72,7 @@ files_fault a b source sink rose = record {
   no_files = λ other. absurd (other refl);
 }
 
--- a line was told at the end, as which the sink may have failed
+-- a line was stated at the end, as which the sink may have failed
 pub line_fault : (a b : Faults) → b.source ≡ a.source → b.files ≡ a.files → IsFirstFault None true a b
 line_fault a b source files = record {
   source = λ e. absurd cc;
@@ -92,7 +92,7 @@ first_then ended a b c source sink files next = record {
   sink = λ e. from_same a.sink b.sink c.sink sink (next.sink e);
   files = λ e. from_same a.files b.files c.files files (next.files e);
   no_source = λ other. next.no_source other ∙ source;
-  no_sink = λ told other. next.no_sink told other ∙ sink;
+  no_sink = λ reported other. next.no_sink reported other ∙ sink;
   no_files = λ other. next.no_files other ∙ files;
 }
 
@@ -159,7 +159,7 @@ line_stopped commands a b stop keeps sink rose = record {
 }
 
 pub line_nothing : (a : Moment) → LineOutcome None (commands_from [] []) a a
-line_nothing a = rw commands_of_nothing (line_whole [] a a (λ saved. record { after = saved; file = λ name held. held; told = told_none _ _ }) (keeps_all a) refl refl)
+line_nothing a = rw commands_of_nothing (line_whole [] a a (λ saved. record { after = saved; file = λ name held. held; reported = reported_none _ _ }) (keeps_all a) refl refl)
 
 -- ---- a piece
 
@@ -179,9 +179,9 @@ piece_nothing most a held = piece_quiet most a held [] held (λ rest. refl)
 pub piece_newline : (ended : Option Broken) (most : ℕ) (held : List ℕ) (a b : Moment) → LineOutcome ended (command_of held ∷ []) a b → PieceOutcome ended most held (10 ∷ []) [] a b
 piece_newline ended most held a b line = record {
   whole = λ e saved. serves_newline _ _ _ _ _ _ (line.whole e saved);
-  broken = λ e rest saved. rw (commands_at_newline held rest) (breaks_behind _ _ _ _ _ (commands_from [] rest) _ _ (breaks_as _ _ _ _ _ _ (λ image held. held) 0 most _ (λ _. refl) (line.broken e saved)));
+  broken = λ e rest saved. rw (commands_at_newline held rest) (breaks_later _ _ _ _ _ (commands_from [] rest) _ _ (breaks_as _ _ _ _ _ _ (λ image held. held) 0 most _ (λ _. refl) (line.broken e saved)));
   stopped = λ e rest. record {
-    stops = λ saved. rw (commands_at_newline held rest) (stops_behind _ _ _ _ (commands_from [] rest) _ _ ((line.stopped e).stops saved));
+    stops = λ saved. rw (commands_at_newline held rest) (stops_later _ _ _ _ (commands_from [] rest) _ _ ((line.stopped e).stops saved));
     lost = (line.stopped e).lost;
   };
   keeps_files = line.keeps;
@@ -229,7 +229,7 @@ module _ (most : ℕ) (held i middle : List ℕ) (a b c : Moment) (one : PieceOu
     one_of = two.one_of;
   }
 
--- what comes behind a fault doesn't matter
+-- what comes after a fault doesn't matter
 pub piece_stops : (ended : Option Broken) (most : ℕ) (held i j keeps more : List ℕ) (a b : Moment) → ¬ (ended ≡ None) → PieceOutcome ended most held i keeps a b → PieceOutcome ended most held (i ++ j) more a b
 piece_stops ended most held i j keeps more a b other one = record {
   whole = λ e. absurd (other e);
@@ -253,7 +253,7 @@ module _ (most : ℕ) (before after : SourceView) (a b : Moment) where
     stopped = λ e. absurd cc;
     keeps = record { size = part.keeps_files.size; capacity = part.keeps_files.capacity; attached = part.keeps_files.attached; others = part.keeps_files.others; flushed = λ _. part.keeps_files.flushed (λ e. cc) };
     first = source_fault _ _ rose (part.first.no_sink refl (λ e. cc)) (part.first.no_files (λ e. cc));
-    complete = λ all told few calm quiet still. absurd (calm rose);
+    complete = λ all reported few calm quiet still. absurd (calm rose);
   }
 
   -- there was more than the most bytes
@@ -267,7 +267,7 @@ module _ (most : ℕ) (before after : SourceView) (a b : Moment) where
     stopped = λ e. absurd cc;
     keeps = record { size = part.keeps_files.size; capacity = part.keeps_files.capacity; attached = part.keeps_files.attached; others = part.keeps_files.others; flushed = λ _. part.keeps_files.flushed (λ e. cc) };
     first = no_fault (Some cause.LongInput) false _ _ (λ e. cc) (λ e. cc) (λ e. cc) same (part.first.no_sink refl (λ e. cc)) (part.first.no_files (λ e. cc));
-    complete = λ all told small calm quiet still. absurd (not_long before.left after.left all input more told small read most some);
+    complete = λ all reported small calm quiet still. absurd (not_long before.left after.left all input more reported small read most some);
   }
 
   -- a line that was read whole ended it
@@ -284,7 +284,7 @@ module _ (most : ℕ) (before after : SourceView) (a b : Moment) where
         stopped = λ z. absurd cc;
         keeps = part.keeps_files;
         first = first_with_source ended before.faults after.faults (counts 0 a.faults a.files) (counts 0 b.faults b.files) (λ z. cc) same part.first;
-        complete = λ all told few calm quiet still. absurd (quiet (part.first.sink e));
+        complete = λ all reported few calm quiet still. absurd (quiet (part.first.sink e));
       }
       go (inr (inr e)) = record {
         whole = λ z. absurd (other z);
@@ -294,7 +294,7 @@ module _ (most : ℕ) (before after : SourceView) (a b : Moment) where
         stopped = λ z. (input, read, inl (part.stopped z));
         keeps = part.keeps_files;
         first = first_with_source ended before.faults after.faults (counts 0 a.faults a.files) (counts 0 b.faults b.files) (λ z. cc) same part.first;
-        complete = λ all told few calm quiet still. absurd (still (part.first.files e));
+        complete = λ all reported few calm quiet still. absurd (still (part.first.files e));
       }
 
   -- the source is at its end
@@ -312,7 +312,7 @@ module _ (most : ℕ) (before after : SourceView) (a b : Moment) where
     stopped = λ e. (input, read, inr (end, rw (← append-nil input) (stops_after most _ _ _ a middle b part [] (last.stopped e))));
     keeps = keeps_then ended a middle b part.keeps_files last.keeps;
     first = first_with_source ended before.faults after.faults (counts 0 a.faults a.files) (counts 0 b.faults b.files) (λ z. none (Some cause.Source) (λ e. cc) (λ e. cc) (λ e. cc) z last.one_of) same first;
-    complete = λ all told small calm quiet still. elim last.one_of [
+    complete = λ all reported small calm quiet still. elim last.one_of [
       | inl e ↦ e
       | inr (inl e) ↦ absurd (quiet (first.sink e))
       | inr (inr e) ↦ absurd (still (first.files e))

@@ -35,7 +35,7 @@ use Rattle.bp_plain.specs.Calls.{Refusal}
 use Rattle.std.specs.Prelude.{Option, Some, None, is_none, ◌&&◌, ◌⊎◌, nat_le, nat_lt, if◌then◌else◌}
 use Rattle.std.proofs.lemmas.Bool.{leb-true, leb-false}
 use Rattle.bp_session.specs.PlainSession.{PlainSession, PlainLine, PlainState, PlainCall, latest, tree_at, tree_now, after_crash, with_call, fresh, PlainCrashes}
-use Rattle.bp_session.specs.Fronts.{FollowsTree}
+use Rattle.bp_session.specs.Prefixes.{FollowsTree}
 use Rattle.bp_session.specs.Following.{FollowsPlainState, IsPlainly}
 use Rattle.bp_session.proofs.ServingLaws.{session_split}
 use Rattle.bp_session.specs.PlainSession.PlainCall.{plainly, no_room as finds_no_room, no_listing as finds_no_memory, no_snap_listing as snap_finds_no_memory}
@@ -105,9 +105,9 @@ same_by_stands image tree stands = record {
   second = same_by_snapshot image tree.snap stands.snap;
 }
 
--- ---- logs and trees after so many calls
+-- ---- logs and trees after as many calls
 
--- a log that ends with a `CallEnd`, of more of them than it has but for that one
+-- a log that ends with a `CallEnd`, of more of them than it has except for that one
 up_to_call_end_whole : (first added : List Event) (count : ℕ) → call_ends added ≡ 0 → call_ends first < count → up_to_call_end count (first ++ (added ++ CallEnd ∷ [])) ≡ first ++ (added ++ CallEnd ∷ [])
 up_to_call_end_whole [] [] zero none more = absurd (omega arith)
 up_to_call_end_whole [] [] (suc zero) none more = refl
@@ -214,14 +214,14 @@ pub record Follower (old : State) (p : PlainState) (command : Command) (reply : 
   pub line : PlainLine p command reply plain
   pub follows : FollowsPlainState new.memory plain
 
--- a crash that keeps so many calls
+-- a crash that keeps as many calls
 crash_follower : (old : State) (p : PlainState) (command : Command) (cut : PowerCut) (count : ℕ) (reply : LineReply) (new : State) → FollowsPlainState old.memory p → Crashes old cut reply new → kept_calls old.memory.events cut ≡ count
     → ((plain : PlainState) → PlainCrashes p count reply plain → PlainLine p command reply plain) → Follower old p command reply new
 crash_follower old p command cut count reply new before does is line = record {
   plain = fresh (after_crash p count);
   line = line _ (record {
     few = omega (arith, kept_calls-le old.memory.events cut, is, before.calls);
-    told = does.told ∙ ap (λ n. kept_of n (call_ends old.memory.events)) is ∙ ap (λ n. kept_of count n) before.calls;
+    reported = does.reported ∙ ap (λ n. kept_of n (call_ends old.memory.events)) is ∙ ap (λ n. kept_of count n) before.calls;
     leaves = refl;
   });
   follows = rw (does.done, ← is) (follows_crash old.memory p cut before does.right);
@@ -247,7 +247,7 @@ nothing_follower old p reply new before does =
         count = kept_calls old.memory.events cut;
         few = omega (arith, kept_calls-le old.memory.events cut, before.calls);
         unchanged = unchanged;
-        told = does.told ∙ ap (λ n. kept_of (kept_calls old.memory.events cut) n) before.calls;
+        reported = does.reported ∙ ap (λ n. kept_of (kept_calls old.memory.events cut) n) before.calls;
         leaves = refl;
       };
       follows = rw (does.done, ← is) (follows_crash old.memory p cut before does.right);
@@ -256,7 +256,7 @@ nothing_follower old p reply new before does =
 refused_follower : (old : State) (p : PlainState) (moment epoch : ℕ) (mask : List ℕ) (reply : LineReply) (new : State) → FollowsPlainState old.memory p → RefusesCut old (cut_for old.memory.events (at moment epoch mask)) reply new → Follower old p (crash (at moment epoch mask)) reply new
 refused_follower old p moment epoch mask reply new before does = record {
   plain = p;
-  line = inl (record { told = does.told; same = refl });
+  line = inl (record { reported = does.reported; same = refl });
   follows = rw does.same before;
 }
 
@@ -269,7 +269,7 @@ plain_line old p (file_call call) reply new before line =
       line = record {
         answer = line.answer;
         tree = step.after;
-        told = line.told;
+        reported = line.reported;
         does = step.does;
         goes_on = elim first.is [ inl e ↦ inl (ap (λ q. with_call q step.after) e) | inr e ↦ inr (ap (λ q. with_call q step.after) e) ];
       };
@@ -277,12 +277,12 @@ plain_line old p (file_call call) reply new before line =
     }
 plain_line old p sync reply new before line = record {
   plain = fresh (tree_now p);
-  line = (line.told, refl);
+  line = (line.reported, refl);
   follows = rw line.done (follows_fresh (drained old.memory) (tree_now p) refl before.now);
 }
 plain_line old p space reply new before line = record {
   plain = p;
-  line = record { free = line.free; live = line.live; told = line.told; same = refl };
+  line = record { free = line.free; live = line.live; reported = line.reported; same = refl };
   follows = rw line.same before;
 }
 plain_line old p (crash all) reply new before (inl does) = crash_follower old p (crash all) _ (length p.since) reply new before does (kept_calls_all old.memory.events ∙ before.calls) (λ plain line. line)
@@ -293,14 +293,14 @@ plain_line old p (crash (at moment epoch mask)) reply new before (inl does) = cr
 plain_line old p (crash (at moment epoch mask)) reply new before (inr does) = refused_follower old p moment epoch mask reply new before does
 plain_line old p (storm seed) reply new before does = crash_follower old p (storm seed) _ _ reply new before does refl (λ plain line. record { count = _; crashes = line })
 plain_line old p (cache seed) reply new before (inl does) = crash_follower old p (cache seed) _ _ reply new before does refl (λ plain line. inr (record { count = _; crashes = line }))
-plain_line old p (cache seed) reply new before (inr tells) = record { plain = p; line = inl (record { told = tells.told; same = refl }); follows = rw tells.same before }
+plain_line old p (cache seed) reply new before (inr reports) = record { plain = p; line = inl (record { reported = reports.reported; same = refl }); follows = rw reports.same before }
 plain_line old p log reply new before line = record {
   plain = p;
-  line = record { events = _; barriers = _; told = line.told ∙ ap (λ n. log_of (length old.memory.events) (barriers old.memory.events) n) before.calls; same = refl };
+  line = record { events = _; barriers = _; reported = line.reported ∙ ap (λ n. log_of (length old.memory.events) (barriers old.memory.events) n) before.calls; same = refl };
   follows = rw line.same before;
 }
-plain_line old p bad_syntax reply new before line = record { plain = p; line = record { told = line.told; same = refl }; follows = rw line.same before }
-plain_line old p too_long reply new before line = record { plain = p; line = record { told = line.told; same = refl }; follows = rw line.same before }
+plain_line old p bad_syntax reply new before line = record { plain = p; line = record { reported = line.reported; same = refl }; follows = rw line.same before }
+plain_line old p too_long reply new before line = record { plain = p; line = record { reported = line.reported; same = refl }; follows = rw line.same before }
 
 -- ---- sessions
 
@@ -318,7 +318,7 @@ plain_session old p (command ∷ commands) (reply ∷ replies) new before (middl
     let later = plain_session middle first.plain commands replies new first.follows rest in
     record { plain = later.plain; session = (first.plain, first.line, later.session); follows = later.follows }
 
--- a session is the plain tree's, at its end and behind each of its lines
+-- a session is the plain tree's, at its end and after each of its lines
 pub is_plainly : (old : State) (tree : FileTree) (commands : List Command) (replies : List LineReply) (new : State) → old.memory.events ≡ [] → Stands old.memory.base tree → Session old commands replies new → IsPlainly tree commands replies new.memory
 is_plainly old tree commands replies new empty stands session =
     let run = plain_session old (fresh tree) commands replies new (follows_fresh old.memory tree empty stands) session in
@@ -327,12 +327,12 @@ is_plainly old tree commands replies new empty stands session =
 pub follows_tree : (old : State) (tree : FileTree) (commands : List Command) (replies : List LineReply) (new : State) → old.memory.events ≡ [] → Stands old.memory.base tree → Session old commands replies new → FollowsTree tree old commands replies new
 follows_tree old tree commands replies new empty stands session = record {
   whole = is_plainly old tree commands replies new empty stands session;
-  fronts = λ first rest are.
+  prefixes = λ first rest are.
       let parts = session_split old new first rest replies (rw are at session) in
       record {
         middle = parts.0;
-        front = parts.1;
-        behind = parts.2;
+        prefix = parts.1;
+        following = parts.2;
         are = parts.3;
         session = parts.4;
         later = parts.5;

@@ -14,31 +14,31 @@ use Rattle.bp_layout.specs.Words.{Image}
 use Rattle.bp_session.specs.Changed.{AreClean, HasChanged, IsChanged, is_dirty}
 use Rattle.bp_session.specs.Files.{HasBlocksOf, CanSave}
 
--- ---- bytes before, within and behind those that are written
+-- ---- bytes before, within and after those that are written
 
-before_front : (second rest : List ℕ) (n w : ℕ) → w ≤ n → n ≤ length second → take w (take n second ++ rest) ≡ take w second
-before_front second rest n zero low few = refl
-before_front second rest zero (suc w) low few = absurd (omega arith)
-before_front [] rest (suc n) (suc w) low few = absurd (omega arith)
-before_front (y ∷ second) rest (suc n) (suc w) low few = ap (λ l. y ∷ l) (before_front second rest n w (omega arith) (omega arith))
+before_prefix : (second rest : List ℕ) (n w : ℕ) → w ≤ n → n ≤ length second → take w (take n second ++ rest) ≡ take w second
+before_prefix second rest n zero low few = refl
+before_prefix second rest zero (suc w) low few = absurd (omega arith)
+before_prefix [] rest (suc n) (suc w) low few = absurd (omega arith)
+before_prefix (y ∷ second) rest (suc n) (suc w) low few = ap (λ l. y ∷ l) (before_prefix second rest n w (omega arith) (omega arith))
 
 before : (second rest : List ℕ) (n a w : ℕ) → a + w ≤ n → n ≤ length second → take w (drop a (take n second ++ rest)) ≡ take w (drop a second)
-before second rest n zero w low few = before_front second rest n w (omega (arith, low)) few
+before second rest n zero w low few = before_prefix second rest n w (omega (arith, low)) few
 before second rest zero (suc a) w low few = absurd (omega arith)
 before [] rest (suc n) (suc a) w low few = absurd (omega arith)
 before (y ∷ second) rest (suc n) (suc a) w low few = before second rest n a w (omega arith) (omega arith)
 
-behind_run : (run xs : List ℕ) (a : ℕ) → length run ≤ a → length run ≤ length xs → drop a (run ++ drop (length run) xs) ≡ drop a xs
-behind_run [] xs a low few = refl
-behind_run (r ∷ run) [] a low few = absurd (omega arith)
-behind_run (r ∷ run) (x ∷ xs) zero low few = absurd (omega arith)
-behind_run (r ∷ run) (x ∷ xs) (suc a) low few = behind_run run xs a (omega arith) (omega arith)
+after_run : (run xs : List ℕ) (a : ℕ) → length run ≤ a → length run ≤ length xs → drop a (run ++ drop (length run) xs) ≡ drop a xs
+after_run [] xs a low few = refl
+after_run (r ∷ run) [] a low few = absurd (omega arith)
+after_run (r ∷ run) (x ∷ xs) zero low few = absurd (omega arith)
+after_run (r ∷ run) (x ∷ xs) (suc a) low few = after_run run xs a (omega arith) (omega arith)
 
-behind : (run xs : List ℕ) (n a : ℕ) → n + length run ≤ a → n + length run ≤ length xs → drop a (take n xs ++ (run ++ drop (n + length run) xs)) ≡ drop a xs
-behind run xs zero a low few = let e : 0 + length run ≡ length run = omega arith in rw e (behind_run run xs a (omega (arith, low)) (omega (arith, few)))
-behind run [] (suc n) a low few = absurd (omega arith)
-behind run (x ∷ xs) (suc n) zero low few = absurd (omega arith)
-behind run (x ∷ xs) (suc n) (suc a) low few = let e : suc n + length run ≡ suc (n + length run) = omega arith in rw e (behind run xs n a (omega (arith, low)) (omega (arith, few)))
+following : (run xs : List ℕ) (n a : ℕ) → n + length run ≤ a → n + length run ≤ length xs → drop a (take n xs ++ (run ++ drop (n + length run) xs)) ≡ drop a xs
+following run xs zero a low few = let e : 0 + length run ≡ length run = omega arith in rw e (after_run run xs a (omega (arith, low)) (omega (arith, few)))
+following run [] (suc n) a low few = absurd (omega arith)
+following run (x ∷ xs) (suc n) zero low few = absurd (omega arith)
+following run (x ∷ xs) (suc n) (suc a) low few = let e : suc n + length run ≡ suc (n + length run) = omega arith in rw e (following run xs n a (omega (arith, low)) (omega (arith, few)))
 
 within_run : (run rest : List ℕ) (a w : ℕ) → a + w ≤ length run → take w (drop a (run ++ rest)) ≡ take w (drop a run)
 within_run run rest zero w low = take-append-le w run rest (omega (arith, low))
@@ -75,8 +75,8 @@ module _ (found run second : List ℕ) (i n : ℕ) (low : 4096 * (i + n) ≤ len
   block_before : (k : ℕ) → k < i → block_bytes (with_blocks i run found) k ≡ block_bytes found k
   block_before k less = block_is _ k ∙ ap (λ l. take 4096 (drop (4096 * k) l)) with_is ∙ before found (run ++ drop (4096 * i + length run) found) (4096 * i) (4096 * k) 4096 (omega (arith, less)) (omega (arith, fits_run)) ∙ sym (block_is found k)
 
-  block_behind : (k : ℕ) → i + n ≤ k → block_bytes (with_blocks i run found) k ≡ block_bytes found k
-  block_behind k high = block_is _ k ∙ ap (λ l. take 4096 (drop (4096 * k) l)) with_is ∙ ap (λ l. take 4096 l) (behind run found (4096 * i) (4096 * k) (omega (arith, length_run, high)) fits_run) ∙ sym (block_is found k)
+  block_after : (k : ℕ) → i + n ≤ k → block_bytes (with_blocks i run found) k ≡ block_bytes found k
+  block_after k high = block_is _ k ∙ ap (λ l. take 4096 (drop (4096 * k) l)) with_is ∙ ap (λ l. take 4096 l) (following run found (4096 * i) (4096 * k) (omega (arith, length_run, high)) fits_run) ∙ sym (block_is found k)
 
   block_within : (k : ℕ) → k < n → block_bytes (with_blocks i run found) (i + k) ≡ block_bytes second (i + k)
   block_within k less =
@@ -137,7 +137,7 @@ module _ (flags : List Bool) (first second : List ℕ) where
         at_other k true b d f inside other =
             block_before found run second i n inside_found sized are k (ltb-true k i b) ∙ is.others k inside (elim other [ inl high ↦ inl (omega (arith, high)) | inr e ↦ inr e ])
         at_other k false b false f inside other =
-            block_behind found run second i n inside_found sized are k (ltb-false k (i + n) f) ∙ is.others k inside (inl (ltb-false k i b))
+            block_after found run second i n inside_found sized are k (ltb-false k (i + n) f) ∙ is.others k inside (inl (ltb-false k i b))
         at_other k false b true f inside other =
             let high = ltb-false k i b in
             let less = ltb-true k (i + n) f in
@@ -191,15 +191,15 @@ module _ (flags : List Bool) (first second : List ℕ) where
         mixed_then now found (with_blocks i run found) first second becomes (changed_mixed flags first second found i has)
         (changed_mixed flags first second (with_blocks i run found) (i + n) (run_written flags first second found run i n low same are on has))
 
--- what is told stays told
-pub stays_told : (known new : Known) → Stays known new → is_some new ≡ is_some known
-stays_told None new stays = rw stays refl
-stays_told (Some known) new stays = rw stays refl
+-- what is reported stays reported
+pub stays_known : (known new : Known) → Stays known new → is_some new ≡ is_some known
+stays_known None new stays = rw stays refl
+stays_known (Some known) new stays = rw stays refl
 
-pub becomes_told : (known new : Known) (f : List ℕ → List ℕ) (flags : List Bool) (i : ℕ) (first second : List ℕ) → HasChanged known flags i first second → Becomes f known new → is_some new ≡ is_some known
-becomes_told None new f flags i first second has becomes = rw becomes refl
-becomes_told (Some None) new f flags i first second has becomes = absurd has
-becomes_told (Some (Some found)) new f flags i first second has becomes = rw becomes refl
+pub becomes_reported : (known new : Known) (f : List ℕ → List ℕ) (flags : List Bool) (i : ℕ) (first second : List ℕ) → HasChanged known flags i first second → Becomes f known new → is_some new ≡ is_some known
+becomes_reported None new f flags i first second has becomes = rw becomes refl
+becomes_reported (Some None) new f flags i first second has becomes = absurd has
+becomes_reported (Some (Some found)) new f flags i first second has becomes = rw becomes refl
 
 -- ---- the attached file
 

@@ -16,7 +16,7 @@ use Rattle.bp_script.specs.Texts.{LineReply, reply_text}
 use Rattle.bp_session.specs.Lines.{text_of}
 use Rattle.bp_session.specs.Session.{State, SessionLine, Session}
 use Rattle.bp_session.specs.Acting.{state}
-use Rattle.bp_session.specs.Serving.{Acts, Told, Serves, ServesAll, BreaksOff, StopsAtSave}
+use Rattle.bp_session.specs.Serving.{Acts, Replied, Serves, ServesAll, BreaksOff, StopsAtSave}
 
 -- ---- sessions
 
@@ -39,18 +39,18 @@ pub text_none : text_of [] ≡ []
 unfolding text_of
 text_none = refl
 
-pub told_none : (s : State) (t : Option (List ℕ)) → Told s s [] t t
-told_none s t = record { replies = []; session = refl; taken = rw text_none (Appends-nil t) }
+pub reported_none : (s : State) (t : Option (List ℕ)) → Replied s s [] t t
+reported_none s t = record { replies = []; session = refl; taken = rw text_none (Appends-nil t) }
 
-pub told_then : (a b c : State) (xs ys : List Command) (t u v : Option (List ℕ)) → Told a b xs t u → Told b c ys u v → Told a c (xs ++ ys) t v
-told_then a b c xs ys t u v first rest = record {
+pub reported_then : (a b c : State) (xs ys : List Command) (t u v : Option (List ℕ)) → Replied a b xs t u → Replied b c ys u v → Replied a c (xs ++ ys) t v
+reported_then a b c xs ys t u v first rest = record {
   replies = first.replies ++ rest.replies;
   session = session_append a b c xs ys first.replies rest.replies first.session rest.session;
   taken = rw (text_append first.replies rest.replies) (Appends-trans t u v _ _ first.taken rest.taken);
 }
 
-pub told_one : (a b : State) (x : Command) (p : LineReply) (t u : Option (List ℕ)) → SessionLine a x p b → Appends t u (reply_text p) → Told a b (x ∷ []) t u
-told_one a b x p t u line taken = record { replies = p ∷ []; session = (b, line, refl); taken = rw (text_one p) taken }
+pub reported_one : (a b : State) (x : Command) (p : LineReply) (t u : Option (List ℕ)) → SessionLine a x p b → Appends t u (reply_text p) → Replied a b (x ∷ []) t u
+reported_one a b x p t u line taken = record { replies = p ∷ []; session = (b, line, refl); taken = rw (text_one p) taken }
 
 -- ---- lines
 
@@ -110,12 +110,12 @@ commands_of_nothing = refl
 module _ (holds : Image → Type 0) where
   -- input that ends no line
   pub serves_quietly : (memory : Memory) (saved : Image) (held input keeps : List ℕ) (t : Option (List ℕ)) → holds saved → ((rest : List ℕ) → commands_from held (input ++ rest) ≡ commands_from keeps rest) → Serves (state memory saved) memory holds held input keeps t t
-  serves_quietly memory saved held input keeps t file same = record { commands = []; lines = same; after = saved; file = file; told = told_none (state memory saved) t }
+  serves_quietly memory saved held input keeps t file same = record { commands = []; lines = same; after = saved; file = file; reported = reported_none (state memory saved) t }
 
   pub breaks_line : (most : ℕ) (old : State) (memory : Memory) (command : Command) (more : List Command) (reply : LineReply) (count : ℕ) (t u : Option (List ℕ)) → Acts old memory holds command reply → count < length (reply_text reply) → Appends t u (take count (reply_text reply))
       → BreaksOff most old memory holds (command ∷ more) t u
   breaks_line most old memory command more reply count t u acts low taken = record {
-    front = [];
+    prefix = [];
     last = command;
     ahead = [];
     more = more;
@@ -142,14 +142,14 @@ module _ (holds : Image → Type 0) where
 module _ (old : State) (memory : Memory) (t u : Option (List ℕ)) where
   module _ (holds says : Image → Type 0) (f : (image : Image) → holds image → says image) where
     pub serves_as : (held input keeps : List ℕ) → Serves old memory holds held input keeps t u → Serves old memory says held input keeps t u
-    serves_as held input keeps served = record { commands = served.commands; lines = served.lines; after = served.after; file = f served.after served.file; told = served.told }
+    serves_as held input keeps served = record { commands = served.commands; lines = served.lines; after = served.after; file = f served.after served.file; reported = served.reported }
 
     pub all_as : (commands : List Command) → ServesAll old memory holds commands t u → ServesAll old memory says commands t u
-    all_as commands all = record { after = all.after; file = f all.after all.file; told = all.told }
+    all_as commands all = record { after = all.after; file = f all.after all.file; reported = all.reported }
 
     pub breaks_as : (most least : ℕ) (commands : List Command) → (least ≡ 0 → most ≡ 0) → BreaksOff most old memory holds commands t u → BreaksOff least old memory says commands t u
     breaks_as most least commands none broken = record {
-      front = broken.front;
+      prefix = broken.prefix;
       last = broken.last;
       ahead = broken.ahead;
       more = broken.more;
@@ -173,12 +173,12 @@ module _ (old : State) (memory : Memory) (t u : Option (List ℕ)) where
 
   pub stops_as : (partly says : Image → Image → Type 0) → ((first second : Image) → partly first second → says first second) → (commands : List Command) → StopsAtSave old memory partly commands t u → StopsAtSave old memory says commands t u
   stops_as partly says f commands stop = record {
-    front = stop.front;
+    prefix = stop.prefix;
     last = stop.last;
     more = stop.more;
     are = stop.are;
     middle = stop.middle;
-    told = stop.told;
+    reported = stop.reported;
     fails = record { is = stop.fails.is; drained = stop.fails.drained; file = f _ _ stop.fails.file };
   }
 
@@ -190,19 +190,19 @@ serves_then old middle new first second a i b j c t u v one two = record {
   lines = λ rest. rw (append_assoc i j rest) (one.lines (j ++ rest) ∙ ap (λ cs. one.commands ++ cs) (two.lines rest) ∙ sym (append_assoc one.commands two.commands (commands_from c rest)));
   after = two.after;
   file = two.file;
-  told = told_then old (state middle one.after) (state new two.after) one.commands two.commands t u v one.told two.told;
+  reported = reported_then old (state middle one.after) (state new two.after) one.commands two.commands t u v one.reported two.reported;
 }
 
-pub breaks_then : (most : ℕ) (old middle : State) (new : Memory) (holds : Image → Type 0) (xs ys : List Command) (t u v : Option (List ℕ)) → Told old middle xs t u → BreaksOff most middle new holds ys u v → BreaksOff most old new holds (xs ++ ys) t v
+pub breaks_then : (most : ℕ) (old middle : State) (new : Memory) (holds : Image → Type 0) (xs ys : List Command) (t u v : Option (List ℕ)) → Replied old middle xs t u → BreaksOff most middle new holds ys u v → BreaksOff most old new holds (xs ++ ys) t v
 breaks_then most old middle new holds xs ys t u v first broken = record {
-  front = xs ++ broken.front;
+  prefix = xs ++ broken.prefix;
   last = broken.last;
   ahead = broken.ahead;
   more = broken.more;
-  are = ap (λ cs. xs ++ cs) broken.are ∙ sym (append_assoc xs (broken.front ++ broken.last ∷ broken.ahead) broken.more) ∙ ap (λ cs. cs ++ broken.more) (sym (append_assoc xs broken.front (broken.last ∷ broken.ahead)));
+  are = ap (λ cs. xs ++ cs) broken.are ∙ sym (append_assoc xs (broken.prefix ++ broken.last ∷ broken.ahead) broken.more) ∙ ap (λ cs. cs ++ broken.more) (sym (append_assoc xs broken.prefix (broken.last ∷ broken.ahead)));
   middle = broken.middle;
   replies = first.replies ++ broken.replies;
-  session = session_append old middle broken.middle xs broken.front first.replies broken.replies first.session broken.session;
+  session = session_append old middle broken.middle xs broken.prefix first.replies broken.replies first.session broken.session;
   reply = broken.reply;
   reached = broken.reached;
   line = broken.line;
@@ -217,14 +217,14 @@ breaks_then most old middle new holds xs ys t u v first broken = record {
   taken = rw (text_append first.replies broken.replies, append_assoc (text_of first.replies) (text_of broken.replies) (take broken.count (reply_text broken.reply))) (Appends-trans t u v _ _ first.taken broken.taken);
 }
 
-pub stops_then : (old middle : State) (new : Memory) (partly : Image → Image → Type 0) (xs ys : List Command) (t u v : Option (List ℕ)) → Told old middle xs t u → StopsAtSave middle new partly ys u v → StopsAtSave old new partly (xs ++ ys) t v
+pub stops_then : (old middle : State) (new : Memory) (partly : Image → Image → Type 0) (xs ys : List Command) (t u v : Option (List ℕ)) → Replied old middle xs t u → StopsAtSave middle new partly ys u v → StopsAtSave old new partly (xs ++ ys) t v
 stops_then old middle new partly xs ys t u v first stop = record {
-  front = xs ++ stop.front;
+  prefix = xs ++ stop.prefix;
   last = stop.last;
   more = stop.more;
-  are = ap (λ cs. xs ++ cs) stop.are ∙ sym (append_assoc xs stop.front (stop.last ∷ stop.more));
+  are = ap (λ cs. xs ++ cs) stop.are ∙ sym (append_assoc xs stop.prefix (stop.last ∷ stop.more));
   middle = stop.middle;
-  told = told_then old middle stop.middle xs stop.front t u v first stop.told;
+  reported = reported_then old middle stop.middle xs stop.prefix t u v first stop.reported;
   fails = stop.fails;
 }
 
@@ -234,7 +234,7 @@ pub serves_one : (old : State) (memory : Memory) (holds : Image → Type 0) (com
 serves_one old memory holds command reply t u acts taken = record {
   after = acts.after;
   file = acts.file;
-  told = told_one old (state memory acts.after) command reply t u acts.line taken;
+  reported = reported_one old (state memory acts.after) command reply t u acts.line taken;
 }
 
 pub serves_newline : (old : State) (memory : Memory) (holds : Image → Type 0) (held : List ℕ) (t u : Option (List ℕ)) → ServesAll old memory holds (command_of held ∷ []) t u → Serves old memory holds held (10 ∷ []) [] t u
@@ -243,16 +243,16 @@ serves_newline old memory holds held t u all = record {
   lines = λ rest. commands_at_newline held rest;
   after = all.after;
   file = all.file;
-  told = all.told;
+  reported = all.reported;
 }
 
-pub breaks_behind : (most : ℕ) (old : State) (memory : Memory) (holds : Image → Type 0) (xs behind : List Command) (t u : Option (List ℕ)) → BreaksOff most old memory holds xs t u → BreaksOff most old memory holds (xs ++ behind) t u
-breaks_behind most old memory holds xs behind t u broken = record {
-  front = broken.front;
+pub breaks_later : (most : ℕ) (old : State) (memory : Memory) (holds : Image → Type 0) (xs following : List Command) (t u : Option (List ℕ)) → BreaksOff most old memory holds xs t u → BreaksOff most old memory holds (xs ++ following) t u
+breaks_later most old memory holds xs following t u broken = record {
+  prefix = broken.prefix;
   last = broken.last;
   ahead = broken.ahead;
-  more = broken.more ++ behind;
-  are = ap (λ cs. cs ++ behind) broken.are ∙ append_assoc (broken.front ++ broken.last ∷ broken.ahead) broken.more behind;
+  more = broken.more ++ following;
+  are = ap (λ cs. cs ++ following) broken.are ∙ append_assoc (broken.prefix ++ broken.last ∷ broken.ahead) broken.more following;
   middle = broken.middle;
   replies = broken.replies;
   session = broken.session;
@@ -270,31 +270,31 @@ breaks_behind most old memory holds xs behind t u broken = record {
   taken = broken.taken;
 }
 
-pub stops_behind : (old : State) (memory : Memory) (partly : Image → Image → Type 0) (xs behind : List Command) (t u : Option (List ℕ)) → StopsAtSave old memory partly xs t u → StopsAtSave old memory partly (xs ++ behind) t u
-stops_behind old memory partly xs behind t u stop = record {
-  front = stop.front;
+pub stops_later : (old : State) (memory : Memory) (partly : Image → Image → Type 0) (xs following : List Command) (t u : Option (List ℕ)) → StopsAtSave old memory partly xs t u → StopsAtSave old memory partly (xs ++ following) t u
+stops_later old memory partly xs following t u stop = record {
+  prefix = stop.prefix;
   last = stop.last;
-  more = stop.more ++ behind;
-  are = ap (λ cs. cs ++ behind) stop.are ∙ append_assoc stop.front (stop.last ∷ stop.more) behind;
+  more = stop.more ++ following;
+  are = ap (λ cs. cs ++ following) stop.are ∙ append_assoc stop.prefix (stop.last ∷ stop.more) following;
   middle = stop.middle;
-  told = stop.told;
+  reported = stop.reported;
   fails = stop.fails;
 }
 
--- ---- what is behind a piece that was served
+-- ---- what is after a piece that was served
 
 module _ (old : State) (middle : Memory) (first : Image → Type 0) (a i b : List ℕ) (t u v : Option (List ℕ)) (one : Serves old middle first a i b t u) where
   pub breaks_in : (most : ℕ) (new : Memory) (holds : Image → Type 0) (j : List ℕ) → BreaksOff most (state middle one.after) new holds (commands_from b j) u v → BreaksOff most old new holds (commands_from a (i ++ j)) t v
-  breaks_in most new holds j broken = rw (one.lines j) (breaks_then most old (state middle one.after) new holds one.commands (commands_from b j) t u v one.told broken)
+  breaks_in most new holds j broken = rw (one.lines j) (breaks_then most old (state middle one.after) new holds one.commands (commands_from b j) t u v one.reported broken)
 
   pub stops_in : (new : Memory) (partly : Image → Image → Type 0) (j : List ℕ) → StopsAtSave (state middle one.after) new partly (commands_from b j) u v → StopsAtSave old new partly (commands_from a (i ++ j)) t v
-  stops_in new partly j stop = rw (one.lines j) (stops_then old (state middle one.after) new partly one.commands (commands_from b j) t u v one.told stop)
+  stops_in new partly j stop = rw (one.lines j) (stops_then old (state middle one.after) new partly one.commands (commands_from b j) t u v one.reported stop)
 
   pub serves_to_end : (new : Memory) (holds : Image → Type 0) (j : List ℕ) → ServesAll (state middle one.after) new holds (commands_from b j) u v → ServesAll old new holds (commands_from a (i ++ j)) t v
   serves_to_end new holds j all = rw (one.lines j) (record {
     after = all.after;
     file = all.file;
-    told = told_then old (state middle one.after) (state new all.after) one.commands (commands_from b j) t u v one.told all.told;
+    reported = reported_then old (state middle one.after) (state new all.after) one.commands (commands_from b j) t u v one.reported all.reported;
   })
 
 -- ---- bytes of a piece
@@ -317,7 +317,7 @@ take_more (x ∷ xs) (suc n) zero low = absurd (omega arith)
 take_more (x ∷ xs) (suc n) (suc m) low = ap (λ l. x ∷ l) (take_more xs n m (omega arith))
 
 pub session_split : (old new : State) (first rest : List Command) (replies : List LineReply) → Session old (first ++ rest) replies new →
-    (middle : State) × (front : List LineReply) × (behind : List LineReply) × (replies ≡ front ++ behind) × Session old first front middle × Session middle rest behind new
+    (middle : State) × (prefix : List LineReply) × (following : List LineReply) × (replies ≡ prefix ++ following) × Session old first prefix middle × Session middle rest following new
 session_split old new [] rest replies session = (old, [], replies, refl, refl, session)
 session_split old new (x ∷ first) rest [] session = absurd session
 session_split old new (x ∷ first) rest (p ∷ replies) (next, line, later) =

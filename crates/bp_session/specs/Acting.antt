@@ -102,13 +102,13 @@ pub record Does (old : Memory) (command : Command) (outcome : Outcome) (answer :
 -- A crash at this crash point: the surviving calls are counted, and the memory is the one that the crash leaves.
 pub record HasCrashed (old : Memory) (cut : PowerCut) (outcome : Outcome) (new : Memory) : Type 0 where
   pub right : IsRight old.events cut
-  pub told : outcome ≡ Kept (kept_calls old.events cut) (call_ends old.events)
+  pub reported : outcome ≡ Kept (kept_calls old.events cut) (call_ends old.events)
   pub left : new ≡ crashed old cut
 
 -- The crash point is not valid for the log, and nothing is done.
 pub record HasRefused (old : Memory) (cut : PowerCut) (outcome : Outcome) (new : Memory) : Type 0 where
   pub wrong : ¬ IsRight old.events cut
-  pub told : outcome ≡ BadChoice
+  pub reported : outcome ≡ BadChoice
   pub same : new ≡ old
 
 -- The result of a crash at a crash point: done, or refused.
@@ -117,7 +117,7 @@ CrashesTo old cut outcome new = HasCrashed old cut outcome new ⊎ HasRefused ol
 
 -- Allocation of the memory that a command needs failed, and nothing is done.
 pub record LacksMemory (old : Memory) (outcome : Outcome) (new : Memory) : Type 0 where
-  pub told : outcome ≡ NoMemory
+  pub reported : outcome ≡ NoMemory
   pub same : new ≡ old
 
 -- The result of a crash by simulated caches: done, or refused for lack of memory.

@@ -4,7 +4,7 @@ use Rattle.bp_limits.specs.Limits.{block_size, block_words, call_room}
 use Rattle.bp_io.specs.Files.{block_bytes}
 use Rattle.bp_io.specs.Views.{Known, View}
 use Rattle.bp_layout.specs.Words.{Image, word}
-use Rattle.bp_session.specs.declared.saving.DirtyBlocks.{DirtyBlocks}
+use Rattle.bp_session.specs.declared.save.DirtyBlocks.{DirtyBlocks}
 use Rattle.pm_epochs.specs.Log.{stores}
 use Rattle.pm_region.specs.Memory.{Memory, room_in, with_room}
 

@@ -19,12 +19,12 @@ FilesFailed before after = Rose before.faults.files after.faults.files
 
 -- The first fault ends the program, and the end records it. Source and files failed exactly if they are the cause;
 -- the sink failed if it is the cause, and otherwise at most while the line of another end was printed.
-pub record IsFirstFault (ended : Option Broken) (tells_line : Bool) (before after : Faults) : Type 0 where
+pub record IsFirstFault (ended : Option Broken) (prints_line : Bool) (before after : Faults) : Type 0 where
   pub source : ended ≡ Some cause.Source → Rose before.source after.source
   pub sink : ended ≡ Some cause.Sink → Rose before.sink after.sink
   pub files : ended ≡ Some cause.Files → Rose before.files after.files
   pub no_source : ¬ (ended ≡ Some cause.Source) → after.source ≡ before.source
-  pub no_sink : tells_line ≡ false → ¬ (ended ≡ Some cause.Sink) → after.sink ≡ before.sink
+  pub no_sink : prints_line ≡ false → ¬ (ended ≡ Some cause.Sink) → after.sink ≡ before.sink
   pub no_files : ¬ (ended ≡ Some cause.Files) → after.files ≡ before.files
 
 -- No byte was read, and FILE is unchanged.
@@ -42,6 +42,6 @@ pub record Prints (text : List ℕ) (taken taken_now : Option (List ℕ)) (fault
   pub some : (count : ℕ) × Appends taken taken_now (take count text)
   pub all : ¬ Rose faults faults_now → Appends taken taken_now text
 
-abbrev pub TellsLine : Notice → Outside → Outside → Type 0
-TellsLine notice before after =
+abbrev pub PrintsLine : Notice → Outside → Outside → Type 0
+PrintsLine notice before after =
     Prints (notice_text notice) before.taken after.taken before.faults.sink after.faults.sink

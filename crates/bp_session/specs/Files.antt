@@ -1,7 +1,7 @@
 -- The words that a file holds.
 use Rattle.std.specs.Prelude.{◌≡◌, ℕ, List, None, Some, ⊤, Bool, true, false, is_some, length, take, ◌*◌, ◌<◌, ◌^◌}
 use Rattle.bp_limits.specs.Limits.{block_size, block_words}
-use Rattle.bp_io.specs.Files.{IsMixed, TellsFile, block_bytes}
+use Rattle.bp_io.specs.Files.{IsMixed, FileSatisfies, block_bytes}
 use Rattle.bp_io.specs.Views.{HasBytes, Known, View}
 use Rattle.bp_layout.specs.Words.{Image, word}
 use Rattle.bp_layout.specs.Bytes.{image_bytes}
@@ -41,8 +41,8 @@ pub record HoldsBytes (files : View) (name bytes : List ℕ) : Type 0 where
   pub has : HasBytes (files.contents name) bytes
 
 -- The bytes of the attached file are known afterwards exactly if they were known before.
-abbrev pub StaysTold : View → View → Type 0
-StaysTold old new = (name was : List ℕ) → HoldsBytes old name was
+abbrev pub StaysKnown : View → View → Type 0
+StaysKnown old new = (name was : List ℕ) → HoldsBytes old name was
     → is_some (new.contents name) ≡ is_some (old.contents name)
 
 -- The file of this name is attached, has this number of blocks and holds these words.
@@ -59,7 +59,7 @@ HasClean flags image bytes = (i : ℕ) → block_size * i < length bytes → is_
 -- The file holds these words; if its bytes are known, each block that is not dirty has those of the last drain.
 pub record HoldsAs (dirty : List Bool) (files : View) (base : Image) (name : List ℕ) (image : Image) : Type 0 where
   pub file : Holds files name image
-  pub fresh : TellsFile (files.contents name) (HasClean dirty base)
+  pub fresh : FileSatisfies (files.contents name) (HasClean dirty base)
 
 -- The file is attached, and each of its blocks is that of the first or of the second words.
 pub record HoldsPartly (files : View) (name : List ℕ) (first second : Image) : Type 0 where
@@ -69,7 +69,7 @@ pub record HoldsPartly (files : View) (name : List ℕ) (first second : Image) :
 -- The words are those of the first blocks of the attached file, if its bytes are known.
 abbrev pub HoldsFirstBlocks : View → ℕ → Image → Type 0
 HoldsFirstBlocks files count words = (name : List ℕ) → files.is_attached name ≡ true →
-    TellsFile (files.contents name) (λ bytes. image_bytes words ≡ take (block_size * count) bytes)
+    FileSatisfies (files.contents name) (λ bytes. image_bytes words ≡ take (block_size * count) bytes)
 
 -- A file is attached that has the blocks of the words, and may be written.
 pub record CanSave (base : Image) (files : View) : Type 0 where

@@ -34,7 +34,7 @@ pub record IsAnswered (command : Command) (before after : List ℕ) (old new : M
   pub passes : PassesOn (reply_text done.reply) done.waits after done.taken new.taken
 
 -- A line was carried out, and the sink failed as its reply was added.
-pub record IsUntold (command : Command) (before : List ℕ) (old new : Moment) : Type 0 where
+pub record IsUnreported (command : Command) (before : List ℕ) (old new : Moment) : Type 0 where
   pub done : AwaitsReply command before old new
   pub part : TakesPart (done.waits ++ reply_text done.reply) done.taken new.taken
 
@@ -52,7 +52,7 @@ pub record IsUnsaved (command : Command) (before : List ℕ) (old new : Moment) 
 -- sink failed, or a sync could not save.
 pub record LineGathers (ended : Option Broken) (command : Command) (before after : List ℕ) (old new : Moment) : Type 0 where
   pub whole : ended ≡ None → IsAnswered command before after old new
-  pub broken : ended ≡ Some cause.Sink → IsUntold command before old new ⊎ IsUnheard before old new
+  pub broken : ended ≡ Some cause.Sink → IsUnreported command before old new ⊎ IsUnheard before old new
   pub stopped : ended ≡ Some cause.Files → IsUnsaved command before old new
   pub keeps : Keeps ended old new
   pub first : IsFirstFault ended false (counts 0 old.faults old.files) (counts 0 new.faults new.files)

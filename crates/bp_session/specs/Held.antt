@@ -15,7 +15,7 @@ use Rattle.bp_session.specs.Serving.{DoesLine, LineOutcome, Moment, PieceOutcome
 use Rattle.bp_session.specs.Work.{answer_in, held_line, held_replies, line_in, read_piece, waiting_in}
 use Rattle.bp_session.specs.declared.broken.Broken.{Broken}
 use Rattle.bp_session.specs.declared.outcome.Outcome.{Outcome}
-use Rattle.bp_session.specs.declared.saving.DirtyBlocks.{DirtyBlocks}
+use Rattle.bp_session.specs.declared.save.DirtyBlocks.{DirtyBlocks}
 use Rattle.bp_session.specs.declared.work.LineBuffers.{LineBuffers}
 use Rattle.bp_session.specs.declared.work.Work.{Work}
 use Rattle.pm_region.specs.Memory.{Memory}

@@ -3,7 +3,7 @@ pub mod Lines
 pub mod Session
 pub mod PlainSession
 pub mod Following
-pub mod Fronts
+pub mod Prefixes
 pub mod SessionLaws
 pub mod Files
 pub mod Changed

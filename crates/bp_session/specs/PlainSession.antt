@@ -56,26 +56,26 @@ with_call p tree = record { certain = p.certain; since = p.since ++ tree ∷ [] 
 pub record PlainCalls (old : PlainState) (call : Call) (reply : LineReply) (new : PlainState) : Type 0 where
   pub answer : Answer
   pub tree : FileTree
-  pub told : reply ≡ answered answer
+  pub reported : reply ≡ answered answer
   pub does : PlainCall (tree_now old) call answer tree
   pub goes_on : (new ≡ with_call old tree) ⊎ (new ≡ with_call (fresh (tree_now old)) tree)
 
-pub record PlainTells (old : PlainState) (wanted reply : LineReply) (new : PlainState) : Type 0 where
-  pub told : reply ≡ wanted
+pub record PlainReports (old : PlainState) (wanted reply : LineReply) (new : PlainState) : Type 0 where
+  pub reported : reply ≡ wanted
   pub same : new ≡ old
 
 -- Two block counts are replied, which the abstract tree does not determine.
 pub record PlainSpace (old : PlainState) (reply : LineReply) (new : PlainState) : Type 0 where
   pub free : ℕ
   pub live : ℕ
-  pub told : reply ≡ space_of free live
+  pub reported : reply ≡ space_of free live
   pub same : new ≡ old
 
 -- A crash keeps the first `count` calls since the durable tree, and makes them durable. The reply has `count` and the
 -- number of calls since.
 pub record PlainCrashes (old : PlainState) (count : ℕ) (reply : LineReply) (new : PlainState) : Type 0 where
   pub few : count ≤ length old.since
-  pub told : reply ≡ kept_of count (length old.since)
+  pub reported : reply ≡ kept_of count (length old.since)
   pub leaves : new ≡ fresh (after_crash old count)
 
 -- A crash leaves only the durable tree: the calls that count as kept, the first `count`, changed nothing.
@@ -83,7 +83,7 @@ pub record PlainCrashesToNothing (old : PlainState) (reply : LineReply) (new : P
   pub count : ℕ
   pub few : count ≤ length old.since
   pub unchanged : (earlier : ℕ) → earlier ≤ count → after_crash old earlier ≡ old.certain
-  pub told : reply ≡ kept_of count (length old.since)
+  pub reported : reply ≡ kept_of count (length old.since)
   pub leaves : new ≡ fresh old.certain
 
 -- A crash keeps the first calls; the abstract tree does not determine how many.
@@ -96,7 +96,7 @@ pub record PlainCrashesSomewhere (old : PlainState) (reply : LineReply) (new : P
 pub record PlainLog (old : PlainState) (reply : LineReply) (new : PlainState) : Type 0 where
   pub events : ℕ
   pub barriers : ℕ
-  pub told : reply ≡ log_of events barriers (length old.since)
+  pub reported : reply ≡ log_of events barriers (length old.since)
   pub same : new ≡ old
 
 -- The effect of each crash that a line can spell. A crash at a given point may be refused.
@@ -104,7 +104,7 @@ abbrev pub PlainCrash : PlainState → Wanted → LineReply → PlainState → T
 PlainCrash old all reply new = PlainCrashes old (length old.since) reply new
 PlainCrash old nothing reply new = PlainCrashesToNothing old reply new
 PlainCrash old (at moment epoch mask) reply new =
-    PlainTells old bad_choice reply new ⊎ PlainCrashesSomewhere old reply new
+    PlainReports old bad_choice reply new ⊎ PlainCrashesSomewhere old reply new
 
 abbrev pub PlainLine : PlainState → Command → LineReply → PlainState → Type 0
 PlainLine old (file_call call) reply new = PlainCalls old call reply new
@@ -113,10 +113,10 @@ PlainLine old space reply new = PlainSpace old reply new
 PlainLine old (crash wanted) reply new = PlainCrash old wanted reply new
 PlainLine old (storm seed) reply new = PlainCrashesSomewhere old reply new
 PlainLine old (cache seed) reply new =
-    PlainTells old (answered (refused no_memory)) reply new ⊎ PlainCrashesSomewhere old reply new
+    PlainReports old (answered (refused no_memory)) reply new ⊎ PlainCrashesSomewhere old reply new
 PlainLine old log reply new = PlainLog old reply new
-PlainLine old bad_syntax reply new = PlainTells old syntax reply new
-PlainLine old too_long reply new = PlainTells old long reply new
+PlainLine old bad_syntax reply new = PlainReports old syntax reply new
+PlainLine old too_long reply new = PlainReports old long reply new
 
 abbrev pub PlainSession : PlainState → List Command → List LineReply → PlainState → Type 0
 PlainSession old [] [] new = new ≡ old
@@ -126,5 +126,5 @@ PlainSession old (command ∷ commands) (reply ∷ replies) new =
     (middle : PlainState) × PlainLine old command reply middle × PlainSession middle commands replies new
 
 -- The reply reports lack of space.
-abbrev pub TellsNoSpace : LineReply → Type 0
-TellsNoSpace reply = (needed : ℕ) × (free : ℕ) × (reply ≡ answered (refused (no_space needed free)))
+abbrev pub ReportsNoSpace : LineReply → Type 0
+ReportsNoSpace reply = (needed : ℕ) × (free : ℕ) × (reply ≡ answered (refused (no_space needed free)))

@@ -36,7 +36,7 @@ pub record SyncFails (old : State) (memory : Memory) (holds_partly : Image → I
   pub file : holds_partly old.saved (current_words old.memory)
 
 -- A session over these commands, whose replies a sink took.
-pub record Told (old new : State) (commands : List Command) (before now : Option (List ℕ)) : Type 0 where
+pub record Replied (old new : State) (commands : List Command) (before now : Option (List ℕ)) : Type 0 where
   pub replies : List LineReply
   pub session : Session old commands replies new
   pub taken : Appends before now (text_of replies)
@@ -49,28 +49,28 @@ pub record Serves (old : State) (memory : Memory) (holds : Image → Type 0) (he
   pub lines : (rest : List ℕ) → commands_from held (input ++ rest) ≡ commands ++ commands_from keeps rest
   pub after : Image
   pub file : holds after
-  pub told : Told old (state memory after) commands before now
+  pub reported : Replied old (state memory after) commands before now
 
 -- All these commands were answered.
 pub record ServesAll (old : State) (memory : Memory) (holds : Image → Type 0) (commands : List Command)
     (before now : Option (List ℕ)) : Type 0 where
   pub after : Image
   pub file : holds after
-  pub told : Told old (state memory after) commands before now
+  pub reported : Replied old (state memory after) commands before now
 
 -- The first of these commands were answered. Then one more was carried out, whose reply the sink took only in part: a
 -- proper prefix. The memory may be ahead of it by later commands, none of which is a sync, whose replies no sink
 -- took; but not where no byte of replies may wait while more is served.
 pub record BreaksOff (most : ℕ) (old : State) (memory : Memory) (holds : Image → Type 0) (commands : List Command)
     (before now : Option (List ℕ)) : Type 0 where
-  pub front : List Command
+  pub prefix : List Command
   pub last : Command
   pub ahead : List Command
   pub more : List Command
-  pub are : commands ≡ (front ++ last ∷ ahead) ++ more
+  pub are : commands ≡ (prefix ++ last ∷ ahead) ++ more
   pub middle : State
   pub replies : List LineReply
-  pub session : Session old front replies middle
+  pub session : Session old prefix replies middle
   pub reply : LineReply
   pub reached : State
   pub line : SessionLine middle last reply reached
@@ -87,12 +87,12 @@ pub record BreaksOff (most : ℕ) (old : State) (memory : Memory) (holds : Image
 -- The first of these commands were answered, and then a sync drained the log and could not save.
 pub record StopsAtSave (old : State) (memory : Memory) (holds_partly : Image → Image → Type 0) (commands : List Command)
     (before now : Option (List ℕ)) : Type 0 where
-  pub front : List Command
+  pub prefix : List Command
   pub last : Command
   pub more : List Command
-  pub are : commands ≡ front ++ last ∷ more
+  pub are : commands ≡ prefix ++ last ∷ more
   pub middle : State
-  pub told : Told old middle front before now
+  pub reported : Replied old middle prefix before now
   pub fails : SyncFails middle memory holds_partly last
 
 -- ---- from one state of serving to another

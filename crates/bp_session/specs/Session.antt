@@ -38,24 +38,24 @@ crashed_state s cut = record { memory = crashed s.memory cut; saved = s.saved }
 
 pub record AnswersCall (old : State) (call : Call) (reply : LineReply) (new : State) : Type 0 where
   pub answer : Answer
-  pub told : reply ≡ answered answer
+  pub reported : reply ≡ answered answer
   pub does : FileCall old.memory call answer new.memory
   pub saved : new.saved ≡ old.saved
 
 -- This reply is given, and nothing is done.
-pub record TellsReply (old : State) (wanted reply : LineReply) (new : State) : Type 0 where
-  pub told : reply ≡ wanted
+pub record GivesReply (old : State) (wanted reply : LineReply) (new : State) : Type 0 where
+  pub reported : reply ≡ wanted
   pub same : new ≡ old
 
 pub record Syncs (old : State) (reply : LineReply) (new : State) : Type 0 where
-  pub told : reply ≡ synced
+  pub reported : reply ≡ synced
   pub done : new ≡ synced_state old
 
 -- The reply has the numbers of free and of live blocks of the current words.
-pub record TellsSpace (old : State) (reply : LineReply) (new : State) : Type 0 where
+pub record ReportsSpace (old : State) (reply : LineReply) (new : State) : Type 0 where
   pub free : ℕ
   pub live : ℕ
-  pub told : reply ≡ space_of free live
+  pub reported : reply ≡ space_of free live
   pub has_free : HasSpace (current_words old.memory) free
   pub has_live : HasLive (current_words old.memory) live
   pub same : new ≡ old
@@ -63,13 +63,13 @@ pub record TellsSpace (old : State) (reply : LineReply) (new : State) : Type 0 w
 -- A crash: the reply has the number of calls that survive, and the number of calls of the log.
 pub record Crashes (old : State) (cut : PowerCut) (reply : LineReply) (new : State) : Type 0 where
   pub right : IsRight old.memory.events cut
-  pub told : reply ≡ kept_of (kept_calls old.memory.events cut) (call_ends old.memory.events)
+  pub reported : reply ≡ kept_of (kept_calls old.memory.events cut) (call_ends old.memory.events)
   pub done : new ≡ crashed_state old cut
 
 -- The crash point is not valid for the log, and nothing is done.
 pub record RefusesCut (old : State) (cut : PowerCut) (reply : LineReply) (new : State) : Type 0 where
   pub wrong : ¬ IsRight old.memory.events cut
-  pub told : reply ≡ bad_choice
+  pub reported : reply ≡ bad_choice
   pub same : new ≡ old
 
 -- The caches of two cores over this number of words, before they did anything, with room for each event of a log and
@@ -88,15 +88,15 @@ log_reply s = log_of (length s.memory.events) (barriers s.memory.events) (call_e
 abbrev pub SessionLine : State → Command → LineReply → State → Type 0
 SessionLine old (file_call call) reply new = AnswersCall old call reply new
 SessionLine old sync reply new = Syncs old reply new
-SessionLine old space reply new = TellsSpace old reply new
+SessionLine old space reply new = ReportsSpace old reply new
 SessionLine old (crash wanted) reply new =
     let cut = cut_for old.memory.events wanted in Crashes old cut reply new ⊎ RefusesCut old cut reply new
 SessionLine old (storm seed) reply new = Crashes old (storm_cut old.memory.events seed) reply new
 SessionLine old (cache seed) reply new =
-    Crashes old (caches_cut old.memory seed) reply new ⊎ TellsReply old (answered (refused no_memory)) reply new
-SessionLine old log reply new = TellsReply old (log_reply old) reply new
-SessionLine old bad_syntax reply new = TellsReply old syntax reply new
-SessionLine old too_long reply new = TellsReply old long reply new
+    Crashes old (caches_cut old.memory seed) reply new ⊎ GivesReply old (answered (refused no_memory)) reply new
+SessionLine old log reply new = GivesReply old (log_reply old) reply new
+SessionLine old bad_syntax reply new = GivesReply old syntax reply new
+SessionLine old too_long reply new = GivesReply old long reply new
 
 -- ---- a script
 

@@ -7,7 +7,7 @@ use Rattle.bp_script.specs.Commands.{Command}
 use Rattle.bp_script.specs.Export.{export_text}
 use Rattle.bp_script.specs.Texts.{LineReply}
 use Rattle.bp_session.specs.Lines.{commands_from}
-use Rattle.bp_session.specs.PlainSession.{PlainSession, PlainState, TellsNoSpace, after_crash, fresh}
+use Rattle.bp_session.specs.PlainSession.{PlainSession, PlainState, ReportsNoSpace, after_crash, fresh}
 use Rattle.bp_session.specs.Following.{FollowsPlainState}
 use Rattle.bp_session.specs.Session.{Session, State}
 use Rattle.pm_epochs.specs.Replay.{IsRight, PowerCut, kept_calls, replay}
@@ -43,13 +43,13 @@ KeepsCalls tree old commands replies new =
 -- second continues.
 abbrev pub SplitsAt : State → List Command → List Command → List LineReply → State → Type 0
 SplitsAt old first rest replies new = Session old (first ++ rest) replies new →
-    (middle : State) × (front : List LineReply) × (behind : List LineReply) × (replies ≡ front ++ behind)
-    × Session old first front middle × Session middle rest behind new
+    (middle : State) × (prefix : List LineReply) × (following : List LineReply) × (replies ≡ prefix ++ following)
+    × Session old first prefix middle × Session middle rest following new
 
 -- A session over the tree's export, from an empty file system and an empty log, in which no reply reports lack of
 -- space, ends in the tree without its snapshot.
 abbrev pub ExportMakesTree : FileTree → State → List LineReply → State → Type 0
 ExportMakesTree tree old replies new =
     old.memory.events ≡ [] → Stands old.memory.base (empty_tree tree.version) →
-    Session old (commands_from [] (export_text tree)) replies new → All (λ reply. ¬ TellsNoSpace reply) replies →
+    Session old (commands_from [] (export_text tree)) replies new → All (λ reply. ¬ ReportsNoSpace reply) replies →
     Stands (current_words new.memory) (without_snapshot tree)

@@ -39,7 +39,7 @@ fn head_words<R: Region>(region: &R) -> [u64; HEAD]
 }
 
 /// Reads the bytes of the first words as they are now, as many as `into` has room for.
-fn read_front<R: Region>(region: &R, into: &mut [u8])
+fn read_prefix<R: Region>(region: &R, into: &mut [u8])
     requires some { 8 * HEAD ≤ length into.old }
     requires whole { length into.old % 8 ≡ 0 }
     requires inside { length into.old / 8 ≤ length (R.memory region.now).base }
@@ -63,7 +63,7 @@ pub fn read_blocks<R: Region>(region: &R, first: u32, into: &mut [u8])
         return;
     }
     if first == 0 {
-        read_front(region, into);
+        read_prefix(region, into);
         return;
     }
     encode(

@@ -1,19 +1,19 @@
 //! Sessions: the lines of a script, served over a volume, each with its reply to a sink.
 #![tactic(auto)]
 
-mod acting;
+mod actions;
 pub mod blocks;
 mod broken;
-mod caching;
+mod caches;
 pub mod laws;
 mod outcome;
-pub mod saving;
-mod serving;
-mod telling;
+mod replies;
+pub mod save;
+mod server;
 mod work;
 
-pub use acting::act;
+pub use actions::act;
 pub use broken::Broken;
 pub use outcome::Outcome;
-pub use serving::{serve, serve_gathered, serve_line};
+pub use server::{serve, serve_gathered, serve_line};
 pub use work::{LineBuffers, Work};

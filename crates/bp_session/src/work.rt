@@ -5,7 +5,7 @@ ghost use Rattle.std.specs.Prelude.{◌+◌, ◌≡◌, ◌≤◌, IfOk, [], vec
 ghost use Rattle.bp_limits.specs.Limits.{log_events, max_line, max_mask};
 ghost use Rattle.bp_session.specs.Pieces.{piece_size};
 
-use crate::caching::TwoCaches;
+use crate::caches::TwoCaches;
 use bp_limits::{LOG_EVENTS, MAX_LINE, MAX_MASK};
 use bp_plain::Reply;
 use bp_replies::Replies;

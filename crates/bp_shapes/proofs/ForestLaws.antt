@@ -27,7 +27,7 @@ length-along : (base : Trail) (depth index : ℕ) → length (along base depth i
 length-along base zero index = omega arith
 length-along base (suc depth) index = omega (arith, length-along base depth (index / 512))
 
--- a number of at most so many digits
+-- a number of at most as many digits
 abbrev pub HasFewDigits : ℕ → ℕ → Type 0
 HasFewDigits zero index = index ≡ 0
 HasFewDigits (suc depth) index = HasFewDigits depth (index / 512)

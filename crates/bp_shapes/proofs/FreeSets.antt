@@ -26,11 +26,11 @@ wf_forest image wf =
 -- ---- what the path of a content word gives a caller
 
 module _ (image : Image) (bound : ℕ → ℕ) (forest : IsForest image bound) (path : List ℕ) where
-  -- the fronts of a front that is a pointer
-  pub pointer_fronts : (count d : ℕ) → d ≤ count → IsTreePointer image bound (trail_of path count) → IsTreePointer image bound (trail_of path d)
-  pointer_fronts zero zero low live = live
-  pointer_fronts zero (suc d) low live = absurd (omega (arith, low))
-  pointer_fronts (suc count) d low live = go (cases_eq d (suc count)) (λ less. pointer_fronts count d less ((pointers image bound forest).above _ _ live))
+  -- the prefixes of a prefix that is a pointer
+  pub pointer_prefixes : (count d : ℕ) → d ≤ count → IsTreePointer image bound (trail_of path count) → IsTreePointer image bound (trail_of path d)
+  pointer_prefixes zero zero low live = live
+  pointer_prefixes zero (suc d) low live = absurd (omega (arith, low))
+  pointer_prefixes (suc count) d low live = go (cases_eq d (suc count)) (λ less. pointer_prefixes count d less ((pointers image bound forest).above _ _ live))
     where
       go : (d ≡ suc count) ⊎ (d ≡ suc count → ⊥) → (d ≤ count → IsTreePointer image bound (trail_of path d)) → IsTreePointer image bound (trail_of path d)
       go (inl e) rest = subst (λ x. IsTreePointer image bound (trail_of path x)) (sym e) live
@@ -40,10 +40,10 @@ module _ (image : Image) (bound : ℕ → ℕ) (forest : IsForest image bound) (
     leaf : IsLivePointer (root_of image t) (bound t) (height_of (root_of image t)) (k / 512)
     leaf = live_above _ _ _ _ (live_content (root_of image t) (bound t) k below)
 
-    pub content_fronts : (d : ℕ) → d ≤ count → IsTreePointer image bound (trail_of path d)
-    content_fronts d low =
+    pub content_prefixes : (d : ℕ) → d ≤ count → IsTreePointer image bound (trail_of path d)
+    content_prefixes d low =
         let up : trail_of path count ≡ tree_trail (height_of (word image 2)) t (height_of (root_of image t)) (k / 512) = cc in
-        pointer_fronts count d low (record { tree = t; depth = height_of (root_of image t); index = k / 512; reached = reached; live = leaf; named = sym up })
+        pointer_prefixes count d low (record { tree = t; depth = height_of (root_of image t); index = k / 512; reached = reached; live = leaf; named = sym up })
 
     pub content_no_pointer : (t ≡ 0 → k % 8 ≢ 1) → IsTreePointer image bound (trail_of path (suc count)) → ⊥
     content_no_pointer no_root one =

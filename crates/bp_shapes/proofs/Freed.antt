@@ -12,13 +12,13 @@ use Rattle.bp_changes.proofs.ChangesFile as changed
 use Rattle.bp_changes.proofs.LinkInPlace.{store_removes, store_blocks}
 use Rattle.bp_changes.proofs.Resize.{CanResize, resize_changes, size_here, block_of_file, block_of_other, block_on_file, block_on_other}
 use Rattle.bp_changes.proofs.Unlink.{reached_back, reached_stays, not_reached}
-use Rattle.bp_shapes.specs.Freed.{FreesBlocks, IsGivenUp, ResizesBlocks}
+use Rattle.bp_shapes.specs.Freed.{FreesBlocks, IsTruncated, ResizesBlocks}
 
 -- ---- a file that gets smaller
 
 module _ (old new : Image) (x : ℕ) (wf : IsWellFormed old) (changes : ChangesFile old new x) (blocks : ResizesBlocks old new x) (smaller : size_of new x ≤ size_of old x) where
   abbrev Gone : ℕ → Type 0
-  Gone = IsGivenUp old (root_of old x) (size_of old x) (size_of new x)
+  Gone = IsTruncated old (root_of old x) (size_of old x) (size_of new x)
 
   -- the block of a pointer that is live below the new size
   larger : (b : ℕ) → HasBlock old (root_of old x) (size_of new x) b → HasBlock old (root_of old x) (size_of old x) b
@@ -57,8 +57,8 @@ module _ (old new : Image) (x : ℕ) (wf : IsWellFormed old) (changes : ChangesF
   at_x : (image : Image) (t b : ℕ) → t ≡ x → HasBlock image (root_of image t) (size_of image t) b → HasBlock image (root_of image x) (size_of image x) b
   at_x image t b e has = subst (λ u. HasBlock image (root_of image u) (size_of image u) b) e has
 
-  pub given_up_frees : FreesBlocks old new Gone
-  given_up_frees = record {
+  pub truncated_frees : FreesBlocks old new Gone
+  truncated_frees = record {
     were = λ b gone. record { tree = x; reached = changes.reached; has = gone.has };
     back = λ b live. back b live.tree (changed.reached-back old new x wf changes live.tree live.reached) (cases_eq live.tree x) live.has;
     gone = λ b gone live. not_live b gone live.tree (changed.reached-back old new x wf changes live.tree live.reached) (cases_eq live.tree x) live.has;
@@ -91,10 +91,10 @@ resize_blocks old wf n size place can = record {
 }
 
 pub resize_frees : (old : Image) (wf : IsWellFormed old) (n size place : ℕ) → CanResize old n size place → size ≤ size_of old (suc n) →
-    FreesBlocks old (set old place size) (IsGivenUp old (root_of old (suc n)) (size_of old (suc n)) size)
+    FreesBlocks old (set old place size) (IsTruncated old (root_of old (suc n)) (size_of old (suc n)) size)
 resize_frees old wf n size place can smaller =
-    subst (λ z. FreesBlocks old (set old place size) (IsGivenUp old (root_of old (suc n)) (size_of old (suc n)) z)) (size_here old wf n size place can)
-    (given_up_frees old (set old place size) (suc n) wf (resize_changes old wf n size place can) (resize_blocks old wf n size place can) (rw (size_here old wf n size place can) smaller))
+    subst (λ z. FreesBlocks old (set old place size) (IsTruncated old (root_of old (suc n)) (size_of old (suc n)) z)) (size_here old wf n size place can)
+    (truncated_frees old (set old place size) (suc n) wf (resize_changes old wf n size place can) (resize_blocks old wf n size place can) (rw (size_here old wf n size place can) smaller))
 
 -- ---- an inode that is not reached any more
 

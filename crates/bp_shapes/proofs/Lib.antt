@@ -10,7 +10,7 @@ pub mod ForestLaws
 pub mod PathTrails
 pub mod Unseen
 pub mod FreeSets
-pub mod Behind
+pub mod PastEnd
 pub mod Freed
 pub mod ExactSets
 pub mod MovedSets

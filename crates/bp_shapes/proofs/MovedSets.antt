@@ -1,4 +1,4 @@
--- The free blocks and inodes after a name moved: told of the trees that the first image reaches, as a commit tells them.
+-- The free blocks and inodes after a name moved: stated of the trees that the first image reaches, as a commit reports them.
 use Rattle.std.proofs.Common.{◌≡◌, ◌≢◌, ◌⊎◌, ℕ, ◌<◌, Bool, true, false, length, refl, arith, sym, ◌∙◌, subst, inl, inr}
 use Rattle.std.proofs.lemmas.Bool.{cases_eq}
 use Rattle.bp_free.specs.Set.{Set, has}
@@ -55,7 +55,7 @@ module _ (old new : Image) (bound : ℕ → ℕ) (in_snapshot : ℕ → Bool) (w
     };
   }
 
--- a name came to another directory, into an entry that was empty or into one behind the last
+-- a name came to another directory, into an entry that was empty or into one after the last
 pub carried_exact : (old new : Image) (wf : IsWellFormed old) (i s k r j : ℕ) (carries : CarriesEntry old new i s k r j) → (IsAtOrBelow old j k → ⊥) →
     (bound : ℕ → ℕ) (in_snapshot : ℕ → Bool) → ((t : ℕ) → IsReached old t → size_of new t ≡ bound t) → (before blocks inodes : Set) → AreExactFor old (IsReached old) bound in_snapshot before inodes →
     length blocks ≡ length before → AreUnheld new (IsReached old) bound in_snapshot (has blocks) → AreExact new in_snapshot blocks inodes
@@ -63,7 +63,7 @@ carried_exact old new wf i s k r j carries outside bound in_snapshot sizes =
     same_reach_exact old new bound in_snapshot carries.trees.whole (carry.inode_bytes old new wf i s k r j carries) sizes
     (carry.reached_back old new wf i s k r j carries) (carried_on old new i s k r j carries outside)
 
--- an entry is spelled anew
+-- an entry is spelled again
 pub respelled_exact : (old new : Image) (wf : IsWellFormed old) (i s j : ℕ) → RespellsEntry old new i s j → (in_snapshot : ℕ → Bool) (before blocks inodes : Set) → AreExact old in_snapshot before inodes →
     length blocks ≡ length before → AreUnheld new (IsReached old) (size_of old) in_snapshot (has blocks) → AreExact new in_snapshot blocks inodes
 respelled_exact old new wf i s j spells in_snapshot =

@@ -1,4 +1,4 @@
--- The trails of the fronts of paths.
+-- The trails of the prefixes of paths.
 use Rattle.std.proofs.Common.{◌≡◌, ◌⊎◌, ℕ, zero, suc, ◌+◌, ◌<◌, ◌≤◌, List, ◌∷◌, length, refl, ap, arith, inl, inr, ◌≢◌, ◌*◌, take, ◌++◌, sym, ◌∙◌, []}
 use Rattle.std.specs.List.{slice_index}
 use Rattle.std.proofs.lemmas.Bool.{cases_eq}
@@ -26,10 +26,10 @@ slot-trail_of one two (suc count) k same low = go (cases_eq k count) (λ small. 
     go (inl e) rest = let head : slice_index one count ≡ slice_index two count = cc in rw e head
     go (inr n) rest = rest (omega (arith, low, n))
 
-pub front-trail_of : (one two : List ℕ) (count k : ℕ) → trail_of one count ≡ trail_of two count → k ≤ count → trail_of one k ≡ trail_of two k
-front-trail_of one two zero zero same low = same
-front-trail_of one two zero (suc k) same low = absurd (omega (arith, low))
-front-trail_of one two (suc count) k same low = go (cases_eq k (suc count)) (λ small. front-trail_of one two count k (cc) small)
+pub prefix-trail_of : (one two : List ℕ) (count k : ℕ) → trail_of one count ≡ trail_of two count → k ≤ count → trail_of one k ≡ trail_of two k
+prefix-trail_of one two zero zero same low = same
+prefix-trail_of one two zero (suc k) same low = absurd (omega (arith, low))
+prefix-trail_of one two (suc count) k same low = go (cases_eq k (suc count)) (λ small. prefix-trail_of one two count k (cc) small)
   where
     go : (k ≡ suc count) ⊎ (k ≡ suc count → ⊥) → (k ≤ count → trail_of one k ≡ trail_of two k) → trail_of one k ≡ trail_of two k
     go (inl e) rest = rw e same
@@ -56,7 +56,7 @@ on_trail image (slot ∷ above) present = sym (word_on-slot image slot above ∙
     not_null : (b : ℕ) → block_on image above ≡ b → block_on image above ≢ 0
     not_null b is null = present (ap block_of (word_on-slot image slot above ∙ ap (λ x. slot_word image x slot) null))
 
--- each word that a proper front of the path names is not null
+-- each word that a proper prefix of the path names is not null
 abbrev pub AreNodes : Image → List ℕ → ℕ → Type 0
 AreNodes image path zero = Unit {0}
 AreNodes image path (suc count) = (block_on image (trail_of path count) ≢ 0) × AreNodes image path count

@@ -13,7 +13,7 @@ pub record FreesBlocks (old new : Image) (Gone : ℕ → Type 0) : Type 0 where
   pub stay : (b : ℕ) → IsLiveBlock old b → (Gone b → ⊥) → IsLiveBlock new b
 
 -- a block of a tree whose pointer covers no byte below the smaller size
-pub record IsGivenUp (image : Image) (root size shorter block : ℕ) : Type 0 where
+pub record IsTruncated (image : Image) (root size shorter block : ℕ) : Type 0 where
   pub has : HasBlock image root size block
   pub past : shorter ≤ has.index * covered (suc has.pointer.level)
 

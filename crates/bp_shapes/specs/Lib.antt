@@ -1,7 +1,7 @@
 -- The pointers of an image, and its trees in other shapes. Read the modules in this order.
 
 -- the words past a size
-pub mod Behind
+pub mod PastEnd
 -- which blocks become free
 pub mod Freed
 -- the trails of words, and all trees by trails

@@ -8,8 +8,8 @@ use Rattle.bp_session.specs.Outside.{Outside}
 use Rattle.bp_session.specs.Faults.{IsFirstFault, IsIdle, IsUntouched}
 use Rattle.bp_replies.specs.Taking.{TakesPart}
 use Rattle.bp_session.proofs.OutcomeLaws.{files_fault, line_fault, quiet, sink_fault}
-use Rattle.bp_shell.specs.Ending.{ReadOutcome, StopOutcome, TellsStop}
-use Rattle.bp_shell.specs.Statuses.{IsReadStatus, broken_by, tells_line}
+use Rattle.bp_shell.specs.Ending.{ReadOutcome, StopOutcome, PrintsStop}
+use Rattle.bp_shell.specs.Statuses.{IsReadStatus, broken_by, prints_line}
 use Rattle.bp_shell.specs.Stops.{IsReason}
 use Rattle.bp_shell.specs.declared.status.Status.{Status}
 use Rattle.bp_shell.specs.declared.status.Status.TheVariants as status
@@ -24,11 +24,11 @@ use Rattle.bp_shell.proofs.RunningLaws.{read_complete}
 abbrev pub IsStopStatus : Status → Type 0
 IsStopStatus answer = (answer ≡ status.Missing) ⊎ (answer ≡ status.FilesFailed) ⊎ (answer ≡ status.Refused) ⊎ (answer ≡ status.Memory)
 
-pub stop_statuses : (stop : Stop) (answer : Status) (t u : Option (List ℕ)) (m n : ℕ) → TellsStop stop answer t u m n → IsStopStatus answer
-stop_statuses s.Missing answer t u m n told = inl told.0
-stop_statuses s.Outside answer t u m n told = inr (inl told.0)
-stop_statuses (s.Refused _) answer t u m n told = inr (inr (inl told.0))
-stop_statuses s.Memory answer t u m n told = inr (inr (inr told.0))
+pub stop_statuses : (stop : Stop) (answer : Status) (t u : Option (List ℕ)) (m n : ℕ) → PrintsStop stop answer t u m n → IsStopStatus answer
+stop_statuses s.Missing answer t u m n reported = inl reported.0
+stop_statuses s.Outside answer t u m n reported = inr (inl reported.0)
+stop_statuses (s.Refused _) answer t u m n reported = inr (inr (inl reported.0))
+stop_statuses s.Memory answer t u m n reported = inr (inr (inr reported.0))
 
 pub never_among : (answer other : Status) → IsStopStatus answer → ¬ (other ≡ status.Missing) → ¬ (other ≡ status.FilesFailed) → ¬ (other ≡ status.Refused) → ¬ (other ≡ status.Memory) → answer ≡ other → ⊥
 never_among answer other (inl e) missing files refused memory is = missing (sym is ∙ e)
@@ -37,52 +37,52 @@ never_among answer other (inr (inr (inl e))) missing files refused memory is = r
 never_among answer other (inr (inr (inr e))) missing files refused memory is = memory (sym is ∙ e)
 
 module _ (before after : Outside) (untouched : IsUntouched before after) (source : after.faults.source ≡ before.faults.source) where
-  abbrev Told : Stop → Status → Type 0
-  Told stop answer = TellsStop stop answer before.taken after.taken before.faults.sink after.faults.sink
+  abbrev Replied : Stop → Status → Type 0
+  Replied stop answer = PrintsStop stop answer before.taken after.taken before.faults.sink after.faults.sink
 
   pub stop_outcome : (stop : Stop) (answer : Status) → IsReason before.file stop → (stop ≡ s.Outside → Rose before.faults.files after.faults.files) → (¬ (stop ≡ s.Outside) → after.faults.files ≡ before.faults.files)
-      → Told stop answer → StopOutcome answer before after
-  stop_outcome s.Missing answer reason failed same told =
-      let is : answer ≡ status.Missing = told.0 in
+      → Replied stop answer → StopOutcome answer before after
+  stop_outcome s.Missing answer reason failed same reported =
+      let is : answer ≡ status.Missing = reported.0 in
       record {
-        missing = λ _. (reason.missing refl, untouched, told.1);
+        missing = λ _. (reason.missing refl, untouched, reported.1);
         refused = λ e. absurd cc;
         memory = λ e. absurd cc;
         first = rw is (line_fault _ _ source (same (if_missing _ refl)));
       }
-  stop_outcome s.Outside answer reason failed same told =
-      let is : answer ≡ status.FilesFailed = told.0 in
+  stop_outcome s.Outside answer reason failed same reported =
+      let is : answer ≡ status.FilesFailed = reported.0 in
       record {
         missing = λ e. absurd cc;
         refused = λ e. absurd cc;
         memory = λ e. absurd cc;
-        first = rw is (files_fault _ _ source told.1.1 (failed refl));
+        first = rw is (files_fault _ _ source reported.1.1 (failed refl));
       }
-  stop_outcome (s.Refused notice) answer reason failed same told =
-      let is : answer ≡ status.Refused = told.0 in
+  stop_outcome (s.Refused notice) answer reason failed same reported =
+      let is : answer ≡ status.Refused = reported.0 in
       record {
         missing = λ e. absurd cc;
-        refused = λ _. (notice, reason.refused notice refl, untouched, told.1);
+        refused = λ _. (notice, reason.refused notice refl, untouched, reported.1);
         memory = λ e. absurd cc;
         first = rw is (line_fault _ _ source (same (if_refused _ notice refl)));
       }
-  stop_outcome s.Memory answer reason failed same told =
-      let is : answer ≡ status.Memory = told.0 in
+  stop_outcome s.Memory answer reason failed same reported =
+      let is : answer ≡ status.Memory = reported.0 in
       record {
         missing = λ e. absurd cc;
         refused = λ e. absurd cc;
-        memory = λ _. record { untouched = untouched; taken = told.1.0 };
-        first = rw is (quiet false _ _ source told.1.1 (same (if_memory _ refl)));
+        memory = λ _. record { untouched = untouched; taken = reported.1.0 };
+        first = rw is (quiet false _ _ source reported.1.1 (same (if_memory _ refl)));
       }
 
-  pub stop_idle : (stop : Stop) (answer : Status) → Told stop answer → answer ≡ status.FilesFailed → IsIdle before after
-  stop_idle s.Missing answer told e = let is : answer ≡ status.Missing = told.0 in absurd cc
-  stop_idle s.Outside answer told e = record { untouched = untouched; taken = told.1.0 }
-  stop_idle (s.Refused _) answer told e = let is : answer ≡ status.Refused = told.0 in absurd cc
-  stop_idle s.Memory answer told e = let is : answer ≡ status.Memory = told.0 in absurd cc
+  pub stop_idle : (stop : Stop) (answer : Status) → Replied stop answer → answer ≡ status.FilesFailed → IsIdle before after
+  stop_idle s.Missing answer reported e = let is : answer ≡ status.Missing = reported.0 in absurd cc
+  stop_idle s.Outside answer reported e = record { untouched = untouched; taken = reported.1.0 }
+  stop_idle (s.Refused _) answer reported e = let is : answer ≡ status.Refused = reported.0 in absurd cc
+  stop_idle s.Memory answer reported e = let is : answer ≡ status.Memory = reported.0 in absurd cc
 
 -- a status of another kind
-pub no_stop : (before after : Outside) (answer : Status) → ¬ (answer ≡ status.Missing) → ¬ (answer ≡ status.Refused) → ¬ (answer ≡ status.Memory) → IsFirstFault (broken_by answer) (tells_line answer) before.faults after.faults → StopOutcome answer before after
+pub no_stop : (before after : Outside) (answer : Status) → ¬ (answer ≡ status.Missing) → ¬ (answer ≡ status.Refused) → ¬ (answer ≡ status.Memory) → IsFirstFault (broken_by answer) (prints_line answer) before.faults after.faults → StopOutcome answer before after
 no_stop before after answer missing refused memory first = record { missing = λ e. absurd (missing e); refused = λ e. absurd (refused e); memory = λ e. absurd (memory e); first = first }
 
 -- want of memory gives no cause
@@ -94,10 +94,10 @@ memory_reason known = record {
 
 -- ---- a program that reads its file alone
 
-module _ (Tells : List ℕ → Type 0) (before after : Outside) (untouched : IsUntouched before after) (flushed : after.is_flushed ≡ before.is_flushed) (source : after.faults.source ≡ before.faults.source) where
-  read_outcome : (answer : Status) → (answer ≡ status.Done → (text : List ℕ) × Tells text × Appends before.taken after.taken text) → (answer ≡ status.SinkFailed → (text : List ℕ) × Tells text × TakesPart text before.taken after.taken)
+module _ (Reports : List ℕ → Type 0) (before after : Outside) (untouched : IsUntouched before after) (flushed : after.is_flushed ≡ before.is_flushed) (source : after.faults.source ≡ before.faults.source) where
+  read_outcome : (answer : Status) → (answer ≡ status.Done → (text : List ℕ) × Reports text × Appends before.taken after.taken text) → (answer ≡ status.SinkFailed → (text : List ℕ) × Reports text × TakesPart text before.taken after.taken)
       → (answer ≡ status.FilesFailed → IsIdle before after) → StopOutcome answer before after
-      → IsReadStatus answer → ReadOutcome Tells answer before after
+      → IsReadStatus answer → ReadOutcome Reports answer before after
   read_outcome answer whole sink files stops one_of = record {
     whole = whole;
     sink = sink;
@@ -110,13 +110,13 @@ module _ (Tells : List ℕ → Type 0) (before after : Outside) (untouched : IsU
   }
 
   pub read_stopped : (stop : Stop) (answer : Status) → IsReason before.file stop → (stop ≡ s.Outside → Rose before.faults.files after.faults.files) → (¬ (stop ≡ s.Outside) → after.faults.files ≡ before.faults.files)
-      → TellsStop stop answer before.taken after.taken before.faults.sink after.faults.sink → ReadOutcome Tells answer before after
-  read_stopped stop answer reason failed same told =
-      let among = stop_statuses stop answer _ _ _ _ told in
+      → PrintsStop stop answer before.taken after.taken before.faults.sink after.faults.sink → ReadOutcome Reports answer before after
+  read_stopped stop answer reason failed same reported =
+      let among = stop_statuses stop answer _ _ _ _ reported in
       read_outcome answer
       (λ e. absurd (never_among answer status.Done among (λ z. cc) (λ z. cc) (λ z. cc) (λ z. cc) e))
       (λ e. absurd (never_among answer status.SinkFailed among (λ z. cc) (λ z. cc) (λ z. cc) (λ z. cc) e))
-      (stop_idle before after untouched source stop answer told) (stop_outcome before after untouched source stop answer reason failed same told)
+      (stop_idle before after untouched source stop answer reported) (stop_outcome before after untouched source stop answer reason failed same reported)
       (elim among [
         | inl e ↦ inr (inl e)
         | inr (inl e) ↦ inr (inr (inr (inl e)))
@@ -124,14 +124,14 @@ module _ (Tells : List ℕ → Type 0) (before after : Outside) (untouched : IsU
         | inr (inr (inr e)) ↦ inr (inr (inr (inr (inr e))))
       ])
 
-  -- the text was taken, or a front of it
-  pub read_done : (text : List ℕ) → Tells text → Appends before.taken after.taken text → after.faults.sink ≡ before.faults.sink → after.faults.files ≡ before.faults.files → ReadOutcome Tells status.Done before after
-  read_done text tells taken sink files =
-      read_outcome status.Done (λ _. (text, tells, taken)) (λ e. absurd cc) (λ e. absurd cc)
+  -- the text was taken, or a prefix of it
+  pub read_done : (text : List ℕ) → Reports text → Appends before.taken after.taken text → after.faults.sink ≡ before.faults.sink → after.faults.files ≡ before.faults.files → ReadOutcome Reports status.Done before after
+  read_done text reports taken sink files =
+      read_outcome status.Done (λ _. (text, reports, taken)) (λ e. absurd cc) (λ e. absurd cc)
       (no_stop before after status.Done (λ e. cc) (λ e. cc) (λ e. cc)
       (quiet false _ _ source sink files)) (inl refl)
 
-  pub read_broken : (text : List ℕ) → Tells text → TakesPart text before.taken after.taken → Rose before.faults.sink after.faults.sink → after.faults.files ≡ before.faults.files → ReadOutcome Tells status.SinkFailed before after
-  read_broken text tells part rose files =
-      read_outcome status.SinkFailed (λ e. absurd cc) (λ _. (text, tells, part)) (λ e. absurd cc)
+  pub read_broken : (text : List ℕ) → Reports text → TakesPart text before.taken after.taken → Rose before.faults.sink after.faults.sink → after.faults.files ≡ before.faults.files → ReadOutcome Reports status.SinkFailed before after
+  read_broken text reports part rose files =
+      read_outcome status.SinkFailed (λ e. absurd cc) (λ _. (text, reports, part)) (λ e. absurd cc)
       (no_stop before after status.SinkFailed (λ e. cc) (λ e. cc) (λ e. cc) (sink_fault _ _ source rose files)) (inr (inr (inl refl)))

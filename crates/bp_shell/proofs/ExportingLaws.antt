@@ -21,12 +21,12 @@ use Rattle.bp_script.specs.declared.notices.Notice.{Notice}
 use Rattle.bp_script.specs.declared.notices.Notice.TheVariants.{NoFile, Deep}
 use Rattle.bp_session.specs.Files.{IsAbsent}
 use Rattle.bp_session.specs.Outside.{Outside}
-use Rattle.bp_session.specs.Faults.{FilesFailed, IsFirstFault, IsIdle, IsUntouched, Prints, SinkFailed, TellsLine}
+use Rattle.bp_session.specs.Faults.{FilesFailed, IsFirstFault, IsIdle, IsUntouched, Prints, SinkFailed, PrintsLine}
 use Rattle.bp_session.proofs.OutcomeLaws.{line_fault, quiet, sink_fault}
-use Rattle.bp_shell.specs.Ending.{TellsStop}
-use Rattle.bp_shell.specs.Exporting.{ExportOutcome, Exports, ExportsFront, HoldsDeep, HoldsTree, IsExportComplete, TellsTree}
+use Rattle.bp_shell.specs.Ending.{PrintsStop}
+use Rattle.bp_shell.specs.Exporting.{ExportOutcome, Exports, ExportsPrefix, HoldsDeep, HoldsTree, IsExportComplete, PrintsTree}
 use Rattle.bp_shell.specs.Opening.{RefusesFile}
-use Rattle.bp_shell.specs.Statuses.{IsExportStatus, broken_by, tells_line}
+use Rattle.bp_shell.specs.Statuses.{IsExportStatus, broken_by, prints_line}
 use Rattle.bp_shell.specs.Stops.{IsReason}
 use Rattle.bp_shell.specs.declared.status.Status.{Status}
 use Rattle.bp_shell.specs.declared.status.Status.TheVariants as status
@@ -58,33 +58,33 @@ is_broken (Err fault.Sink) = true
 is_broken other = false
 
 module _ (tree : FileTree) (t u : SinkView) where
-  pub tells_all : {T : Type 0} (done : T) → EndsExport tree (Ok done) t u → TellsTree tree status.Done t.taken u.taken t.faults u.faults
-  tells_all done ends = (
+  pub reports_all : {T : Type 0} (done : T) → EndsExport tree (Ok done) t u → PrintsTree tree status.Done t.taken u.taken t.faults u.faults
+  reports_all done ends = (
     short_of tree (λ deep. true≢false (ap is_done (ends.deep.1 deep))),
     ends.all,
     ends.same (λ e. true≢false (ap is_done e)),
   )
 
-  pub tells_front : {T : Type 0} → EndsExport {T = T} tree (Err fault.Memory) t u → TellsTree tree status.Memory t.taken u.taken t.faults u.faults
-  tells_front ends = (
+  pub reports_prefix : {T : Type 0} → EndsExport {T = T} tree (Err fault.Memory) t u → PrintsTree tree status.Memory t.taken u.taken t.faults u.faults
+  reports_prefix ends = (
     short_of tree (λ deep. true≢false (sym (ap is_deep (ends.deep.1 deep)))),
     ends.some refl,
     ends.same (λ e. true≢false (sym (ap is_broken e))),
   )
 
-  pub tells_part : {T : Type 0} → EndsExport {T = T} tree (Err fault.Sink) t u → TellsTree tree status.SinkFailed t.taken u.taken t.faults u.faults
-  tells_part ends = (
+  pub reports_part : {T : Type 0} → EndsExport {T = T} tree (Err fault.Sink) t u → PrintsTree tree status.SinkFailed t.taken u.taken t.faults u.faults
+  reports_part ends = (
     short_of tree (λ deep. true≢false (sym (ap is_deep (ends.deep.1 deep)))),
     ends.part refl,
     ends.cause refl,
   )
 
-  -- nothing was told before the line
-  pub tells_deep : {T : Type 0} (v : SinkView) → EndsExport {T = T} tree (Err fault.Deep) t u → Prints (notice_text Deep) u.taken v.taken u.faults v.faults → TellsTree tree status.Deep t.taken v.taken t.faults v.faults
-  tells_deep v ends prints =
-      let untold = ends.untold refl in
+  -- nothing was reported before the line
+  pub reports_deep : {T : Type 0} (v : SinkView) → EndsExport {T = T} tree (Err fault.Deep) t u → Prints (notice_text Deep) u.taken v.taken u.faults v.faults → PrintsTree tree status.Deep t.taken v.taken t.faults v.faults
+  reports_deep v ends prints =
+      let unreported = ends.unreported refl in
       let same = ends.same (λ e. true≢false (sym (ap is_broken e))) in
-      (ends.deep.0 refl, subst (λ (w : Option (List ℕ)). Prints (notice_text Deep) w v.taken t.faults v.faults) untold (subst (λ (j : ℕ). Prints (notice_text Deep) u.taken v.taken j v.faults) same prints))
+      (ends.deep.0 refl, subst (λ (w : Option (List ℕ)). Prints (notice_text Deep) w v.taken t.faults v.faults) unreported (subst (λ (j : ℕ). Prints (notice_text Deep) u.taken v.taken j v.faults) same prints))
 
 -- ---- a file
 
@@ -105,9 +105,9 @@ export_complete answer before after missing sink files refused among image held 
 ]
 
 module _ (before after : Outside) (untouched : IsUntouched before after) (flushed : after.is_flushed ≡ before.is_flushed) (source : after.faults.source ≡ before.faults.source) where
-  outcome : (answer : Status) → (answer ≡ status.Done → (text : List ℕ) × Exports before.file text × Appends before.taken after.taken text) → (answer ≡ status.Missing → IsAbsent before.file × TellsLine NoFile before after)
-      → (answer ≡ status.SinkFailed → (text : List ℕ) × Exports before.file text × TakesPart text before.taken after.taken) → (answer ≡ status.FilesFailed → IsIdle before after) → (answer ≡ status.Refused → (notice : Notice) × RefusesFile before.file notice × TellsLine notice before after)
-      → (answer ≡ status.Memory → IsIdle before after ⊎ ExportsFront before after) → (answer ≡ status.Deep → HoldsDeep before.file × TellsLine Deep before after) → IsFirstFault (broken_by answer) (tells_line answer) before.faults after.faults → IsExportStatus answer → ExportOutcome answer before after
+  outcome : (answer : Status) → (answer ≡ status.Done → (text : List ℕ) × Exports before.file text × Appends before.taken after.taken text) → (answer ≡ status.Missing → IsAbsent before.file × PrintsLine NoFile before after)
+      → (answer ≡ status.SinkFailed → (text : List ℕ) × Exports before.file text × TakesPart text before.taken after.taken) → (answer ≡ status.FilesFailed → IsIdle before after) → (answer ≡ status.Refused → (notice : Notice) × RefusesFile before.file notice × PrintsLine notice before after)
+      → (answer ≡ status.Memory → IsIdle before after ⊎ ExportsPrefix before after) → (answer ≡ status.Deep → HoldsDeep before.file × PrintsLine Deep before after) → IsFirstFault (broken_by answer) (prints_line answer) before.faults after.faults → IsExportStatus answer → ExportOutcome answer before after
   outcome answer whole missing sink files refused memory deep first among = record {
     whole = whole;
     missing = missing;
@@ -123,18 +123,18 @@ module _ (before after : Outside) (untouched : IsUntouched before after) (flushe
     one_of = among;
   }
 
-  -- before the tree is told
+  -- before the tree is reported
   pub export_stopped : (stop : Stop) (answer : Status) → IsReason before.file stop → (stop ≡ s.Outside → Rose before.faults.files after.faults.files) → (¬ (stop ≡ s.Outside) → after.faults.files ≡ before.faults.files)
-      → TellsStop stop answer before.taken after.taken before.faults.sink after.faults.sink → ExportOutcome answer before after
-  export_stopped stop answer reason failed same told =
-      let among = stop_statuses stop answer _ _ _ _ told in
-      let stops = stop_outcome before after untouched source stop answer reason failed same told in
+      → PrintsStop stop answer before.taken after.taken before.faults.sink after.faults.sink → ExportOutcome answer before after
+  export_stopped stop answer reason failed same reported =
+      let among = stop_statuses stop answer _ _ _ _ reported in
+      let stops = stop_outcome before after untouched source stop answer reason failed same reported in
       let never = λ (other : Status). never_among answer other among in
       outcome answer
       (λ e. absurd (never status.Done (λ z. cc) (λ z. cc) (λ z. cc) (λ z. cc) e))
       (λ e. let why = stops.missing e in (why.0, why.2))
       (λ e. absurd (never status.SinkFailed (λ z. cc) (λ z. cc) (λ z. cc) (λ z. cc) e))
-      (stop_idle before after untouched source stop answer told)
+      (stop_idle before after untouched source stop answer reported)
       (λ e. let why = stops.refused e in (why.0, why.1, why.3))
       (λ e. inl (stops.memory e))
       (λ e. absurd (never status.Deep (λ z. cc) (λ z. cc) (λ z. cc) (λ z. cc) e))
@@ -146,28 +146,28 @@ module _ (before after : Outside) (untouched : IsUntouched before after) (flushe
         | inr (inr (inr e)) ↦ inr (inr (inr (inr (inr (inl e)))))
       ])
 
-  -- the tree was told, or some part of it
-  pub export_told : (tree : FileTree) (answer : Status) → HoldsTree before.file tree → TellsTree tree answer before.taken after.taken before.faults.sink after.faults.sink → after.faults.files ≡ before.faults.files → ExportOutcome answer before after
-  export_told tree status.Done holds told files =
-      outcome status.Done (λ _. (_, record { tree = tree; holds = holds; short = told.0; told = refl }, told.1)) (λ e. absurd cc) (λ e. absurd cc) (λ e. absurd cc) (λ e. absurd cc)
-      (λ e. absurd cc) (λ e. absurd cc) (quiet false _ _ source told.2 files) (inl refl)
-  export_told tree status.SinkFailed holds told files =
-      outcome status.SinkFailed (λ e. absurd cc) (λ e. absurd cc) (λ _. (_, record { tree = tree; holds = holds; short = told.0; told = refl }, told.1)) (λ e. absurd cc) (λ e. absurd cc)
-      (λ e. absurd cc) (λ e. absurd cc) (sink_fault _ _ source told.2 files) (inr (inr (inl refl)))
-  export_told tree status.Memory holds told files =
+  -- the tree was reported, or some part of it
+  pub export_reported : (tree : FileTree) (answer : Status) → HoldsTree before.file tree → PrintsTree tree answer before.taken after.taken before.faults.sink after.faults.sink → after.faults.files ≡ before.faults.files → ExportOutcome answer before after
+  export_reported tree status.Done holds reported files =
+      outcome status.Done (λ _. (_, record { tree = tree; holds = holds; short = reported.0; reported = refl }, reported.1)) (λ e. absurd cc) (λ e. absurd cc) (λ e. absurd cc) (λ e. absurd cc)
+      (λ e. absurd cc) (λ e. absurd cc) (quiet false _ _ source reported.2 files) (inl refl)
+  export_reported tree status.SinkFailed holds reported files =
+      outcome status.SinkFailed (λ e. absurd cc) (λ e. absurd cc) (λ _. (_, record { tree = tree; holds = holds; short = reported.0; reported = refl }, reported.1)) (λ e. absurd cc) (λ e. absurd cc)
+      (λ e. absurd cc) (λ e. absurd cc) (sink_fault _ _ source reported.2 files) (inr (inr (inl refl)))
+  export_reported tree status.Memory holds reported files =
       outcome status.Memory (λ e. absurd cc) (λ e. absurd cc) (λ e. absurd cc) (λ e. absurd cc) (λ e. absurd cc)
-      (λ _. inr (record { text = _; exports = record { tree = tree; holds = holds; short = told.0; told = refl }; takes = told.1 })) (λ e. absurd cc)
-      (quiet false _ _ source told.2 files) (inr (inr (inr (inr (inr (inl refl))))))
-  export_told tree status.Deep holds told files =
+      (λ _. inr (record { text = _; exports = record { tree = tree; holds = holds; short = reported.0; reported = refl }; takes = reported.1 })) (λ e. absurd cc)
+      (quiet false _ _ source reported.2 files) (inr (inr (inr (inr (inr (inl refl))))))
+  export_reported tree status.Deep holds reported files =
       outcome status.Deep (λ e. absurd cc) (λ e. absurd cc) (λ e. absurd cc) (λ e. absurd cc) (λ e. absurd cc) (λ e. absurd cc)
-      (λ _. (record { tree = tree; holds = holds; deep = told.0 }, told.1))
+      (λ _. (record { tree = tree; holds = holds; deep = reported.0 }, reported.1))
       (line_fault _ _ source files) (inr (inr (inr (inr (inr (inr refl))))))
-  export_told tree status.Missing holds told files = absurd told
-  export_told tree status.Usage holds told files = absurd told
-  export_told tree status.SourceFailed holds told files = absurd told
-  export_told tree status.FilesFailed holds told files = absurd told
-  export_told tree status.LongInput holds told files = absurd told
-  export_told tree status.Refused holds told files = absurd told
+  export_reported tree status.Missing holds reported files = absurd reported
+  export_reported tree status.Usage holds reported files = absurd reported
+  export_reported tree status.SourceFailed holds reported files = absurd reported
+  export_reported tree status.FilesFailed holds reported files = absurd reported
+  export_reported tree status.LongInput holds reported files = absurd reported
+  export_reported tree status.Refused holds reported files = absurd reported
 
 -- ---- before the words are read
 

@@ -1,4 +1,4 @@
--- The front of a new image, and a file between its old bytes and that image.
+-- The prefix of a new image, and a file between its old bytes and that image.
 use Rattle.std.proofs.Common.{zero, suc, refl, sym, ◌∙◌, ap, true, arith, ◌≡◌, ℕ, ◌+◌, ◌*◌, ◌-◌, ◌<◌, ◌≤◌, List, [], ◌∷◌, ◌++◌, length, take, replicate, inl, inr}
 use Rattle.std.specs.Prelude.{Option, Some, None, Result, Ok, Err, OnOk, OnErr}
 use Rattle.std.specs.Io.KnownBytes.{Appends}
@@ -16,7 +16,7 @@ use Rattle.bp_session.specs.Faults.{Prints}
 use Rattle.bp_session.proofs.BlockLaws.{image_bytes-append, length-image_bytes}
 use Rattle.bp_shell.specs.Formatting.{HasPartly, bytes_there, new_image}
 use Rattle.bp_volume.specs.Laid.{format_events}
-use Rattle.bp_volume.proofs.FrontLaws.{formatted-append, formatted_words}
+use Rattle.bp_volume.proofs.PrefixLaws.{formatted-append, formatted_words}
 use Rattle.pm_region.specs.Memory.{Adds, Memory, current_words}
 use Rattle.pm_region.proofs.MemoryLaws.{length-current_words}
 
@@ -24,7 +24,7 @@ pub prints : {T E : Type 0} (r : Result T E) (text : List ℕ) (t u : Option (Li
 prints (Ok x) text t u m n ok err cause = record { some = (length text, rw (take-length text) ok); all = λ _. ok }
 prints (Err e) text t u m n ok err cause = record { some = (err.0, err.2); all = λ calm. absurd (calm cause.failed) }
 
--- ---- the front of a new image
+-- ---- the prefix of a new image
 
 -- more zeros are some zeros and the others
 zeros_apart : (few many : ℕ) → few ≤ many → replicate {A = ℕ} many 0 ≡ replicate few 0 ++ replicate (many - few) 0
@@ -40,15 +40,15 @@ image_bytes-zeros (suc count) =
     let more : 8 * suc count ≡ suc (suc (suc (suc (suc (suc (suc (suc (8 * count)))))))) = omega arith in
     rw more (ap (λ (l : List ℕ). 0 ∷ 0 ∷ 0 ∷ 0 ∷ 0 ∷ 0 ∷ 0 ∷ 0 ∷ l) (image_bytes-zeros count))
 
--- the front of a new image, filled up with zeros, is all of it
-front_filled : (version : Version) (width blocks : ℕ) (front : List ℕ) → 1024 ≤ width → width ≤ 512 * blocks →
-    front ≡ image_bytes (formatted (replicate width 0) version blocks) → resized_file (4096 * blocks) front ≡ image_bytes (new_image version blocks)
-front_filled version width blocks front two fits are =
+-- the prefix of a new image, filled up with zeros, is all of it
+prefix_filled : (version : Version) (width blocks : ℕ) (prefix : List ℕ) → 1024 ≤ width → width ≤ 512 * blocks →
+    prefix ≡ image_bytes (formatted (replicate width 0) version blocks) → resized_file (4096 * blocks) prefix ≡ image_bytes (new_image version blocks)
+prefix_filled version width blocks prefix two fits are =
     let some : length (replicate {A = ℕ} width 0) ≡ width = length-replicate {A = ℕ} width 0 in
     let size : length (formatted (replicate width 0) version blocks) ≡ width = length-after_stores (replicate width 0) (format_stores version blocks) ∙ some in
-    let long : length front ≡ 8 * width = ap length are ∙ length-image_bytes (formatted (replicate width 0) version blocks) ∙ ap (λ (n : ℕ). 8 * n) size in
-    let missing : 4096 * blocks - length front ≡ 8 * (512 * blocks - width) = omega (arith, long, fits) in
-    let all : take (4096 * blocks) front ≡ front = take_all (4096 * blocks) front (omega (arith, long, fits)) in
+    let long : length prefix ≡ 8 * width = ap length are ∙ length-image_bytes (formatted (replicate width 0) version blocks) ∙ ap (λ (n : ℕ). 8 * n) size in
+    let missing : 4096 * blocks - length prefix ≡ 8 * (512 * blocks - width) = omega (arith, long, fits) in
+    let all : take (4096 * blocks) prefix ≡ prefix = take_all (4096 * blocks) prefix (omega (arith, long, fits)) in
     rw (all, missing) (
     ap (λ (l : List ℕ). l ++ replicate (8 * (512 * blocks - width)) 0) are
     ∙ ap (λ (l : List ℕ). image_bytes (formatted (replicate width 0) version blocks) ++ l) (sym (image_bytes-zeros (512 * blocks - width)))
@@ -57,17 +57,17 @@ front_filled version width blocks front two fits are =
     ∙ ap (λ (words : Image). image_bytes (formatted words version blocks)) (sym (zeros_apart width (512 * blocks) fits)))
 
 -- the words that a format made of zeros, and their bytes
-module _ (old new : Memory) (version : Version) (width blocks : ℕ) (front : List ℕ) (zeros : old.base ≡ replicate width 0) (fresh : old.events ≡ []) (adds : Adds old new (format_events version blocks)) (are : front ≡ image_bytes (current_words new)) where
+module _ (old new : Memory) (version : Version) (width blocks : ℕ) (prefix : List ℕ) (zeros : old.base ≡ replicate width 0) (fresh : old.events ≡ []) (adds : Adds old new (format_events version blocks)) (are : prefix ≡ image_bytes (current_words new)) where
   made : current_words new ≡ formatted (replicate width 0) version blocks
   made = formatted_words version blocks old new fresh adds ∙ ap (λ (words : Image). formatted words version blocks) zeros
 
-  pub length-front : length front ≡ 8 * width
-  length-front =
+  pub length-prefix : length prefix ≡ 8 * width
+  length-prefix =
       ap length (are ∙ ap image_bytes made) ∙ length-image_bytes (formatted (replicate width 0) version blocks)
       ∙ ap (λ (n : ℕ). 8 * n) (length-after_stores (replicate width 0) (format_stores version blocks) ∙ length-replicate {A = ℕ} width 0)
 
-  pub front_made : 1024 ≤ width → width ≤ 512 * blocks → resized_file (4096 * blocks) front ≡ image_bytes (new_image version blocks)
-  front_made two fits = front_filled version width blocks front two fits (are ∙ ap image_bytes made)
+  pub prefix_made : 1024 ≤ width → width ≤ 512 * blocks → resized_file (4096 * blocks) prefix ≡ image_bytes (new_image version blocks)
+  prefix_made two fits = prefix_filled version width blocks prefix two fits (are ∙ ap image_bytes made)
 
 -- the bytes of all blocks
 pub all_blocks : (memory : Memory) (bytes : List ℕ) (count : ℕ) → length memory.base ≡ 512 * count → bytes ≡ take (4096 * count) (image_bytes (current_words memory)) → bytes ≡ image_bytes (current_words memory)

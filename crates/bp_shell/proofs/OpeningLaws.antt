@@ -3,7 +3,7 @@ use Rattle.std.proofs.Common.{zero, suc, refl, sym, ◌∙◌, ap, subst, arith,
 use Rattle.std.specs.Prelude.{Some, None, ◌⊎◌}
 use Rattle.std.proofs.Math.Seq.{take-add, take-length}
 use Rattle.bp_limits.specs.Limits.{max_file_blocks}
-use Rattle.bp_io.specs.Files.{Stays, TellsFile, Answers, Reads, blocks_of}
+use Rattle.bp_io.specs.Files.{Stays, FileSatisfies, Answers, Reads, blocks_of}
 use Rattle.bp_io.specs.Views.{Known, View, HasBytes}
 use Rattle.bp_session.proofs.OthersLaws.{stays_same, stays_stays}
 use Rattle.bp_session.proofs.SavingLaws.{stays_attached, still_attached}
@@ -31,18 +31,18 @@ use Rattle.bp_shell.specs.Stops.{stop_by}
 use Rattle.bp_shell.specs.declared.stop.Stop.{Stop}
 use Rattle.bp_shell.specs.declared.stop.Stop.TheVariants.{Missing, Outside, Refused, Memory}
 
--- a run of blocks behind those before it
+-- a run of blocks after those before it
 pub blocks_next : (bytes : List ℕ) (first count : ℕ) → take (4096 * (first + count)) bytes ≡ take (4096 * first) bytes ++ blocks_of bytes first count
 blocks_next bytes first count =
     let width : (4096 * first + 4096 * count) - 4096 * first ≡ 4096 * count = omega arith in
     let end : 4096 * (first + count) ≡ 4096 * first + 4096 * count = omega arith in
     rw (width, end) (take-add (4096 * first) (4096 * count) bytes)
 
-pub tells_next : (known : Known) (read next run : List ℕ) (first count : ℕ) → TellsFile known (λ bytes. read ≡ take (4096 * first) bytes) → TellsFile known (λ bytes. run ≡ blocks_of bytes first count) → next ≡ read ++ run
-    → TellsFile known (λ bytes. next ≡ take (4096 * (first + count)) bytes)
-tells_next None read next run first count before here e = tt
-tells_next (Some None) read next run first count before here e = tt
-tells_next (Some (Some bytes)) read next run first count before here e =
+pub reports_next : (known : Known) (read next run : List ℕ) (first count : ℕ) → FileSatisfies known (λ bytes. read ≡ take (4096 * first) bytes) → FileSatisfies known (λ bytes. run ≡ blocks_of bytes first count) → next ≡ read ++ run
+    → FileSatisfies known (λ bytes. next ≡ take (4096 * (first + count)) bytes)
+reports_next None read next run first count before here e = tt
+reports_next (Some None) read next run first count before here e = tt
+reports_next (Some (Some bytes)) read next run first count before here e =
     e ∙ ap (λ l. l ++ run) before ∙ ap (λ l. take (4096 * first) bytes ++ l) here ∙ sym (blocks_next bytes first count)
 
 pub stays_equal : (was now : Known) → Stays was now → now ≡ was
@@ -59,10 +59,10 @@ reads_then a b c one two = record {
   flushed = two.flushed ∙ one.flushed;
 }
 
-pub tells_all : (known : Known) (P : List ℕ → Type 0) → ((bytes : List ℕ) → P bytes) → TellsFile known P
-tells_all None P all = tt
-tells_all (Some None) P all = tt
-tells_all (Some (Some bytes)) P all = all bytes
+pub reports_all : (known : Known) (P : List ℕ → Type 0) → ((bytes : List ℕ) → P bytes) → FileSatisfies known P
+reports_all None P all = tt
+reports_all (Some None) P all = tt
+reports_all (Some (Some bytes)) P all = all bytes
 
 -- ---- an image that is loaded
 
@@ -87,12 +87,12 @@ no_words = refl
 
 -- what is loaded is so before a read and after it
 module _ (a b : View) (count : ℕ) (part : Part) (reads : Reads a b) where
-  abbrev front : Known → Type 0
-  front known = TellsFile known (λ bytes. image_bytes part.words ≡ take (4096 * count) bytes)
+  abbrev prefix : Known → Type 0
+  prefix known = FileSatisfies known (λ bytes. image_bytes part.words ≡ take (4096 * count) bytes)
 
   pub loaded_then : HasLoaded a count part → HasLoaded b count part
   loaded_then loaded = record {
-    image = λ name is. subst front (sym (stays_equal _ _ (reads.files name))) (loaded.image name (sym (reads.attached.attached name) ∙ is));
+    image = λ name is. subst prefix (sym (stays_equal _ _ (reads.files name))) (loaded.image name (sym (reads.attached.attached name) ∙ is));
     words = loaded.words;
     long = loaded.long;
     size = omega (arith, loaded.size, reads.attached.blocks);
@@ -100,23 +100,23 @@ module _ (a b : View) (count : ℕ) (part : Part) (reads : Reads a b) where
 
   pub loaded_before : HasLoaded b count part → HasLoaded a count part
   loaded_before loaded = record {
-    image = λ name is. subst front (stays_equal _ _ (reads.files name)) (loaded.image name (reads.attached.attached name ∙ is));
+    image = λ name is. subst prefix (stays_equal _ _ (reads.files name)) (loaded.image name (reads.attached.attached name ∙ is));
     words = loaded.words;
     long = loaded.long;
     size = omega (arith, loaded.size, reads.attached.blocks);
   }
 
-whole_known : (known : Known) (count : ℕ) (bytes : List ℕ) → HasLength known (4096 * count) → TellsFile known (λ found. bytes ≡ take (4096 * count) found) → HasBytes known bytes
-whole_known None count bytes long tells = tt
-whole_known (Some None) count bytes long tells = long
-whole_known (Some (Some found)) count bytes long tells = sym (tells ∙ ap (λ n. take n found) (sym long) ∙ take-length found)
+whole_known : (known : Known) (count : ℕ) (bytes : List ℕ) → HasLength known (4096 * count) → FileSatisfies known (λ found. bytes ≡ take (4096 * count) found) → HasBytes known bytes
+whole_known None count bytes long reports = tt
+whole_known (Some None) count bytes long reports = long
+whole_known (Some (Some found)) count bytes long reports = sym (reports ∙ ap (λ n. take n found) (sym long) ∙ take-length found)
 
 module _ (was : Known) (name : List ℕ) (count : ℕ) (found now : View) (base : Image) (finds : FindsImage was name count found) (same : found.contents name ≡ was) (reads : Reads found now)
-    (front : HoldsFirstBlocks found count base) (size : length base ≡ 512 * count) (words : AreWordsOf64Bits base) where
+    (prefix : HoldsFirstBlocks found count base) (size : length base ≡ 512 * count) (words : AreWordsOf64Bits base) where
   known : HasBytes was (image_bytes base)
   known =
-      let tells : TellsFile was (λ bytes. image_bytes base ≡ take (4096 * count) bytes) = rw same at (front name finds.attached) in
-      whole_known was count (image_bytes base) finds.has tells
+      let reports : FileSatisfies was (λ bytes. image_bytes base ≡ take (4096 * count) bytes) = rw same at (prefix name finds.attached) in
+      whole_known was count (image_bytes base) finds.has reports
 
   pub is_sized : HasSized was base
   is_sized = record {
@@ -149,21 +149,21 @@ stop_kinds (f.Damaged check place) = inl (Damaged (number_of check) place, refl)
 stop_kinds f.Memory = inr refl
 
 pub no_refusal : (notice : Notice) → ◌≡◌ {A = Stop} Memory (Refused notice) → ⊥
-no_refusal told e = cc
+no_refusal reported e = cc
 
 same_notice : (first second : Notice) → ◌≡◌ {A = Stop} (Refused first) (Refused second) → first ≡ second
 same_notice first second e = cc
 
 pub stop_refused : (fault : MountFault) (image : Image) (known : Known) (notice : Notice) → IsFault image fault → HasSized known image → stop_by fault ≡ Refused notice → RefusesFile known notice
-stop_refused f.NotFormatted image known told why has e = rw (← same_notice NotFormatted told e) (not_formatted has why)
-stop_refused (f.BadSize found wanted) image known told why has e = rw (← same_notice (BadSize found wanted) told e, why.2, why.3) (by_count has why.0 why.1)
-stop_refused (f.Damaged check place) image known told why has e = rw (← same_notice (Damaged (number_of check) place) told e) (damaged has why.0 why.1 why.2)
-stop_refused f.Memory image known told why has e = absurd why
+stop_refused f.NotFormatted image known reported why has e = rw (← same_notice NotFormatted reported e) (not_formatted has why)
+stop_refused (f.BadSize found wanted) image known reported why has e = rw (← same_notice (BadSize found wanted) reported e, why.2, why.3) (by_count has why.0 why.1)
+stop_refused (f.Damaged check place) image known reported why has e = rw (← same_notice (Damaged (number_of check) place) reported e) (damaged has why.0 why.1 why.2)
+stop_refused f.Memory image known reported why has e = absurd why
 
 pub stop_refused_length : (fault : MountFault) (known : Known) (len : ℕ) (notice : Notice) → HasLength known len → (fault ≡ f.BadSize len (wanted_length max_file_blocks len)) × (len ≢ wanted_length len) → stop_by fault ≡ Refused notice → RefusesFile known notice
 stop_refused_length fault known len notice has why e =
-    let told : stop_by (f.BadSize len (wanted_length max_file_blocks len)) ≡ Refused notice = rw why.0 at e in
-    rw (← same_notice (BadSize len (wanted_length max_file_blocks len)) notice told) (by_length has why.1)
+    let reported : stop_by (f.BadSize len (wanted_length max_file_blocks len)) ≡ Refused notice = rw why.0 at e in
+    rw (← same_notice (BadSize len (wanted_length max_file_blocks len)) notice reported) (by_length has why.1)
 
 pub never_missing : (fault : MountFault) → stop_by fault ≡ Missing → ⊥
 never_missing f.NotFormatted e = cc

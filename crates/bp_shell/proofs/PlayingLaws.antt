@@ -12,7 +12,7 @@ use Rattle.bp_shell.specs.Playing.{EndsPlay, PlaysFile, play_text}
 -- a play over the file's words
 pub plays_file : (known : Known) (image : Image) (old : Memory) (seed count : ℕ) (summary : Summary) (totals : Totals) (free : ℕ) (text : List ℕ) → HoldsFileSystem known image → old ≡ (start image).memory
     → EndsPlay old seed count summary totals free → text ≡ play_text count summary totals free → PlaysFile known seed count text
-plays_file known image old seed count summary totals free text found same ends told =
+plays_file known image old seed count summary totals free text found same ends reported =
     let here : EndsPlay (start image).memory seed count summary totals free = rw same at ends in
     record {
       image = image;
@@ -21,6 +21,6 @@ plays_file known image old seed count summary totals free text found same ends t
       totals = totals;
       free = free;
       ends = here;
-      told = told;
+      reported = reported;
       plainly = λ tree stands. follows_tree (start image) tree _ _ _ refl stands (here.plays.session image);
     }

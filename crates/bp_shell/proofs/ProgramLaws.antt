@@ -20,8 +20,8 @@ use Rattle.bp_session.specs.declared.broken.Broken.{Broken}
 use Rattle.bp_session.specs.declared.broken.Broken.TheVariants.{Source, Sink, Files, LongInput}
 use Rattle.bp_session.proofs.ChangedLaws.{holds_drained}
 use Rattle.bp_session.proofs.OutcomeLaws.{files_fault, first_then, never_whole, quiet, sink_fault}
-use Rattle.bp_shell.specs.Ending.{StopOutcome, TellsStop}
-use Rattle.bp_shell.specs.Statuses.{IsFormatStatus, IsReadStatus, IsRunStatus, ReadsNothing, broken_by, status_by, tells_line}
+use Rattle.bp_shell.specs.Ending.{StopOutcome, PrintsStop}
+use Rattle.bp_shell.specs.Statuses.{IsFormatStatus, IsReadStatus, IsRunStatus, ReadsNothing, broken_by, status_by, prints_line}
 use Rattle.bp_shell.specs.Stops.{IsReason}
 use Rattle.bp_shell.specs.declared.status.Status.{Status}
 use Rattle.bp_shell.specs.declared.status.Status.TheVariants as status
@@ -33,14 +33,14 @@ use Rattle.bp_shell.proofs.RunningLaws.{complete, runs_broken, runs_long, runs_p
 
 -- ---- `run`
 
--- each cause by the way to which it leads, which tells no line
+-- each cause by the way to which it leads, which reports no line
 back : (broken : Broken) → broken_by (status_by broken) ≡ Some broken
 back Source = refl
 back Sink = refl
 back Files = refl
 back LongInput = refl
 
-no_line : (broken : Broken) → tells_line (status_by broken) ≡ false
+no_line : (broken : Broken) → prints_line (status_by broken) ≡ false
 no_line Source = refl
 no_line Sink = refl
 no_line Files = refl
@@ -86,15 +86,15 @@ module _ (answer : Status) (before after : Outside) where
 -- before a line is read
 module _ (before after : Outside) (untouched : IsUntouched before after) (flushed : after.is_flushed ≡ before.is_flushed) (source : after.faults.source ≡ before.faults.source) where
   pub run_stopped : (stop : Stop) (answer : Status) → IsReason before.file stop → (stop ≡ s.Outside → Rose before.faults.files after.faults.files) → (¬ (stop ≡ s.Outside) → after.faults.files ≡ before.faults.files)
-      → TellsStop stop answer before.taken after.taken before.faults.sink after.faults.sink → RunOutcome answer before after
-  run_stopped stop answer reason failed same told =
-      let among = stop_statuses stop answer _ _ _ _ told in
+      → PrintsStop stop answer before.taken after.taken before.faults.sink after.faults.sink → RunOutcome answer before after
+  run_stopped stop answer reason failed same reported =
+      let among = stop_statuses stop answer _ _ _ _ reported in
       run_outcome answer before after (λ e. absurd (never_among answer status.Done among (λ z. cc) (λ z. cc) (λ z. cc) (λ z. cc) e))
       (λ e. absurd (never_among answer status.SourceFailed among (λ z. cc) (λ z. cc) (λ z. cc) (λ z. cc) e))
       (λ e. absurd (never_among answer status.SinkFailed among (λ z. cc) (λ z. cc) (λ z. cc) (λ z. cc) e))
-      (λ e. inl (stop_idle before after untouched source stop answer told e))
+      (λ e. inl (stop_idle before after untouched source stop answer reported e))
       (λ e. absurd (never_among answer status.LongInput among (λ z. cc) (λ z. cc) (λ z. cc) (λ z. cc) e))
-      (stop_outcome before after untouched source stop answer reason failed same told) (λ _ e. flushed ∙ e)
+      (stop_outcome before after untouched source stop answer reason failed same reported) (λ _ e. flushed ∙ e)
       (elim among [
         | inl e ↦ inr (inl e)
         | inr (inl e) ↦ inr (inr (inr (inr (inl e))))
@@ -111,7 +111,7 @@ read_now now name image same file =
     let base : now.memory.base ≡ image = ap (λ (m : Memory). m.base) same in
     subst (λ (words : Image). HoldsAs now.dirty now.files words name image) (sym base) (holds_drained now.dirty now.files image name file)
 
--- the outside at a moment, with what is told of the files by another
+-- the outside at a moment, with what is stated of the files by another
 abbrev outside_at : SourceView → Moment → View → List ℕ → Outside
 outside_at source now files name = outside source (record { taken = now.taken; faults = now.faults }) files name
 
@@ -127,8 +127,8 @@ module _ (i j : SourceView) (files : View) (a b : Moment) (name : List ℕ) (ima
       let reads = λ (unread : ReadsNothing (status_by broken)). broken_reads broken unread in
       run_outcome (status_by broken) before after (λ e. absurd (never_whole broken (is ∙ ap broken_by e)))
       (λ e. let part = served.part (is ∙ ap broken_by e) in runs_part before after image a.memory b.memory found same part.0 part.1 (Carries a b image) saves part.2 (part.3 image))
-      (λ e. let told = served.broken (is ∙ ap broken_by e) in runs_broken before after image a.memory b.memory found same told.0 (Carries a b image) saves told.1
-      (elim told.2 [ inl all ↦ inl (λ rest. all rest image) | inr last ↦ inr (last.0, last.1 image) ]))
+      (λ e. let reported = served.broken (is ∙ ap broken_by e) in runs_broken before after image a.memory b.memory found same reported.0 (Carries a b image) saves reported.1
+      (elim reported.2 [ inl all ↦ inl (λ rest. all rest image) | inr last ↦ inr (last.0, last.1 image) ]))
       (λ e. let stop = served.stopped (is ∙ ap broken_by e) in inr (inl (runs_stopped before after image a.memory b.memory found same stop.0 (CarriesPartly a b image) (λ k l carried. (carried name holds).bytes) stop.1
       (elim stop.2 [ inl all ↦ inl (λ rest. (all rest).stops image) | inr last ↦ inr (last.0, last.1.stops image) ]))))
       (λ e. let long = served.long (is ∙ ap broken_by e) in runs_long before after image a.memory b.memory found same long.0 long.1 long.2 (Carries a b image) saves long.3 long.4 long.5 long.6 (long.7 image))
@@ -160,9 +160,9 @@ module _ (i j : SourceView) (files : View) (a b : Moment) (name : List ℕ) (ima
         let before = outside_at i a files name in
         let after = outside_at j b now name in
         let all = served.whole refl in
-        let told = all.4 image in
+        let reported = all.4 image in
         run_outcome status.FilesFailed before after (λ e. absurd cc) (λ e. absurd cc) (λ e. absurd cc)
-        (λ _. inr (inr (runs_unsaved before after image a.memory memory found same all.0 b.memory (Carries a b image) all.1 all.2 all.3 told done (partly told.after (told.file name holds).file))))
+        (λ _. inr (inr (runs_unsaved before after image a.memory memory found same all.0 b.memory (Carries a b image) all.1 all.2 all.3 reported done (partly reported.after (reported.file name holds).file))))
         (λ e. absurd cc)
         (no_stop before after status.FilesFailed (λ e. cc) (λ e. cc) (λ e. cc)
         (first_then (Some Files) (counts i.faults a.faults files) (counts j.faults b.faults b.files) (counts j.faults b.faults now) (served.first.no_source (λ e. cc)) (served.first.no_sink refl (λ e. cc))
@@ -174,8 +174,8 @@ module _ (i j : SourceView) (files : View) (a b : Moment) (name : List ℕ) (ima
 
 module _ (version : Version) (blocks : ℕ) (before after : Outside) (left : after.left ≡ before.left) (source : after.faults.source ≡ before.faults.source) where
   pub format_done : HasBytes after.file (image_bytes (new_image version blocks)) → Appends before.taken after.taken (format_text blocks) → after.is_flushed ≡ true → after.faults.sink ≡ before.faults.sink → after.faults.files ≡ before.faults.files → FormatOutcome status.Done version blocks before after
-  format_done saved told flushed sink files = record {
-    whole = λ _. (saved, told);
+  format_done saved reported flushed sink files = record {
+    whole = λ _. (saved, reported);
     sink = λ e. absurd cc;
     flushed = λ _. flushed;
     files = λ e. absurd cc;

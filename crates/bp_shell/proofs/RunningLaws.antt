@@ -19,12 +19,12 @@ use Rattle.bp_session.specs.Lines.{commands_from}
 use Rattle.bp_replies.specs.Room.{gathered_size}
 use Rattle.bp_shell.specs.Opening.{HoldsFileSystem, IsShortFileSystem, RefusesFile, start}
 use Rattle.bp_shell.specs.Opening.RefusesFile.{by_length, not_formatted, by_count, damaged}
-use Rattle.bp_session.specs.Fronts.{FollowsTree}
+use Rattle.bp_session.specs.Prefixes.{FollowsTree}
 use Rattle.bp_shell.specs.Running.{BeginsRun, BreaksOffPlainly, IsComplete, Runs, RunsBroken, RunsLong, RunsPart, RunsStopped, RunsUnsaved, Saves, SavesSomeBlocks, StopsPlainly}
 use Rattle.bp_session.specs.Outside.{Outside}
 use Rattle.bp_session.specs.Faults.{SourceFailed, SinkFailed, FilesFailed}
 use Rattle.bp_shell.specs.Ending.{IsReadComplete}
-use Rattle.bp_session.specs.Serving.{BreaksOff, OfLines, Serves, ServesAll, StopsAtSave, Told}
+use Rattle.bp_session.specs.Serving.{BreaksOff, OfLines, Serves, ServesAll, StopsAtSave, Replied}
 use Rattle.bp_session.specs.Session.{Session, State}
 use Rattle.bp_shell.specs.Statuses.{IsReadStatus, IsRunStatus}
 use Rattle.bp_shell.specs.declared.status.Status.{Status}
@@ -45,16 +45,16 @@ module _ (before after : Outside) (image : Image) (memory new : Memory) (found :
   pub runs_whole : (input : List ℕ) (holds : Image → Type 0) → Consumes before.left after.left input → IsAtEnd after.left → length input ≤ 1073741824
       → ServesAll (state memory image) new holds (commands_from [] input) before.taken after.taken → Saves after (current_words new) → after.is_flushed ≡ true → Runs before after
   runs_whole input holds read end few all saved flushed =
-      let told : Told (start image) (state new all.after) (commands_from [] input) before.taken after.taken = rw same at all.told in
+      let reported : Replied (start image) (state new all.after) (commands_from [] input) before.taken after.taken = rw same at all.reported in
       record {
         begins = begins input read;
         all = end;
         few = few;
         new = state new all.after;
-        told = told;
+        reported = reported;
         saved = saved;
         flushed = flushed;
-        plainly = plainly _ _ _ told.session;
+        plainly = plainly _ _ _ reported.session;
       }
 
   serves_from_start : (input keeps : List ℕ) (holds : Image → Type 0) → ((i : Image) → holds i → Saves after i) → Serves (state memory image) new holds [] input keeps before.taken after.taken
@@ -64,13 +64,13 @@ module _ (before after : Outside) (image : Image) (memory new : Memory) (found :
   pub runs_part : (input keeps : List ℕ) (holds : Image → Type 0) → ((i : Image) → holds i → Saves after i) → Consumes before.left after.left input
       → Serves (state memory image) new holds [] input keeps before.taken after.taken → RunsPart before after
   runs_part input keeps holds f read serves =
-      let told = serves_from_start input keeps holds f serves in
-      record { begins = begins input read; keeps = keeps; memory = new; serves = told; plainly = plainly _ _ _ told.told.session }
+      let reported = serves_from_start input keeps holds f serves in
+      record { begins = begins input read; keeps = keeps; memory = new; serves = reported; plainly = plainly _ _ _ reported.reported.session }
 
   pub runs_long : (input more keeps : List ℕ) (holds : Image → Type 0) → ((i : Image) → holds i → Saves after i) → Consumes before.left after.left (input ++ more) → length input ≡ 1073741824 → 1 ≤ length more → length more ≤ 65536
       → Serves (state memory image) new holds [] input keeps before.taken after.taken → RunsLong before after
   runs_long input more keeps holds f read most some few serves =
-      let told = serves_from_start input keeps holds f serves in
+      let reported = serves_from_start input keeps holds f serves in
       record {
         begins = begins (input ++ more) read;
         served = input;
@@ -81,19 +81,19 @@ module _ (before after : Outside) (image : Image) (memory new : Memory) (found :
         few = few;
         keeps = keeps;
         memory = new;
-        serves = told;
-        plainly = plainly _ _ _ told.told.session;
+        serves = reported;
+        plainly = plainly _ _ _ reported.reported.session;
       }
 
   breaks_plainly : (holds : Image → Type 0) → ((i : Image) → holds i → Saves after i) → (commands : List Command) → BreaksOff gathered_size (state memory image) new holds commands before.taken after.taken
       → BreaksOffPlainly image (tree_of image found.well_formed.first found.well_formed.second) new before after commands
   breaks_plainly holds f commands breaks =
-      let told : BreaksOff gathered_size (start image) new (Saves after) commands before.taken after.taken =
+      let reported : BreaksOff gathered_size (start image) new (Saves after) commands before.taken after.taken =
       breaks_as (start image) new before.taken after.taken holds (Saves after) f gathered_size gathered_size commands (λ e. e) (rw same at breaks) in
       record {
-        breaks = told;
+        breaks = reported;
         plainly = plainly _ _ _
-            (session_append (start image) told.middle (state new told.after) told.front (told.last ∷ told.ahead) told.replies (told.reply ∷ told.unheard) told.session (told.reached, told.line, told.later));
+            (session_append (start image) reported.middle (state new reported.after) reported.prefix (reported.last ∷ reported.ahead) reported.replies (reported.reply ∷ reported.unheard) reported.session (reported.reached, reported.line, reported.later));
       }
 
   pub runs_broken : (input : List ℕ) (holds : Image → Type 0) → ((i : Image) → holds i → Saves after i) → Consumes before.left after.left input
@@ -110,8 +110,8 @@ module _ (before after : Outside) (image : Image) (memory new : Memory) (found :
   stops_plainly : (partly : Image → Image → Type 0) → ((i j : Image) → partly i j → SavesSomeBlocks after i j) → (commands : List Command) → StopsAtSave (state memory image) new partly commands before.taken after.taken
       → StopsPlainly image (tree_of image found.well_formed.first found.well_formed.second) new before after commands
   stops_plainly partly f commands stops =
-      let told : StopsAtSave (start image) new (SavesSomeBlocks after) commands before.taken after.taken = stops_as (start image) new before.taken after.taken partly (SavesSomeBlocks after) f commands (rw same at stops) in
-      record { stops = told; plainly = plainly _ _ _ told.told.session }
+      let reported : StopsAtSave (start image) new (SavesSomeBlocks after) commands before.taken after.taken = stops_as (start image) new before.taken after.taken partly (SavesSomeBlocks after) f commands (rw same at stops) in
+      record { stops = reported; plainly = plainly _ _ _ reported.reported.session }
 
   pub runs_stopped : (input : List ℕ) (partly : Image → Image → Type 0) → ((i j : Image) → partly i j → SavesSomeBlocks after i j) → Consumes before.left after.left input
       → OfLines after.left input (λ commands. StopsAtSave (state memory image) new partly commands before.taken after.taken) → RunsStopped before after
@@ -128,16 +128,16 @@ module _ (before after : Outside) (image : Image) (memory new : Memory) (found :
   pub runs_unsaved : (input : List ℕ) (middle : Memory) (holds : Image → Type 0) → Consumes before.left after.left input → IsAtEnd after.left → length input ≤ 1073741824
       → (all : ServesAll (state memory image) middle holds (commands_from [] input) before.taken after.taken) → new ≡ drained middle → SavesSomeBlocks after all.after (current_words middle) → RunsUnsaved before after
   runs_unsaved input middle holds read end few all done file =
-      let told : Told (start image) (state middle all.after) (commands_from [] input) before.taken after.taken = rw same at all.told in
+      let reported : Replied (start image) (state middle all.after) (commands_from [] input) before.taken after.taken = rw same at all.reported in
       record {
         begins = begins input read;
         all = end;
         few = few;
         memory = new;
         middle = state middle all.after;
-        told = told;
+        reported = reported;
         fails = record { is = refl; drained = done; file = file };
-        plainly = plainly _ _ _ told.session;
+        plainly = plainly _ _ _ reported.session;
       }
 
 wanted_whole : (n : ℕ) → 8 ≤ n → n ≤ 65536 → wanted_length 65536 (4096 * n) ≡ 4096 * n
@@ -158,13 +158,13 @@ not_refused image line words well (damaged {image = other} {check = check} {plac
 pub complete : (answer : Status) (before after : Outside) → (answer ≡ status.Missing → IsAbsent before.file) → (answer ≡ status.SourceFailed → SourceFailed before after) → (answer ≡ status.SinkFailed → SinkFailed before after) → (answer ≡ status.FilesFailed → FilesFailed before after)
     → (answer ≡ status.LongInput → RunsLong before after) → (answer ≡ status.Refused → (notice : Notice) × RefusesFile before.file notice)
     → IsRunStatus answer → IsComplete answer before after
-complete answer before after missing source sink files long refused among image input held words well told few no_source no_sink no_files = elim among [
+complete answer before after missing source sink files long refused among image input held words well reported few no_source no_sink no_files = elim among [
   | inl e ↦ inl e
   | inr (inl e) ↦ absurd (rw held at (missing e))
   | inr (inr (inl e)) ↦ absurd (no_source (source e))
   | inr (inr (inr (inl e))) ↦ absurd (no_sink (sink e))
   | inr (inr (inr (inr (inl e)))) ↦ absurd (no_files (files e))
-  | inr (inr (inr (inr (inr (inl e))))) ↦ let run = long e in absurd (not_long before.left after.left input run.served run.more told few (rw run.are at run.begins.read) run.most run.some)
+  | inr (inr (inr (inr (inr (inl e))))) ↦ let run = long e in absurd (not_long before.left after.left input run.served run.more reported few (rw run.are at run.begins.read) run.most run.some)
   | inr (inr (inr (inr (inr (inr (inl e)))))) ↦ let why = refused e in absurd (not_refused image why.0 words well (rw held at why.1))
   | inr (inr (inr (inr (inr (inr (inr e)))))) ↦ inr e
 ]

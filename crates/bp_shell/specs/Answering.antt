@@ -59,8 +59,8 @@ AnswersIfTaken words answer source_of sink_of files_of source sink files source_
     ⊎ ((answer ≡ status.Memory) × (source_now ≡ source) × (sink_now ≡ sink) × (files_now ≡ files))
 
 -- The usage line is printed, as far as the sink takes it.
-abbrev pub TellsUsage : SinkView → SinkView → Type 0
-TellsUsage sink sink_now = Prints (notice_text Usage) sink.taken sink_now.taken sink.faults sink_now.faults
+abbrev pub PrintsUsage : SinkView → SinkView → Type 0
+PrintsUsage sink sink_now = Prints (notice_text Usage) sink.taken sink_now.taken sink.faults sink_now.faults
 
 -- ---- no source
 

@@ -31,7 +31,7 @@ pub record Checks (known : Known) (notice : Notice) : Type 0 where
 pub record ChecksBy (known : Known) (text : List ℕ) : Type 0 where
   pub notice : Notice
   pub checks : Checks known notice
-  pub told : text ≡ notice_text notice
+  pub reported : text ≡ notice_text notice
 
 -- The result of `check FILE`, and its conditions.
 abbrev pub CheckOutcome : Status → Outside → Outside → Type 0

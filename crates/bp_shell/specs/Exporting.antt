@@ -1,7 +1,7 @@
 -- The result of `export FILE`, and its conditions.
 use Rattle.std.specs.Prelude.{Some, ◌≡◌, ◌⊎◌, ℕ, List, Option}
 use Rattle.std.specs.Io.KnownBytes.{Appends}
-use Rattle.bp_export.specs.Exports.{TakesFront}
+use Rattle.bp_export.specs.Exports.{TakesPrefix}
 use Rattle.bp_io.specs.Causes.{Rose}
 use Rattle.bp_io.specs.Views.{Known, SinkView}
 use Rattle.bp_layout.specs.Bytes.{image_bytes}
@@ -16,9 +16,9 @@ use Rattle.bp_script.specs.declared.notices.Notice.{Notice}
 use Rattle.bp_script.specs.declared.notices.Notice.TheVariants.{NoFile, Deep}
 use Rattle.bp_session.specs.Files.{AreWordsOf64Bits, IsAbsent}
 use Rattle.bp_session.specs.Outside.{Outside}
-use Rattle.bp_session.specs.Faults.{FilesFailed, SinkFailed, IsFirstFault, IsIdle, IsUntouched, Prints, TellsLine}
+use Rattle.bp_session.specs.Faults.{FilesFailed, SinkFailed, IsFirstFault, IsIdle, IsUntouched, Prints, PrintsLine}
 use Rattle.bp_shell.specs.Opening.{HoldsFileSystem, IsShortFileSystem, RefusesFile}
-use Rattle.bp_shell.specs.Statuses.{IsExportStatus, broken_by, tells_line}
+use Rattle.bp_shell.specs.Statuses.{IsExportStatus, broken_by, prints_line}
 use Rattle.bp_shell.specs.declared.status.Status.{Status}
 use Rattle.bp_shell.specs.declared.status.Status.TheVariants as status
 
@@ -26,21 +26,21 @@ use Rattle.bp_shell.specs.declared.status.Status.TheVariants as status
 
 -- The text printed for a tree, by the status: the whole script; a prefix of it if memory lacks; a proper prefix of it if
 -- the sink failed. If some path is longer than a call can spell, only the line that reports this is printed.
-abbrev pub TellsTree : FileTree → Status → Option (List ℕ) → Option (List ℕ) → ℕ → ℕ → Type 0
-TellsTree tree status.Done taken taken_now faults faults_now =
+abbrev pub PrintsTree : FileTree → Status → Option (List ℕ) → Option (List ℕ) → ℕ → ℕ → Type 0
+PrintsTree tree status.Done taken taken_now faults faults_now =
     HasShortPaths tree × Appends taken taken_now (export_text tree) × (faults_now ≡ faults)
-TellsTree tree status.Memory taken taken_now faults faults_now =
-    HasShortPaths tree × TakesFront (export_text tree) taken taken_now × (faults_now ≡ faults)
-TellsTree tree status.SinkFailed taken taken_now faults faults_now =
+PrintsTree tree status.Memory taken taken_now faults faults_now =
+    HasShortPaths tree × TakesPrefix (export_text tree) taken taken_now × (faults_now ≡ faults)
+PrintsTree tree status.SinkFailed taken taken_now faults faults_now =
     HasShortPaths tree × TakesPart (export_text tree) taken taken_now × Rose faults faults_now
-TellsTree tree status.Deep taken taken_now faults faults_now =
+PrintsTree tree status.Deep taken taken_now faults faults_now =
     (¬ HasShortPaths tree) × Prints (notice_text Deep) taken taken_now faults faults_now
-TellsTree tree _ taken taken_now faults faults_now = ⊥
+PrintsTree tree _ taken taken_now faults faults_now = ⊥
 
 -- The tree that an image represents is printed so to a sink.
-abbrev pub TellsTreeOf : Image → Status → SinkView → SinkView → Type 0
-TellsTreeOf image answer sink sink_now = (tree : FileTree) → Stands image tree
-    → TellsTree tree answer sink.taken sink_now.taken sink.faults sink_now.faults
+abbrev pub PrintsTreeOf : Image → Status → SinkView → SinkView → Type 0
+PrintsTreeOf image answer sink sink_now = (tree : FileTree) → Stands image tree
+    → PrintsTree tree answer sink.taken sink_now.taken sink.faults sink_now.faults
 
 -- ---- a file
 
@@ -55,7 +55,7 @@ pub record Exports (known : Known) (text : List ℕ) : Type 0 where
   pub tree : FileTree
   pub holds : HoldsTree known tree
   pub short : HasShortPaths tree
-  pub told : text ≡ export_text tree
+  pub reported : text ≡ export_text tree
 
 -- FILE holds a file system, and some path of its tree is longer than a call can spell.
 pub record HoldsDeep (known : Known) : Type 0 where
@@ -64,10 +64,10 @@ pub record HoldsDeep (known : Known) : Type 0 where
   pub deep : ¬ HasShortPaths tree
 
 -- The sink took a prefix of the script of FILE, which may be all of it.
-pub record ExportsFront (before after : Outside) : Type 0 where
+pub record ExportsPrefix (before after : Outside) : Type 0 where
   pub text : List ℕ
   pub exports : Exports before.file text
-  pub takes : TakesFront text before.taken after.taken
+  pub takes : TakesPrefix text before.taken after.taken
 
 -- If FILE is known to have the bytes of a file system, and neither sink nor files fail, the result is `Done`,
 -- `Memory`, or, if a path is too long, `Deep`.
@@ -80,14 +80,14 @@ IsExportComplete answer before after =
 -- The result of `export FILE`, and its conditions. It reads no input, and FILE stays unchanged.
 pub record ExportOutcome (answer : Status) (before after : Outside) : Type 0 where
   pub whole : answer ≡ status.Done → (text : List ℕ) × Exports before.file text × Appends before.taken after.taken text
-  pub missing : answer ≡ status.Missing → IsAbsent before.file × TellsLine NoFile before after
+  pub missing : answer ≡ status.Missing → IsAbsent before.file × PrintsLine NoFile before after
   pub sink : answer ≡ status.SinkFailed → (text : List ℕ) × Exports before.file text × TakesPart text before.taken after.taken
   pub files : answer ≡ status.FilesFailed → IsIdle before after
-  pub refused : answer ≡ status.Refused → (notice : Notice) × RefusesFile before.file notice × TellsLine notice before after
-  pub memory : answer ≡ status.Memory → IsIdle before after ⊎ ExportsFront before after
-  pub deep : answer ≡ status.Deep → HoldsDeep before.file × TellsLine Deep before after
+  pub refused : answer ≡ status.Refused → (notice : Notice) × RefusesFile before.file notice × PrintsLine notice before after
+  pub memory : answer ≡ status.Memory → IsIdle before after ⊎ ExportsPrefix before after
+  pub deep : answer ≡ status.Deep → HoldsDeep before.file × PrintsLine Deep before after
   pub untouched : IsUntouched before after
   pub flushed : after.is_flushed ≡ before.is_flushed
-  pub first : IsFirstFault (broken_by answer) (tells_line answer) before.faults after.faults
+  pub first : IsFirstFault (broken_by answer) (prints_line answer) before.faults after.faults
   pub complete : IsExportComplete answer before after
   pub one_of : IsExportStatus answer

@@ -13,7 +13,7 @@ use Rattle.bp_scan.specs.Totals.{HasTotals}
 use Rattle.bp_scan.specs.declared.totals.Totals.{Totals}
 use Rattle.bp_session.specs.Acting.{state}
 use Rattle.bp_session.specs.Outside.{Outside}
-use Rattle.bp_session.specs.Fronts.{FollowsTree}
+use Rattle.bp_session.specs.Prefixes.{FollowsTree}
 use Rattle.bp_shell.specs.Ending.{ReadOutcome}
 use Rattle.bp_shell.specs.Opening.{HoldsFileSystem, start}
 use Rattle.bp_shell.specs.declared.status.Status.{Status}
@@ -65,7 +65,7 @@ pub record PlaysFile (known : Known) (seed count : ℕ) (text : List ℕ) : Type
   pub totals : Totals
   pub free : ℕ
   pub ends : EndsPlay (start image).memory seed count summary totals free
-  pub told : text ≡ play_text count summary totals free
+  pub reported : text ≡ play_text count summary totals free
   pub plainly : (tree : FileTree) → Stands image tree
       → FollowsTree tree (start image) (turns seed count) ends.plays.replies (state ends.new image)
 

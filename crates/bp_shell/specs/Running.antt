@@ -19,8 +19,8 @@ use Rattle.bp_script.specs.Sayings.{notice_text}
 use Rattle.bp_session.specs.Acting.{state}
 use Rattle.bp_session.specs.Lines.{commands_from}
 use Rattle.bp_session.specs.Files.{AreWordsOf64Bits, HasBlocksOf, Holds}
-use Rattle.bp_session.specs.Serving.{BreaksOff, SyncFails, OfLines, Serves, StopsAtSave, Told}
-use Rattle.bp_session.specs.Fronts.{FollowsTree}
+use Rattle.bp_session.specs.Serving.{BreaksOff, SyncFails, OfLines, Serves, StopsAtSave, Replied}
+use Rattle.bp_session.specs.Prefixes.{FollowsTree}
 use Rattle.bp_session.specs.Session.{State}
 use Rattle.bp_shell.specs.Opening.{HoldsFileSystem, IsShortFileSystem, IsStart, OnlyReads, start}
 use Rattle.bp_shell.specs.Formatting.{new_image, HasPartly, OnlyMakes}
@@ -30,7 +30,7 @@ use Rattle.bp_shell.specs.Checking.{CheckOutcome}
 use Rattle.bp_shell.specs.Ending.{StopOutcome}
 use Rattle.bp_shell.specs.Exporting.{ExportOutcome}
 use Rattle.bp_shell.specs.Playing.{PlayOutcome}
-use Rattle.bp_shell.specs.Statuses.{IsFormatStatus, IsRunStatus, broken_by, tells_line}
+use Rattle.bp_shell.specs.Statuses.{IsFormatStatus, IsRunStatus, broken_by, prints_line}
 use Rattle.bp_shell.specs.declared.status.Status.{Status}
 use Rattle.bp_shell.specs.declared.status.Status.TheVariants as status
 use Rattle.bp_session.specs.Pieces.{piece_size}
@@ -71,10 +71,10 @@ pub record Runs (before after : Outside) : Type 0 where
   pub all : IsAtEnd after.left
   pub few : length begins.input ≤ max_input
   pub new : State
-  pub told : Told (start begins.image) new (commands_from [] begins.input) before.taken after.taken
+  pub reported : Replied (start begins.image) new (commands_from [] begins.input) before.taken after.taken
   pub saved : Saves after (current_words new.memory)
   pub flushed : after.is_flushed ≡ true
-  pub plainly : FollowsTree begins.tree (start begins.image) (commands_from [] begins.input) told.replies new
+  pub plainly : FollowsTree begins.tree (start begins.image) (commands_from [] begins.input) reported.replies new
 
 -- The lines that were read whole were answered, and FILE is as at the last sync.
 pub record RunsPart (before after : Outside) : Type 0 where
@@ -82,7 +82,7 @@ pub record RunsPart (before after : Outside) : Type 0 where
   pub keeps : List ℕ
   pub memory : Memory
   pub serves : Serves (start begins.image) memory (Saves after) [] begins.input keeps before.taken after.taken
-  pub plainly : FollowsTree begins.tree (start begins.image) serves.commands serves.told.replies
+  pub plainly : FollowsTree begins.tree (start begins.image) serves.commands serves.reported.replies
       (state memory serves.after)
 
 -- The greatest number of bytes was served, and the last read gave more.
@@ -97,7 +97,7 @@ pub record RunsLong (before after : Outside) : Type 0 where
   pub keeps : List ℕ
   pub memory : Memory
   pub serves : Serves (start begins.image) memory (Saves after) [] served keeps before.taken after.taken
-  pub plainly : FollowsTree begins.tree (start begins.image) serves.commands serves.told.replies
+  pub plainly : FollowsTree begins.tree (start begins.image) serves.commands serves.reported.replies
       (state memory serves.after)
 
 -- The reply to one of these commands was broken off. FILE is as at the last sync up to that command, and no sync came
@@ -105,7 +105,7 @@ pub record RunsLong (before after : Outside) : Type 0 where
 pub record BreaksOffPlainly (image : Image) (tree : FileTree) (memory : Memory) (before after : Outside)
     (commands : List Command) : Type 0 where
   pub breaks : BreaksOff gathered_size (start image) memory (Saves after) commands before.taken after.taken
-  pub plainly : FollowsTree tree (start image) (breaks.front ++ breaks.last ∷ breaks.ahead)
+  pub plainly : FollowsTree tree (start image) (breaks.prefix ++ breaks.last ∷ breaks.ahead)
       (breaks.replies ++ breaks.reply ∷ breaks.unheard) (state memory breaks.after)
 
 -- The sink did not take a reply whole. Its line was read whole, or ended the input.
@@ -119,7 +119,7 @@ pub record RunsBroken (before after : Outside) : Type 0 where
 pub record StopsPlainly (image : Image) (tree : FileTree) (memory : Memory) (before after : Outside)
     (commands : List Command) : Type 0 where
   pub stops : StopsAtSave (start image) memory (SavesSomeBlocks after) commands before.taken after.taken
-  pub plainly : FollowsTree tree (start image) stops.front stops.told.replies stops.middle
+  pub plainly : FollowsTree tree (start image) stops.prefix stops.reported.replies stops.middle
 
 -- A sync could not save. Its line was read whole, or ended the input.
 pub record RunsStopped (before after : Outside) : Type 0 where
@@ -134,9 +134,9 @@ pub record RunsUnsaved (before after : Outside) : Type 0 where
   pub few : length begins.input ≤ max_input
   pub memory : Memory
   pub middle : State
-  pub told : Told (start begins.image) middle (commands_from [] begins.input) before.taken after.taken
+  pub reported : Replied (start begins.image) middle (commands_from [] begins.input) before.taken after.taken
   pub fails : SyncFails middle memory (SavesSomeBlocks after) sync
-  pub plainly : FollowsTree begins.tree (start begins.image) (commands_from [] begins.input) told.replies middle
+  pub plainly : FollowsTree begins.tree (start begins.image) (commands_from [] begins.input) reported.replies middle
 
 -- If FILE is known to have the bytes of a file system, the known source has at most `max_input` bytes, and nothing
 -- fails, the result is `Done` or `Memory`.
@@ -184,7 +184,7 @@ pub record FormatOutcome (answer : Status) (version : Version) (blocks : ℕ) (b
       × (after.taken ≡ before.taken)
   pub memory : answer ≡ status.Memory → (after.file ≡ before.file) × (after.taken ≡ before.taken)
   pub unread : after.left ≡ before.left
-  pub first : IsFirstFault (broken_by answer) (tells_line answer) before.faults after.faults
+  pub first : IsFirstFault (broken_by answer) (prints_line answer) before.faults after.faults
   pub one_of : IsFormatStatus answer
 
 -- ---- any program

@@ -35,12 +35,12 @@ broken_by LongInput = Some cause.LongInput
 broken_by other = None
 
 -- Whether a program with this status prints a line at its end that says why.
-abbrev pub tells_line : Status → Bool
-tells_line Missing = true
-tells_line Usage = true
-tells_line Refused = true
-tells_line Deep = true
-tells_line other = false
+abbrev pub prints_line : Status → Bool
+prints_line Missing = true
+prints_line Usage = true
+prints_line Refused = true
+prints_line Deep = true
+prints_line other = false
 
 -- No byte of the source is read with this status.
 abbrev pub ReadsNothing : Status → Type 0

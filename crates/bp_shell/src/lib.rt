@@ -1,18 +1,18 @@
 //! The programs `format`, `run`, `check`, `play` and `export`.
 #![tactic(auto)]
 
-mod checking;
-mod exporting;
-mod formatting;
-pub mod opening;
-mod playing;
-mod printing;
-mod running;
-mod scanning;
+mod check;
+mod export;
+mod format;
+pub mod image_file;
+mod output;
+mod play;
+mod programs;
+mod scan;
 mod status;
 mod stop;
 
-pub use opening::open;
-pub use running::run;
+pub use image_file::open;
+pub use programs::run;
 pub use status::Status;
 pub use stop::Stop;

@@ -1,4 +1,4 @@
--- What a sort of the places tells of the names.
+-- What a sort of the places describes the names.
 use Rattle.std.proofs.Common.{◌≡◌, ◌≢◌, ◌⊎◌, ℕ, ◌+◌, ◌/◌, ◌<◌, ◌≤◌, List, length, slice_index, Bool, true, false, eqb, refl, sym, ◌∙◌, ap, subst, arith, inl, inr, ⊎_elim}
 use Rattle.std.specs.List.{Contains, All, AllPairs}
 use Rattle.std.specs.List.Sorted.{IsPermutation}

@@ -44,7 +44,7 @@ module _ (image : Image) (root size slot : ℕ) (full : IsFull image root size) 
       ap (byte image root) whole ∙ byte-at image root slot (o / 8) (o % 8) (omega arith)
       ∙ ap (λ w. byte_of w (o % 8)) (word-there (2 + o / 8) field ∙ ap (word image) at)))
 
-  -- a name has the right form exactly where its words tell one that has
+  -- a name has the right form exactly where its words report one that has
   pub form-there : IsName (name_there image (entry_place_in image root slot)) → IsName (name_in image root slot)
   form-there is =
       let short : word_in image root slot 1 ≤ 240 = omega (arith, is.short, length-name image (entry_place_in image root slot), word-there 1 (omega arith)) in

@@ -46,7 +46,7 @@ key_word-later image place (suc part) some =
     let back : part ≡ suc part - 1 = omega arith in
     ap (λ n. word image (place + 1 + suc part) % 256 ^ min 8 (word image (place + 1) - 8 * n)) back
 
--- the order of the words behind the length, in names that are as long
+-- the order of the words after the length, in names that are as long
 module _ (image : Image) (a b k count : ℕ) (some : 1 ≤ k) (low : k < 31) (first : word image (a + 1) ≡ count) (second : word image (b + 1) ≡ count) where
   part_cmp : (o : Ordering) → o ≡ nat_cmp (word image (a + 1 + k) % 256 ^ min 8 (count - 8 * (k - 1))) (word image (b + 1 + k) % 256 ^ min 8 (count - 8 * (k - 1))) →
       rest_cmp image a b k ≡ ordering_then o (rest_cmp image a b (k + 1))

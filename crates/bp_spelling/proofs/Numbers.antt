@@ -11,6 +11,6 @@ numbers_more image root first count end old new ends were same more slot low = g
   where
     go : (slot < first) ⊎ (first ≤ slot) → slice_index new slot ≡ in_32_bits (inumber_in image root slot)
     go (inl before) = same slot before ∙ were slot before
-    go (inr behind) =
-        let there : first + (slot - first) ≡ slot = omega (arith, behind) in
-        subst (λ (s : ℕ). slice_index new s ≡ in_32_bits (inumber_in image root s)) there (more (slot - first) (omega (arith, low, ends, behind)))
+    go (inr beyond) =
+        let there : first + (slot - first) ≡ slot = omega (arith, beyond) in
+        subst (λ (s : ℕ). slice_index new s ≡ in_32_bits (inumber_in image root s)) there (more (slot - first) (omega (arith, low, ends, beyond)))

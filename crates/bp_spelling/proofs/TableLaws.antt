@@ -1,4 +1,4 @@
--- A table of names, cell by cell, and what it tells of the entries that were put into it.
+-- A table of names, cell by cell, and what it describes the entries that were put into it.
 use Rattle.std.proofs.Common.{◌≡◌, ◌≢◌, ℕ, ◌+◌, ◌<◌, ◌≤◌, List, ◌∷◌, length, set, sym, ◌∙◌, ap, ap₂, subst, arith, inl, inr}
 use Rattle.std.specs.List.{All}
 use Rattle.std.proofs.lemmas.Bool.{cases_eq, cases_lt}
@@ -81,9 +81,9 @@ module _ (image : Image) (table : List Spelled) (entry : Spelled) where
         let start : home (length table) other.hash ≡ home (length table) entry.hash = ap (home (length table)) hashes in
         elim (cases_lt kept.cell cell) [
           | inl before ↦ passes.others kept.cell (omega (arith, kept.from, start)) before (ap (spelled_key image) kept.there ∙ same)
-          | inr behind ↦ elim (cases_eq kept.cell cell) [
+          | inr beyond ↦ elim (cases_eq kept.cell cell) [
             | inl here ↦ present (ap (λ (e : Spelled). e.number) (sym kept.there) ∙ ap (λ (x : ℕ). (cell_at table x).number) here ∙ none)
-            | inr apart ↦ kept.taken cell (omega (arith, passes.from, start)) (omega (arith, behind, apart)) none
+            | inr apart ↦ kept.taken cell (omega (arith, passes.from, start)) (omega (arith, beyond, apart)) none
           ]
         ]
 
@@ -111,7 +111,7 @@ pub record IsOneOf (entries : List Spelled) (count : ℕ) (cell : Spelled) : Typ
   pub low : index < count
   pub is : cell_at entries index ≡ cell
 
--- the first entries, so many, stand in the table, which has no others, and no two have one name
+-- the first entries, as many, stand in the table, which has no others, and no two have one name
 pub record IsHeld (image : Image) (entries : List Spelled) (count : ℕ) (table : List Spelled) : Type 0 where
   pub kept : (k : ℕ) → k < count → IsKept table (cell_at entries k)
   pub apart : (i j : ℕ) → i < j → j < count → spelled_key image (cell_at entries i) ≡ spelled_key image (cell_at entries j) → ⊥
@@ -128,7 +128,7 @@ module _ (image : Image) (entries : List Spelled) where
       let hashes : (cell_at entries i).hash ≡ (cell_at entries j).hash = exact i empty_cell before ∙ same_hash image _ _ names ∙ sym (exact j empty_cell low) in
       held.apart i j order (omega (arith, low, all)) (ap₂ (λ (h : ℕ) (n : List ℕ). h ∷ n) hashes names)
 
-  -- a clash with an entry tells a name that two entries have
+  -- a clash with an entry reports a name that two entries have
   pub held_double : (count : ℕ) → count < length entries → (table : List Spelled) → IsHeld image entries count table → IsClash image table (cell_at entries count) Double →
       IsDouble image (places_of entries) (place_of (cell_at entries count))
   held_double count low table held (double cell some same) =

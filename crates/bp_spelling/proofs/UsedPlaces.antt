@@ -30,7 +30,7 @@ module _ (image : Image) (root : ℕ) where
       go true at = absurd (some (eqb-true _ _ at))
       go false at = rw at refl
 
-  -- what holds of the places behind a slot, and of the slot's place where it has one, holds from the slot on
+  -- what holds of the places after a slot, and of the slot's place where it has one, holds from the slot on
   one_more : (P : List ℕ → Type 0) (from count : ℕ) → (inumber_in image root from ≡ 0 → P (used_places image root (range_with_len (from + 1) count))) →
       (inumber_in image root from ≢ 0 → P (entry_place_in image root from ∷ used_places image root (range_with_len (from + 1) count))) →
       P (used_places image root (range_with_len from (suc count)))
@@ -53,8 +53,8 @@ module _ (image : Image) (root : ℕ) where
       All-cons (IsAmong image root from (suc count)) (entry_place_in image root from) (used_places image root (range_with_len (from + 1) count))
       (record { slot = from; low = omega arith; high = omega arith; some = some; there = refl }) rest)
 
-  behind : (x p : ℕ) (xs : List ℕ) → Contains xs x → Contains (p ∷ xs) x
-  behind x p xs (k, low, is) = (suc k, omega (arith, low), is)
+  beyond : (x p : ℕ) (xs : List ℕ) → Contains xs x → Contains (p ∷ xs) x
+  beyond x p xs (k, low, is) = (suc k, omega (arith, low), is)
 
   at_head : (x p : ℕ) (xs : List ℕ) → p ≡ x → Contains (p ∷ xs) x
   at_head x p xs is = (0, omega arith, is)
@@ -74,7 +74,7 @@ module _ (image : Image) (root : ℕ) where
           let there : Contains (used_places image root (range_with_len (from + 1) count)) (entry_place_in image root slot) =
           rest (omega (arith, low, before)) (omega (arith, high)) in
           one_more (λ xs. Contains xs (entry_place_in image root slot)) from count (λ none. there) (λ used.
-          behind (entry_place_in image root slot) (entry_place_in image root from) (used_places image root (range_with_len (from + 1) count)) there)
+          beyond (entry_place_in image root slot) (entry_place_in image root from) (used_places image root (range_with_len (from + 1) count)) there)
 
 -- no two of the places are the same
 pub all_apart : (image : Image) (root size from count : ℕ) → IsSound image root size → IsFull image root size → from + count ≤ size / 256 →

@@ -45,4 +45,4 @@ pub data IsClash (image : Image) (old : List Spelled) (entry : Spelled) : Clash 
 -- The error of a table: one of the entries at these places has the name of another one, or nothing is known.
 pub data IsTableError (image : Image) (places : List ℕ) : TableError → Type 0 where
   repeated : (place : ℕ) → IsDouble image places place → IsTableError image places (Repeated place)
-  untold : IsTableError image places (Crowded)
+  unreported : IsTableError image places (Crowded)

@@ -50,7 +50,7 @@ fn are_plain_words(words: &[u64]) -> bool
 /// Returns whether none of `count` bytes is 0 or `/`, of which the first word is at a place.
 fn are_plain<R: Region>(region: &R, first: u64, count: u64) -> bool
     requires short { count ≤ max_name }
-    requires behind_head { HEAD_WORDS ≤ first }
+    requires after_head { HEAD_WORDS ≤ first }
     requires within { first + 30 ≤ length (words_in R.memory region.now) }
     ensures { IsTrue result ↔ ArePlain (words_in R.memory region.now) first count }
 {
@@ -77,7 +77,7 @@ fn is_dots(word: u64, count: u64) -> bool
 /// Returns whether the entry at a place has a valid name: 1 to 240 bytes, no byte 0 and no `/`, and neither `.` nor
 /// `..`.
 pub(crate) fn is_name<R: Region>(region: &R, place: u64) -> bool
-    requires behind_head { HEAD_WORDS ≤ place }
+    requires after_head { HEAD_WORDS ≤ place }
     requires within { place + entry_words ≤ length (words_in R.memory region.now) }
     ensures { IsTrue result ↔ IsName (name_there (words_in R.memory region.now) place) }
 {

@@ -109,7 +109,7 @@ not_below path name = go (rest_below (path ++ name ∷ []) path) refl
     go None e = e
     go (Some rest) e = absurd (not_longer path name rest (rest_below-is (path ++ name ∷ []) path rest e))
 
--- an entry is spelled anew
+-- an entry is spelled again
 pub respell_shows : (old new : Image) (wf : IsWellFormed old) (i s j : ℕ) → RespellsEntry old new i s j → (from : Path) → lookup old from ≡ Some i →
     (map : PathMap) → Shows old map → Shows new (with_moved map (from ++ name_at old i s ∷ []) (from ++ name_at new i s ∷ []))
 respell_shows old new wf i s j spells from from_is map shows =

@@ -13,7 +13,7 @@ use Rattle.bp_layout.specs.Paths.Node.{dir, file}
 use Rattle.bp_layout.specs.WellFormed.{IsWellFormed}
 use Rattle.bp_layout.specs.Words.{Image}
 use Rattle.bp_layout.proofs.Finding.{map-same}
-use Rattle.bp_layout.proofs.NameBytes.{map-tells}
+use Rattle.bp_layout.proofs.NameBytes.{map-equal}
 use Rattle.bp_layout.proofs.View.{find_one-same}
 use Rattle.bp_changes.specs.Overwrites.{OverwritesFiles, Patch, patched, patched_by}
 use Rattle.bp_changes.proofs.KeepsDirectories.{directories-same, well_formed-same}
@@ -29,7 +29,7 @@ use Rattle.pm_words.proofs.OverlayLaws.{over_before, over_past, over_there}
 use Rattle.bp_stands.specs.Pieces.{ArePatches, PieceFinds, patch_of}
 use Rattle.bp_stands.specs.Pieces.ArePatches.{none, more}
 use Rattle.bp_stands.proofs.FileStands.{content_elsewhere, content_here, finds}
-use Rattle.bp_stands.proofs.WrittenBytes.{in_bytes, in_front_had, in_rest, written_length}
+use Rattle.bp_stands.proofs.WrittenBytes.{in_bytes, in_prefix_had, in_rest, written_length}
 
 -- ---- one byte
 
@@ -100,14 +100,14 @@ module _ (image : Image) (bytes : ℕ → ℕ → ℕ) (patch : Patch) where
         go : (o < patch.offset) ⊎ (patch.offset ≤ o) → (o < patch.offset + length patch.bytes) ⊎ (patch.offset + length patch.bytes ≤ o) → more_bytes patch.inode o ≡ get_or (written had patch.offset patch.bytes) o 0
         go (inl before) _ =
             byte_before patch patch.inode o (bytes patch.inode o) before
-            ∙ sym (in_front_had had patch.offset patch.bytes o before (omega (arith, low, had_length)) ∙ had_byte o low)
+            ∙ sym (in_prefix_had had patch.offset patch.bytes o before (omega (arith, low, had_length)) ∙ had_byte o low)
         go (inr from) (inl inside) = byte_inside patch patch.inode o (bytes patch.inode o) refl from inside ∙ sym (in_bytes had patch.offset patch.bytes o from inside)
         go (inr from) (inr past) = byte_past patch patch.inode o (bytes patch.inode o) past ∙ sym (in_rest had patch.offset patch.bytes o past ∙ had_byte o low)
 
     content_is : written had patch.offset patch.bytes ≡ map (more_bytes patch.inode) (range_with_len 0 (size_of image patch.inode))
     content_is =
         sym (ap (λ n. map (more_bytes patch.inode) (range_with_len 0 n)) (sym whole)
-        ∙ map-tells (more_bytes patch.inode) (written had patch.offset patch.bytes) (λ o low. byte_is o (omega (arith, low, whole))))
+        ∙ map-equal (more_bytes patch.inode) (written had patch.offset patch.bytes) (λ o low. byte_is o (omega (arith, low, whole))))
 
     node_is : node_with image more_bytes patch.inode ≡ file (written had patch.offset patch.bytes)
     node_is = rw is_file (ap file (sym content_is))

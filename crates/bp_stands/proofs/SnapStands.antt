@@ -1,4 +1,4 @@
--- A snapshot is made: two words of the superblock that nobody reads get the words that tell of the inode file. It goes
+-- A snapshot is made: two words of the superblock that nobody reads get the words that describe the inode file. It goes
 -- once the second of them is 0.
 use Rattle.std.proofs.Common.{◌≡◌, ◌≢◌, ℕ, ◌<◌, ◌≤◌, length, set, Bool, true, false, ◌&&◌, nat_lt, None, Some, refl, sym, ◌∙◌, ap, subst, arith, get_or-set_same, get_or-set_other}
 use Rattle.std.proofs.lemmas.List.{length-set, set-get_or}
@@ -18,7 +18,7 @@ use Rattle.bp_limits.specs.declared.version.Version.TheVariants.{Two}
 use Rattle.bp_limits.specs.Limits.{super_snapshot_size, version_at}
 use Rattle.bp_limits.specs.CallLimits.{is_two}
 
--- no live word stands in the superblock behind the four words of the first tree
+-- no live word stands in the superblock after the four words of the first tree
 pub idle-harmless : (image : Image) (place value : ℕ) → 4 ≤ place → place < 512 → IsHarmless image place value
 idle-harmless image place value low high =
     let none : (t d k : ℕ) → StandsAt image t d k place → ⊥ = λ t d k stands. let present = stands.present in let at = stands.at in omega (arith, present, at, high) in

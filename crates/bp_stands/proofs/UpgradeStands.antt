@@ -11,7 +11,7 @@ use Rattle.bp_layout.proofs.Upgrade.{upgraded_alone, upgraded_one, upgraded_show
 use Rattle.bp_plain.specs.PlainTree.{FileTree, PathMap}
 use Rattle.bp_plain.specs.Stands.{ShowsSnapshot, Stands}
 
--- an upgrade of version 1 leaves the tree but for its version
+-- an upgrade of version 1 leaves the tree except for its version
 pub upgrade_stands : (image : Image) → version_of image ≡ One → (tree : FileTree) → Stands image tree → Stands (upgraded image) (record tree { version = Two })
 upgrade_stands image first tree stands = record {
   version = sym (upgraded_version image wf);

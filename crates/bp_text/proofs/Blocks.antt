@@ -63,11 +63,11 @@ module _ (p : ℕ → Bool) where
           ap (λ k. p (slice_index text k)) at ∙ run_in_chunk_stops p text 0 n _ 0 (omega (arith, room)) counted low,
         )
 
--- what the mask of a block tells
-pub block_told : (one other n : ℕ) (text : List ℕ) → n ≤ length text → n ≤ 64
+-- what the mask of a block reports
+pub block_reported : (one other n : ℕ) (text : List ℕ) → n ≤ length text → n ≤ 64
     → mask_l (map (top 7) (zip2 bit_or (zip2 same (take n text) (replicate n one)) (zip2 same (take n text) (replicate n other)))) % 2 ^ 64
     ≡ mask_l (map (is_byte2 one other) (chunk 0 n text))
-block_told one other n text room few =
+block_reported one other n text room few =
     let v = chunk 0 n text in
     let long : length v ≡ n = length-chunk 0 n text (omega (arith, room)) in
     ap (λ ms. mask_l ms % 2 ^ 64) (marks_are one other n v long) ∙ mask_l-mod (map (is_byte2 one other) v) 64 (omega (arith, length-map v (is_byte2 one other), long))

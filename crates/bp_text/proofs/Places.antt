@@ -25,7 +25,7 @@ module _ (p : ℕ → Bool) where
       position_or_len_is p xs i 0 (omega (arith, found.0.high)) (λ k low. fails_there xs k (found.0.before k (omega arith) low)) (λ low. found.1) in
       rw (lt-ltb (position_or_len p xs) (length xs) (omega (arith, at, found.0.high))) (ap Some (sym at))
 
-  -- ---- behind a place
+  -- ---- after a place
 
   abbrev pub Here : List ℕ → ℕ → Type 0
   Here xs k = Passes p xs k
@@ -33,24 +33,24 @@ module _ (p : ℕ → Bool) where
   moved : (xs : List ℕ) (at k : ℕ) → at + k < length xs → slice_index (take (length xs - at) (drop at xs)) k ≡ slice_index xs (at + k)
   moved xs at k inside = get_or-take (length xs - at) (drop at xs) k 0 (omega (arith, inside)) ∙ get_or-drop at xs k 0
 
-  passes_behind : (xs : List ℕ) (at k : ℕ) → at ≤ k → k < length xs → Passes p xs k → Passes p (take (length xs - at) (drop at xs)) (k - at)
-  passes_behind xs at k low high passes =
+  passes_after : (xs : List ℕ) (at k : ℕ) → at ≤ k → k < length xs → Passes p xs k → Passes p (take (length xs - at) (drop at xs)) (k - at)
+  passes_after xs at k low high passes =
       let back : at + (k - at) ≡ k = omega (arith, low) in
       ap p (moved xs at (k - at) (omega (arith, low, high)) ∙ ap (slice_index xs) back) ∙ passes
 
   before_too : (xs : List ℕ) (i at n k : ℕ) → at + k ≤ length xs → Nowhere (Here xs) i at → Nowhere (Here (take (length xs - at) (drop at xs))) 0 k → Nowhere (Here xs) i (at + k)
-  before_too xs i at n k room quiet behind j low high passes =
+  before_too xs i at n k room quiet beyond j low high passes =
       elim (cases_lt j at) [
         | inl early ↦ quiet j low early passes
-        | inr late ↦ behind (j - at) (omega arith) (omega (arith, late, high)) (passes_behind xs at j late (omega (arith, high, room)) passes)
+        | inr late ↦ beyond (j - at) (omega arith) (omega (arith, late, high)) (passes_after xs at j late (omega (arith, high, room)) passes)
       ]
 
-  pub none_behind : (xs : List ℕ) (i at n : ℕ) → at + n ≤ length xs → Nowhere (Here xs) i at → IsFirst (Here (take (length xs - at) (drop at xs))) 0 n None → Nowhere (Here xs) i (at + n)
-  none_behind xs i at n room quiet nowhere = before_too xs i at n n room quiet nowhere
+  pub none_after : (xs : List ℕ) (i at n : ℕ) → at + n ≤ length xs → Nowhere (Here xs) i at → IsFirst (Here (take (length xs - at) (drop at xs))) 0 n None → Nowhere (Here xs) i (at + n)
+  none_after xs i at n room quiet nowhere = before_too xs i at n n room quiet nowhere
 
-  pub found_behind : (xs : List ℕ) (i at n k : ℕ) → i ≤ at → at + n ≤ length xs → Nowhere (Here xs) i at → IsFirst (Here (take (length xs - at) (drop at xs))) 0 n (Some k)
+  pub found_after : (xs : List ℕ) (i at n k : ℕ) → i ≤ at → at + n ≤ length xs → Nowhere (Here xs) i at → IsFirst (Here (take (length xs - at) (drop at xs))) 0 n (Some k)
       → IsFirst (Here xs) i (length xs) (Some (at + k))
-  found_behind xs i at n k low room quiet found =
+  found_after xs i at n k low room quiet found =
       let inside : at + k < length xs = omega (arith, room, found.0.high) in (
         record {
           low = omega (arith, low);

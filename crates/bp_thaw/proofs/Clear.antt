@@ -9,7 +9,7 @@ use Rattle.bp_layout.specs.Members.{AreApart, Has}
 use Rattle.bp_layout.specs.Need.{prefixes_from}
 use Rattle.bp_layout.specs.Nodes.{is_present}
 use Rattle.bp_layout.specs.Reached.IsReached.{inode_file}
-use Rattle.bp_layout.specs.Thaw.{fronts_of, is_front, is_in_snapshot_at, is_there_now, thawed_on}
+use Rattle.bp_layout.specs.Thaw.{proper_prefixes_of, is_proper_prefix, is_in_snapshot_at, is_there_now, thawed_on}
 use Rattle.bp_layout.specs.WellFormed.{IsWellFormed}
 use Rattle.bp_layout.specs.WordPaths.{WordPath, address, tree_path}
 use Rattle.bp_layout.specs.Words.{Image, height_of}
@@ -19,11 +19,11 @@ use Rattle.bp_changes.proofs.ReachedOn.{reached_on}
 use Rattle.bp_changes.proofs.SameMeaning.{well_formed-same}
 use Rattle.bp_shapes.specs.Trail.{Trail, block_on, place_on, trail_of}
 use Rattle.bp_shapes.specs.Forest.{IsTreePointer}
-use Rattle.bp_thaw.specs.Fronts.{IsPointerPath, IsWayIn, path_trail}
+use Rattle.bp_thaw.specs.Prefixes.{IsPointerPath, IsWayIn, path_trail}
 use Rattle.bp_thaw.specs.Steps.{AreInSnapshot, IsInSnapshot}
-use Rattle.bp_thaw.proofs.Found.{AreFound, IsFrontAmong, all_apart, any_some, are_found, filter_none, found_is, gone, mapped_range, path_of, some_any, take_front, there_of}
+use Rattle.bp_thaw.proofs.Found.{AreFound, IsPrefixAmong, all_apart, any_some, are_found, filter_none, found_is, gone, mapped_range, path_of, some_any, take_prefix, there_of}
 use Rattle.bp_thaw.proofs.FindSteps.{take-trail, there_above}
-use Rattle.bp_thaw.proofs.PointerPaths.{address_is, front_path, in_snapshot_is, paths_apart, there_is, there_pointer}
+use Rattle.bp_thaw.proofs.PointerPaths.{address_is, prefix_path, in_snapshot_is, paths_apart, there_is, there_pointer}
 
 abbrev pub trails_of : List WordPath → List Trail
 trails_of paths = map path_trail paths
@@ -51,15 +51,15 @@ module _ (image : Image) (wf : IsWellFormed image) (in_snapshot : ℕ → Bool) 
   gone_has earlier (v ∷ ws) w (inr (inl e)) = gone_has (v ∷ earlier) ws w (inl (inl e))
   gone_has earlier (v ∷ ws) w (inr (inr later)) = gone_has (v ∷ earlier) ws w (inr later)
 
-  fronts_has : (earlier ws : List WordPath) (f : WordPath) → Has (fronts_of earlier ws) f → IsFrontAmong image wf in_snapshot ws f
-  fronts_has earlier [] f has = absurd has
-  fronts_has earlier (w ∷ ws) f has = elim (has-either (filter (λ front. not (list_any (is_front front) earlier)) (prefixes_from 0 w)) (fronts_of (w ∷ earlier) ws) f has) [
+  prefixes_has : (earlier ws : List WordPath) (f : WordPath) → Has (proper_prefixes_of earlier ws) f → IsPrefixAmong image wf in_snapshot ws f
+  prefixes_has earlier [] f has = absurd has
+  prefixes_has earlier (w ∷ ws) f has = elim (has-either (filter (λ prefix. not (list_any (is_proper_prefix prefix) earlier)) (prefixes_from 0 w)) (proper_prefixes_of (w ∷ earlier) ws) f has) [
     | inl here ↦
-        let one = filter-has (λ front. not (list_any (is_front front) earlier)) (prefixes_from 0 w) f here in
+        let one = filter-has (λ prefix. not (list_any (is_proper_prefix prefix) earlier)) (prefixes_from 0 w) f here in
         let two = mapped_range (λ n. take n w) 0 (length w - 0) f one.0 in
         record { way = w; count = two.0; has = inl refl; less = omega (arith, two.1); is = two.2 }
     | inr later ↦
-        let rest = fronts_has (w ∷ earlier) ws f later in
+        let rest = prefixes_has (w ∷ earlier) ws f later in
         record { way = rest.way; count = rest.count; has = inr rest.has; less = rest.less; is = rest.is }
   ]
 
@@ -68,17 +68,17 @@ module _ (image : Image) (wf : IsWellFormed image) (in_snapshot : ℕ → Bool) 
     all_of = are_found image wf in_snapshot ws ways
 
     pointer_path : (f : WordPath) → Has (thawed_on image in_snapshot ws) f → IsPointerPath image f
-    pointer_path f has = path_of image wf in_snapshot (gone image wf in_snapshot [] ws) all_of.ways f (all_of.fronts f has)
+    pointer_path f has = path_of image wf in_snapshot (gone image wf in_snapshot [] ws) all_of.ways f (all_of.prefixes f has)
 
     there_found : (f : WordPath) → Has (thawed_on image in_snapshot ws) f → is_there_now image f ≡ true
     there_found f has = there_of image wf in_snapshot f (all_of.in_snapshot_there f has)
 
-    -- a kept front is among what is found
-    in_snapshot_found : (f : WordPath) → IsFrontAmong image wf in_snapshot (gone image wf in_snapshot [] ws) f → is_in_snapshot_at image in_snapshot f ≡ true → Has (thawed_on image in_snapshot ws) f
-    in_snapshot_found f front is =
-        let of : IsPointerPath image f = path_of image wf in_snapshot (gone image wf in_snapshot [] ws) all_of.ways f front in
-        let begins : is_front f front.way ≡ true = subst (λ g. is_front g front.way ≡ true) (sym front.is) (take_front front.way front.count front.less) in
-        let other = some_any (λ g. address image g == address image f) (thawed_on image in_snapshot ws) (all_of.same f of is ∙ any_some (is_front f) (gone image wf in_snapshot [] ws) front.way front.has begins) in
+    -- a kept prefix is among what is found
+    in_snapshot_found : (f : WordPath) → IsPrefixAmong image wf in_snapshot (gone image wf in_snapshot [] ws) f → is_in_snapshot_at image in_snapshot f ≡ true → Has (thawed_on image in_snapshot ws) f
+    in_snapshot_found f prefix is =
+        let of : IsPointerPath image f = path_of image wf in_snapshot (gone image wf in_snapshot [] ws) all_of.ways f prefix in
+        let begins : is_proper_prefix f prefix.way ≡ true = subst (λ g. is_proper_prefix g prefix.way ≡ true) (sym prefix.is) (take_prefix prefix.way prefix.count prefix.less) in
+        let other = some_any (λ g. address image g == address image f) (thawed_on image in_snapshot ws) (all_of.same f of is ∙ any_some (is_proper_prefix f) (gone image wf in_snapshot [] ws) prefix.way prefix.has begins) in
         subst (Has (thawed_on image in_snapshot ws))
         (paths_apart image wf other.0 f (pointer_path other.0 other.1) of (there_found other.0 other.1) (there_of image wf in_snapshot f is) (eqb-true (address image other.0) (address image f) other.2)) other.1
 
@@ -100,17 +100,17 @@ module _ (image : Image) (wf : IsWellFormed image) (in_snapshot : ℕ → Bool) 
         above : (slot : ℕ) (p : Trail) → Has (trails_of (thawed_on image in_snapshot ws)) (slot ∷ p) → in_snapshot (block_on image p) ≡ true → Has (trails_of (thawed_on image in_snapshot ws)) p
         above slot p has is =
             let f = has-trail (thawed_on image in_snapshot ws) (slot ∷ p) has in
-            let front = all_of.fronts f.0 f.1 in
-            let way : IsWayIn image front.way = all_of.ways front.way front.has in
-            let up = below front.way front.count slot p (sym (take-trail image wf front.way way front.count (omega (arith, front.less))) ∙ ap path_trail (sym front.is) ∙ f.2) in
+            let prefix = all_of.prefixes f.0 f.1 in
+            let way : IsWayIn image prefix.way = all_of.ways prefix.way prefix.has in
+            let up = below prefix.way prefix.count slot p (sym (take-trail image wf prefix.way way prefix.count (omega (arith, prefix.less))) ∙ ap path_trail (sym prefix.is) ∙ f.2) in
             let m : ℕ = up.0 in
-            let less : m < length front.way = omega (arith, up.1, front.less) in
-            let trail : path_trail (take m front.way) ≡ p = take-trail image wf front.way way m (omega (arith, less)) ∙ up.2 in
-            let here : is_there_now image (take front.count front.way) ≡ true = subst (λ g. is_there_now image g ≡ true) front.is (there_found f.0 f.1) in
-            let there : is_there_now image (take m front.way) ≡ true = there_above image wf front.way way front.count m (omega (arith, up.1)) front.less here in
-            let in_snapshot_there : is_in_snapshot_at image in_snapshot (take m front.way) ≡ true = in_snapshot_is image wf (take m front.way) (front_path image wf front.way m way less) there in_snapshot ∙ ap (λ t. in_snapshot (block_on image t)) trail ∙ is in
+            let less : m < length prefix.way = omega (arith, up.1, prefix.less) in
+            let trail : path_trail (take m prefix.way) ≡ p = take-trail image wf prefix.way way m (omega (arith, less)) ∙ up.2 in
+            let here : is_there_now image (take prefix.count prefix.way) ≡ true = subst (λ g. is_there_now image g ≡ true) prefix.is (there_found f.0 f.1) in
+            let there : is_there_now image (take m prefix.way) ≡ true = there_above image wf prefix.way way prefix.count m (omega (arith, up.1)) prefix.less here in
+            let in_snapshot_there : is_in_snapshot_at image in_snapshot (take m prefix.way) ≡ true = in_snapshot_is image wf (take m prefix.way) (prefix_path image wf prefix.way m way less) there in_snapshot ∙ ap (λ t. in_snapshot (block_on image t)) trail ∙ is in
             subst (Has (trails_of (thawed_on image in_snapshot ws))) trail
-            (trail-has (thawed_on image in_snapshot ws) (take m front.way) (in_snapshot_found (take m front.way) (record { way = front.way; count = m; has = front.has; less = less; is = refl }) in_snapshot_there))
+            (trail-has (thawed_on image in_snapshot ws) (take m prefix.way) (in_snapshot_found (take m prefix.way) (record { way = prefix.way; count = m; has = prefix.has; less = less; is = refl }) in_snapshot_there))
 
     pub trails_number : length (trails_of (thawed_on image in_snapshot ws)) ≡ length (thawed_on image in_snapshot ws)
     trails_number = length-map (thawed_on image in_snapshot ws) path_trail
@@ -149,12 +149,12 @@ module _ (image : Image) (wf : IsWellFormed image) (in_snapshot : ℕ → Bool) 
       clash : (b : Bool) → b ≡ true → b ≡ false → ⊥
       clash b one two = absurd (cc)
 
-      loose : (f : WordPath) → IsFrontAmong image wf in_snapshot (gone image wf in_snapshot [] ws) f → (x : Bool) → is_in_snapshot_at new in_snapshot f ≡ x → is_in_snapshot_at new in_snapshot f ≡ false
-      loose f front false e = e
-      loose f front true e = absurd (impossible (in_snapshot (block_on image (path_trail f))) refl)
+      loose : (f : WordPath) → IsPrefixAmong image wf in_snapshot (gone image wf in_snapshot [] ws) f → (x : Bool) → is_in_snapshot_at new in_snapshot f ≡ x → is_in_snapshot_at new in_snapshot f ≡ false
+      loose f prefix false e = e
+      loose f prefix true e = absurd (impossible (in_snapshot (block_on image (path_trail f))) refl)
         where
           of : IsPointerPath image f
-          of = path_of image wf in_snapshot (gone image wf in_snapshot [] ws) all_of.ways f front
+          of = path_of image wf in_snapshot (gone image wf in_snapshot [] ws) all_of.ways f prefix
 
           there_new : is_there_now new f ≡ true
           there_new = there_of new wf_new in_snapshot f e
@@ -168,13 +168,13 @@ module _ (image : Image) (wf : IsWellFormed image) (in_snapshot : ℕ → Bool) 
           impossible : (y : Bool) → in_snapshot (block_on image (path_trail f)) ≡ y → ⊥
           impossible true is =
               clash (in_snapshot (block_on new (path_trail f))) in_snapshot_new
-              (copied (path_trail f) (trail-has (thawed_on image in_snapshot ws) f (in_snapshot_found f front (in_snapshot_is image wf f of there_old in_snapshot ∙ is))))
+              (copied (path_trail f) (trail-has (thawed_on image in_snapshot ws) f (in_snapshot_found f prefix (in_snapshot_is image wf f of there_old in_snapshot ∙ is))))
           impossible false is =
               clash (in_snapshot (block_on new (path_trail f))) in_snapshot_new
               (ap in_snapshot (uncopied (path_trail f) (there_pointer image wf f of there_old).0 is) ∙ is)
 
       pub clear : thawed_on new in_snapshot ws ≡ []
-      clear = filter_none (is_in_snapshot_at new in_snapshot) (fronts_of [] ws) (λ f has. loose f (among f (fronts_has [] ws f has)) (is_in_snapshot_at new in_snapshot f) refl)
+      clear = filter_none (is_in_snapshot_at new in_snapshot) (proper_prefixes_of [] ws) (λ f has. loose f (among f (prefixes_has [] ws f has)) (is_in_snapshot_at new in_snapshot f) refl)
         where
-          among : (f : WordPath) → IsFrontAmong image wf in_snapshot ws f → IsFrontAmong image wf in_snapshot (gone image wf in_snapshot [] ws) f
-          among f front = record { way = front.way; count = front.count; has = gone_has [] ws front.way (inr front.has); less = front.less; is = front.is }
+          among : (f : WordPath) → IsPrefixAmong image wf in_snapshot ws f → IsPrefixAmong image wf in_snapshot (gone image wf in_snapshot [] ws) f
+          among f prefix = record { way = prefix.way; count = prefix.count; has = gone_has [] ws prefix.way (inr prefix.has); less = prefix.less; is = prefix.is }

@@ -5,7 +5,7 @@ use Rattle.std.proofs.lemmas.List.{length-append, take_more}
 use Rattle.pm_epochs.specs.Log.{StoresTo}
 use Rattle.pm_epochs.specs.May.{AnyAt}
 use Rattle.pm_epochs.proofs.MayLaws.{EachMay-stored, StoresMay-append, StoresMay-weaker}
-use Rattle.pm_epochs.proofs.PieceLaws.{IsPiece-append, IsPiece-more, IsPiece-none, StoresTo-behind, StoresTo-front}
+use Rattle.pm_epochs.proofs.PieceLaws.{IsPiece-append, IsPiece-more, IsPiece-none, StoresTo-after, StoresTo-prefix}
 use Rattle.pm_region.specs.Memory.{Memory, current_words, room_in}
 use Rattle.pm_region.specs.Safe.{AddsMay}
 use Rattle.pm_region.proofs.MayLaws.{room_after_may}
@@ -13,7 +13,7 @@ use Rattle.pm_region.proofs.MemoryLaws.{adds_both, adds_none, current_words-adds
 use Rattle.bp_free.specs.Set.{Set, TakesLeast, has}
 use Rattle.bp_layout.specs.Members.{AreApart, Each, Has}
 use Rattle.bp_layout.specs.Words.{word, block_count, block_of}
-use Rattle.bp_layout.proofs.MemberLaws.{apart-append, apart-first, each-append, each-as, has-behind, has-either, has-front}
+use Rattle.bp_layout.proofs.MemberLaws.{apart-append, apart-first, each-append, each-as, has-after, has-either, has-prefix}
 use Rattle.bp_commit.specs.Performs.{InBlock}
 use Rattle.bp_cow.specs.Copies.{CanFillBlock, FillsBlock, pointing_to}
 use Rattle.bp_thaw.specs.Copies.{AreTurned, Copies, blocks_of, copy_at, places_of, source_of, turned_to, turned_word}
@@ -28,7 +28,7 @@ map-more f [] x = refl
 map-more f (y ∷ xs) x = ap (λ rest. f y ∷ rest) (map-more f xs x)
 
 pub has-last : {A : Type 0} (xs : List A) (x : A) → Has (xs ++ x ∷ []) x
-has-last xs x = has-behind xs (x ∷ []) x (inl refl)
+has-last xs x = has-after xs (x ∷ []) x (inl refl)
 
 pub has-item : {A : Type 0} (xs : List A) (i : ℕ) (d : A) → i < length xs → Has xs (get_or xs i d)
 has-item [] i d low = absurd (omega (arith, low))
@@ -54,7 +54,7 @@ takes_one before middle after taken b first next = record {
   once = apart-append taken (b ∷ []) first.once (tt, tt) (λ x early late. elim late [ inl e ↦ new x early e | inr none ↦ absurd none ]);
   were = λ x here. were x (has-either taken (b ∷ []) x here);
   gone = λ x here. gone x (has-either taken (b ∷ []) x here);
-  others = λ x none. next.taken.others x (λ e. none (subst (Has (taken ++ b ∷ [])) (sym e) (has-last taken b))) ∙ first.others x (λ early. none (has-front taken (b ∷ []) x early));
+  others = λ x none. next.taken.others x (λ e. none (subst (Has (taken ++ b ∷ [])) (sym e) (has-last taken b))) ∙ first.others x (λ early. none (has-prefix taken (b ∷ []) x early));
   count = omega (arith, first.count, next.count, length-append taken (b ∷ []));
   size = next.size ∙ first.size;
 }
@@ -236,8 +236,8 @@ module _ (copies : Copies) (i : ℕ) (c : ℕ × ℕ) (old now : Memory) (can : 
       };
       stored = subst (Each (λ b. StoresTo (InBlock b) (so_far.part.added ++ fills.stores.part.added))) (sym (map-more (λ (x : ℕ × ℕ). x.1) done c))
           (each-append (λ b. StoresTo (InBlock b) (so_far.part.added ++ fills.stores.part.added)) (blocks_of done) (c.1 ∷ [])
-          (each-as (λ b. StoresTo (InBlock b) so_far.part.added) (λ b. StoresTo (InBlock b) (so_far.part.added ++ fills.stores.part.added)) (λ b. StoresTo-front (InBlock b) so_far.part.added fills.stores.part.added) (blocks_of done) so_far.stored)
-          (StoresTo-behind (InBlock c.1) so_far.part.added fills.stores.part.added fills.stores.some, tt));
+          (each-as (λ b. StoresTo (InBlock b) so_far.part.added) (λ b. StoresTo (InBlock b) (so_far.part.added ++ fills.stores.part.added)) (λ b. StoresTo-prefix (InBlock b) so_far.part.added fills.stores.part.added) (blocks_of done) so_far.stored)
+          (StoresTo-after (InBlock c.1) so_far.part.added fills.stores.part.added fills.stores.some, tt));
       words = λ copy slot has low. go copy slot low (has-either done (c ∷ []) copy has);
     }
       where

@@ -12,12 +12,12 @@ use Rattle.bp_layout.specs.Inode.{size_of}
 use Rattle.bp_layout.proofs.Addresses.{address_from-append}
 use Rattle.bp_shapes.specs.Trail.{block_on, trail_of}
 use Rattle.bp_shapes.specs.Forest.{IsTreePointer}
-use Rattle.bp_shapes.proofs.FreeSets.{pointer_fronts, wf_forest}
+use Rattle.bp_shapes.proofs.FreeSets.{pointer_prefixes, wf_forest}
 use Rattle.bp_shapes.proofs.PathTrails.{low-placed}
-use Rattle.bp_thaw.specs.Fronts.{IsPointerPath, IsWayIn, found_in, found_on, is_found, path_trail}
+use Rattle.bp_thaw.specs.Prefixes.{IsPointerPath, IsWayIn, found_in, found_on, is_found, path_trail}
 use Rattle.bp_thaw.proofs.CopySteps.{map-more}
 use Rattle.bp_thaw.proofs.Marks.{block_above, placed}
-use Rattle.bp_thaw.proofs.PointerPaths.{address_is, are, block_at, bones, front_path, front-trail, pointer_there, there_pointer}
+use Rattle.bp_thaw.proofs.PointerPaths.{address_is, are, block_at, bones, prefix_path, prefix-trail, pointer_there, there_pointer}
 
 -- looked for by place
 pub any-map : (image : Image) (found : List WordPath) (place : ℕ) → list_any (λ other. other == place) (map (address image) found) ≡ list_any (λ other. address image other == place) found
@@ -94,7 +94,7 @@ module _ (image : Image) (wf : IsWellFormed image) (w : WordPath) (way : IsWayIn
       long = length-take-le d w low
 
       same : (n : ℕ) → n ≤ d → trail_of (take d w) n ≡ trail_of w n
-      same n few = sym (front-trail (take d w) (drop d w) n (omega (arith, few, long))) ∙ ap (λ p. trail_of p n) (take-append-drop d w)
+      same n few = sym (prefix-trail (take d w) (drop d w) n (omega (arith, few, long))) ∙ ap (λ p. trail_of p n) (take-append-drop d w)
 
   blocks_up : (n d : ℕ) → d ≤ n → block_on image (trail_of w n) ≢ 0 → block_on image (trail_of w d) ≢ 0
   blocks_up zero d low present = subst (λ m. block_on image (trail_of w m) ≢ 0) (none d low) present
@@ -110,12 +110,12 @@ module _ (image : Image) (wf : IsWellFormed image) (w : WordPath) (way : IsWayIn
   -- what is there has all above it there
   pub there_above : (n d : ℕ) → d ≤ n → n < length w → is_there_now image (take n w) ≡ true → is_there_now image (take d w) ≡ true
   there_above n d low less there =
-      let at_n = there_pointer image wf (take n w) (front_path image wf w n way less) there in
+      let at_n = there_pointer image wf (take n w) (prefix_path image wf w n way less) there in
       let one = subst (IsTreePointer image (size_of image)) (take-trail n (omega (arith, less))) at_n.0 in
       let some = subst (λ t. block_on image t ≢ 0) (take-trail n (omega (arith, less))) at_n.1 in
       let back : trail_of w d ≡ path_trail (take d w) = sym (take-trail d (omega (arith, low, less))) in
-      pointer_there image wf (take d w) (front_path image wf w d way (omega (arith, low, less)))
-      (subst (IsTreePointer image (size_of image)) back (pointer_fronts image (size_of image) (wf_forest image wf) w n d low one))
+      pointer_there image wf (take d w) (prefix_path image wf w d way (omega (arith, low, less)))
+      (subst (IsTreePointer image (size_of image)) back (pointer_prefixes image (size_of image) (wf_forest image wf) w n d low one))
       (subst (λ t. block_on image t ≢ 0) back (blocks_up n d low some))
 
   not_in_snapshot : (in_snapshot : ℕ → Bool) (f : WordPath) → is_there_now image f ≡ false → is_in_snapshot_at image in_snapshot f ≡ false
@@ -135,7 +135,7 @@ module _ (image : Image) (wf : IsWellFormed image) (w : WordPath) (way : IsWayIn
 
   module _ (d : ℕ) (low : d < length w) (there : is_there_now image (take d w) ≡ true) where
     of : IsPointerPath image (take d w)
-    of = front_path image wf w d way low
+    of = prefix_path image wf w d way low
 
     block_inside : block_of (word image (address image (take d w))) < block_count image
     block_inside = rw (block_at image wf (take d w) of there) ((bones image wf).in_range (path_trail (take d w)) (there_pointer image wf (take d w) of there).0)

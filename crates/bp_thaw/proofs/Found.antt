@@ -11,14 +11,14 @@ use Rattle.std.proofs.lemmas.List.FromFn.{map-range_with_len_more}
 use Rattle.std.proofs.lemmas.Slice.Eq.{bytes_eq-Decides}
 use Rattle.bp_layout.specs.Members.{AreApart, Has}
 use Rattle.bp_layout.specs.Need.{prefixes_from}
-use Rattle.bp_layout.specs.Thaw.{fronts_of, is_front, is_in_snapshot_at, is_there_now, thawed_on}
+use Rattle.bp_layout.specs.Thaw.{proper_prefixes_of, is_proper_prefix, is_in_snapshot_at, is_there_now, thawed_on}
 use Rattle.bp_layout.specs.WellFormed.{IsWellFormed}
 use Rattle.bp_layout.specs.WordPaths.{WordPath, address}
 use Rattle.bp_layout.specs.Words.{Image}
 use Rattle.bp_layout.proofs.MemberLaws.{apart-append, filter-has, has-either, has-filter, has-map, has-range}
-use Rattle.bp_thaw.specs.Fronts.{IsPointerPath, IsWayIn, found_in, found_on, is_found}
+use Rattle.bp_thaw.specs.Prefixes.{IsPointerPath, IsWayIn, found_in, found_on, is_found}
 use Rattle.bp_thaw.proofs.CopySteps.{map-more}
-use Rattle.bp_thaw.proofs.PointerPaths.{front_path, paths_apart}
+use Rattle.bp_thaw.proofs.PointerPaths.{prefix_path, paths_apart}
 
 and_true : (a b : Bool) → (a && b) ≡ true → (a ≡ true) × (b ≡ true)
 and_true false b e = absurd (true≢false (sym e))
@@ -58,12 +58,12 @@ or_true : (b : Bool) → (b || true) ≡ true
 or_true true = refl
 or_true false = refl
 
--- a front of a path is its first slots
-front_take : (f w : WordPath) → is_front f w ≡ true → (length f < length w) × (f ≡ take (length f) w)
-front_take f w is = let both = and_true _ _ is in (ltb-true (length f) (length w) both.1, (bytes_eq-Decides f (take (length f) w)).0 both.0)
+-- a prefix of a path is its first slots
+prefix_take : (f w : WordPath) → is_proper_prefix f w ≡ true → (length f < length w) × (f ≡ take (length f) w)
+prefix_take f w is = let both = and_true _ _ is in (ltb-true (length f) (length w) both.1, (bytes_eq-Decides f (take (length f) w)).0 both.0)
 
-pub take_front : (w : WordPath) (n : ℕ) → n < length w → is_front (take n w) w ≡ true
-take_front w n low =
+pub take_prefix : (w : WordPath) (n : ℕ) → n < length w → is_proper_prefix (take n w) w ≡ true
+take_prefix w n low =
     let long : length (take n w) ≡ n = length-take-le n w (omega (arith, low)) in
     let small : nat_lt (length (take n w)) (length w) ≡ true = lt-ltb _ _ (omega (arith, long, low)) in
     let same : bytes_eq (take n w) (take (length (take n w)) w) ≡ true = (bytes_eq-Decides _ _).1 (ap (λ m. take m w) (sym long)) in
@@ -102,8 +102,8 @@ all_apart image in_snapshot found (w ∷ ws) apart = all_apart image in_snapshot
 -- ---- what is found
 
 module _ (image : Image) (wf : IsWellFormed image) (in_snapshot : ℕ → Bool) where
-  -- a front of one of these paths
-  pub record IsFrontAmong (paths : List WordPath) (f : WordPath) : Type 0 where
+  -- a prefix of one of these paths
+  pub record IsPrefixAmong (paths : List WordPath) (f : WordPath) : Type 0 where
     pub way : WordPath
     pub count : ℕ
     pub has : Has paths way
@@ -114,17 +114,17 @@ module _ (image : Image) (wf : IsWellFormed image) (in_snapshot : ℕ → Bool) 
   pub record AreFound (earlier found : List WordPath) : Type 0 where
     pub ways : (w : WordPath) → Has earlier w → IsWayIn image w
     pub in_snapshot_there : (f : WordPath) → Has found f → is_in_snapshot_at image in_snapshot f ≡ true
-    pub fronts : (f : WordPath) → Has found f → IsFrontAmong earlier f
-    pub same : (f : WordPath) → IsPointerPath image f → is_in_snapshot_at image in_snapshot f ≡ true → is_found image found f ≡ list_any (is_front f) earlier
+    pub prefixes : (f : WordPath) → Has found f → IsPrefixAmong earlier f
+    pub same : (f : WordPath) → IsPointerPath image f → is_in_snapshot_at image in_snapshot f ≡ true → is_found image found f ≡ list_any (is_proper_prefix f) earlier
 
   pub there_of : (f : WordPath) → is_in_snapshot_at image in_snapshot f ≡ true → is_there_now image f ≡ true
   there_of f is = (and_true _ _ is).0
 
-  pub path_of : (earlier : List WordPath) → ((w : WordPath) → Has earlier w → IsWayIn image w) → (f : WordPath) → IsFrontAmong earlier f → IsPointerPath image f
-  path_of earlier ways f front = subst (IsPointerPath image) (sym front.is) (front_path image wf front.way front.count (ways front.way front.has) front.less)
+  pub path_of : (earlier : List WordPath) → ((w : WordPath) → Has earlier w → IsWayIn image w) → (f : WordPath) → IsPrefixAmong earlier f → IsPointerPath image f
+  path_of earlier ways f prefix = subst (IsPointerPath image) (sym prefix.is) (prefix_path image wf prefix.way prefix.count (ways prefix.way prefix.has) prefix.less)
 
   abbrev new_to : List WordPath → WordPath → Bool
-  new_to earlier f = not (list_any (is_front f) earlier)
+  new_to earlier f = not (list_any (is_proper_prefix f) earlier)
 
   abbrev rest_of : List WordPath → WordPath → ℕ → List WordPath
   rest_of earlier w d = filter (is_in_snapshot_at image in_snapshot) (filter (new_to earlier) (map (λ n. take n w) (range_with_len 0 d)))
@@ -143,7 +143,7 @@ module _ (image : Image) (wf : IsWellFormed image) (in_snapshot : ℕ → Bool) 
       let three = mapped_range (λ n. take n w) 0 d f two.0 in
       record { count = three.0; less = omega (arith, three.1); is = three.2; in_snapshot_there = one.1 }
 
-  has_rest : (earlier : List WordPath) (w : WordPath) (d n : ℕ) → n < d → is_in_snapshot_at image in_snapshot (take n w) ≡ true → list_any (is_front (take n w)) earlier ≡ false → Has (rest_of earlier w d) (take n w)
+  has_rest : (earlier : List WordPath) (w : WordPath) (d n : ℕ) → n < d → is_in_snapshot_at image in_snapshot (take n w) ≡ true → list_any (is_proper_prefix (take n w)) earlier ≡ false → Has (rest_of earlier w d) (take n w)
   has_rest earlier w d n low is none =
       has-filter (is_in_snapshot_at image in_snapshot) (filter (new_to earlier) (map (λ n. take n w) (range_with_len 0 d))) (take n w)
       (has-filter (new_to earlier) (map (λ n. take n w) (range_with_len 0 d)) (take n w) (has-map (λ n. take n w) (range_with_len 0 d) n (has-range 0 d n (omega arith) (omega (arith, low)))) (rw none refl)) is
@@ -162,8 +162,8 @@ module _ (image : Image) (wf : IsWellFormed image) (in_snapshot : ℕ → Bool) 
     where
       apart : (g : WordPath) → IsRest earlier w d g → address image g ≡ address image (take d w) → ⊥
       apart g rest e =
-          let of : IsPointerPath image g = subst (IsPointerPath image) (sym rest.is) (front_path image wf w rest.count way (omega (arith, rest.less, low))) in
-          let same : g ≡ take d w = paths_apart image wf g (take d w) of (front_path image wf w d way low) (there_of g rest.in_snapshot_there) (there_of (take d w) is) e in
+          let of : IsPointerPath image g = subst (IsPointerPath image) (sym rest.is) (prefix_path image wf w rest.count way (omega (arith, rest.less, low))) in
+          let same : g ≡ take d w = paths_apart image wf g (take d w) of (prefix_path image wf w d way low) (there_of g rest.in_snapshot_there) (there_of (take d w) is) e in
           let one : length (take rest.count w) ≡ rest.count = length-take-le rest.count w (omega (arith, rest.less, low)) in
           let two : length (take d w) ≡ d = length-take-le d w (omega (arith, low)) in
           let lengths : rest.count ≡ d = sym one ∙ ap (λ (p : WordPath). length p) (sym rest.is ∙ same) ∙ two in
@@ -176,7 +176,7 @@ module _ (image : Image) (wf : IsWellFormed image) (in_snapshot : ℕ → Bool) 
         append_nil : (xs : List WordPath) → xs ++ [] ≡ xs
         append_nil [] = refl
         append_nil (x ∷ xs) = ap (λ more. x ∷ more) (append_nil xs)
-    on_is (suc d) low = go (is_in_snapshot_at image in_snapshot (take d w)) refl (list_any (is_front (take d w)) earlier) refl (on_is d (omega (arith, low)))
+    on_is (suc d) low = go (is_in_snapshot_at image in_snapshot (take d w)) refl (list_any (is_proper_prefix (take d w)) earlier) refl (on_is d (omega (arith, low)))
       where
         append_nil : (xs : List WordPath) → xs ++ [] ≡ xs
         append_nil [] = refl
@@ -185,17 +185,17 @@ module _ (image : Image) (wf : IsWellFormed image) (in_snapshot : ℕ → Bool) 
         last : List WordPath → found ++ rest_of earlier w (suc d) ≡ (found ++ rest_of earlier w d) ++ filter (is_in_snapshot_at image in_snapshot) (filter (new_to earlier) (take d w ∷ []))
         last _ = ap (λ xs. found ++ xs) (rest_more earlier w d) ∙ sym (append_assoc found (rest_of earlier w d) (filter (is_in_snapshot_at image in_snapshot) (filter (new_to earlier) (take d w ∷ []))))
 
-        is_old : is_in_snapshot_at image in_snapshot (take d w) ≡ true → is_found image (found ++ rest_of earlier w d) (take d w) ≡ list_any (is_front (take d w)) earlier
+        is_old : is_in_snapshot_at image in_snapshot (take d w) ≡ true → is_found image (found ++ rest_of earlier w d) (take d w) ≡ list_any (is_proper_prefix (take d w)) earlier
         is_old is =
             list_any-append (λ other. address image other == address image (take d w)) found (rest_of earlier w d)
-            ∙ ap₂ (λ a b. a || b) (so_far.same (take d w) (front_path image wf w d way (omega (arith, low))) is) (rest_apart earlier w way d (omega (arith, low)) is)
-            ∙ or_false (list_any (is_front (take d w)) earlier)
+            ∙ ap₂ (λ a b. a || b) (so_far.same (take d w) (prefix_path image wf w d way (omega (arith, low))) is) (rest_apart earlier w way d (omega (arith, low)) is)
+            ∙ or_false (list_any (is_proper_prefix (take d w)) earlier)
 
-        none_in_snapshot_here : (y : Bool) → list_any (is_front (take d w)) earlier ≡ y → is_in_snapshot_at image in_snapshot (take d w) ≡ false → filter (is_in_snapshot_at image in_snapshot) (filter (new_to earlier) (take d w ∷ [])) ≡ []
+        none_in_snapshot_here : (y : Bool) → list_any (is_proper_prefix (take d w)) earlier ≡ y → is_in_snapshot_at image in_snapshot (take d w) ≡ false → filter (is_in_snapshot_at image in_snapshot) (filter (new_to earlier) (take d w ∷ [])) ≡ []
         none_in_snapshot_here true f e = rw f refl
         none_in_snapshot_here false f e = rw (f, e) refl
 
-        go : (x : Bool) → is_in_snapshot_at image in_snapshot (take d w) ≡ x → (y : Bool) → list_any (is_front (take d w)) earlier ≡ y → found_on image in_snapshot found w d ≡ found ++ rest_of earlier w d →
+        go : (x : Bool) → is_in_snapshot_at image in_snapshot (take d w) ≡ x → (y : Bool) → list_any (is_proper_prefix (take d w)) earlier ≡ y → found_on image in_snapshot found w d ≡ found ++ rest_of earlier w d →
             found_on image in_snapshot found w (suc d) ≡ found ++ rest_of earlier w (suc d)
         go false e y f rest = rw e (rest ∙ sym (append_nil (found ++ rest_of earlier w d)) ∙ ap (λ xs. (found ++ rest_of earlier w d) ++ xs) (sym (none_in_snapshot_here y f e)) ∙ sym (last []))
         go true e true f rest =
@@ -214,39 +214,39 @@ module _ (image : Image) (wf : IsWellFormed image) (in_snapshot : ℕ → Bool) 
     in_snapshot_now : (f : WordPath) → Has (found ++ rest_of earlier w (length w)) f → is_in_snapshot_at image in_snapshot f ≡ true
     in_snapshot_now f has = elim (has-either found (rest_of earlier w (length w)) f has) [ inl early ↦ so_far.in_snapshot_there f early | inr late ↦ (rest_has earlier w (length w) f late).in_snapshot_there ]
 
-    fronts_now : (f : WordPath) → Has (found ++ rest_of earlier w (length w)) f → IsFrontAmong (w ∷ earlier) f
-    fronts_now f has = elim (has-either found (rest_of earlier w (length w)) f has) [
-      | inl early ↦ let front = so_far.fronts f early in record { way = front.way; count = front.count; has = inr front.has; less = front.less; is = front.is }
+    prefixes_now : (f : WordPath) → Has (found ++ rest_of earlier w (length w)) f → IsPrefixAmong (w ∷ earlier) f
+    prefixes_now f has = elim (has-either found (rest_of earlier w (length w)) f has) [
+      | inl early ↦ let prefix = so_far.prefixes f early in record { way = prefix.way; count = prefix.count; has = inr prefix.has; less = prefix.less; is = prefix.is }
       | inr late ↦ let rest = rest_has earlier w (length w) f late in record { way = w; count = rest.count; has = inl refl; less = rest.less; is = rest.is }
     ]
 
-    rest_same : (f : WordPath) → IsPointerPath image f → is_in_snapshot_at image in_snapshot f ≡ true → list_any (is_front f) earlier ≡ false → (x : Bool) → is_front f w ≡ x → is_found image (rest_of earlier w (length w)) f ≡ x
+    rest_same : (f : WordPath) → IsPointerPath image f → is_in_snapshot_at image in_snapshot f ≡ true → list_any (is_proper_prefix f) earlier ≡ false → (x : Bool) → is_proper_prefix f w ≡ x → is_found image (rest_of earlier w (length w)) f ≡ x
     rest_same f of is none true e =
-        let front = front_take f w e in
+        let prefix = prefix_take f w e in
         let here : Has (rest_of earlier w (length w)) f =
-        subst (Has (rest_of earlier w (length w))) (sym front.1)
-        (has_rest earlier w (length w) (length f) front.0 (subst (λ g. is_in_snapshot_at image in_snapshot g ≡ true) front.1 is) (subst (λ g. list_any (is_front g) earlier ≡ false) front.1 none)) in
+        subst (Has (rest_of earlier w (length w))) (sym prefix.1)
+        (has_rest earlier w (length w) (length f) prefix.0 (subst (λ g. is_in_snapshot_at image in_snapshot g ≡ true) prefix.1 is) (subst (λ g. list_any (is_proper_prefix g) earlier ≡ false) prefix.1 none)) in
         any_some (λ other. address image other == address image f) (rest_of earlier w (length w)) f here (eq-eqb (address image f) (address image f) refl)
     rest_same f of is none false e = any_none (λ other. address image other == address image f) (rest_of earlier w (length w)) (λ g has. ne_eqb (address image g) (address image f) (apart g (rest_has earlier w (length w) g has)))
       where
         apart : (g : WordPath) → IsRest earlier w (length w) g → address image g ≡ address image f → ⊥
         apart g rest same =
-            let gof : IsPointerPath image g = subst (IsPointerPath image) (sym rest.is) (front_path image wf w rest.count way rest.less) in
+            let gof : IsPointerPath image g = subst (IsPointerPath image) (sym rest.is) (prefix_path image wf w rest.count way rest.less) in
             let equal : g ≡ f = paths_apart image wf g f gof of (there_of g rest.in_snapshot_there) (there_of f is) same in
-            true≢false (sym (take_front w rest.count rest.less) ∙ ap (λ p. is_front p w) (sym rest.is ∙ equal) ∙ e)
+            true≢false (sym (take_prefix w rest.count rest.less) ∙ ap (λ p. is_proper_prefix p w) (sym rest.is ∙ equal) ∙ e)
 
-    same_now : (f : WordPath) → IsPointerPath image f → is_in_snapshot_at image in_snapshot f ≡ true → is_found image (found ++ rest_of earlier w (length w)) f ≡ list_any (is_front f) (w ∷ earlier)
+    same_now : (f : WordPath) → IsPointerPath image f → is_in_snapshot_at image in_snapshot f ≡ true → is_found image (found ++ rest_of earlier w (length w)) f ≡ list_any (is_proper_prefix f) (w ∷ earlier)
     same_now f of is =
         list_any-append (λ other. address image other == address image f) found (rest_of earlier w (length w))
         ∙ ap (λ b. b || is_found image (rest_of earlier w (length w)) f) (so_far.same f of is)
-        ∙ go (list_any (is_front f) earlier) refl
+        ∙ go (list_any (is_proper_prefix f) earlier) refl
       where
-        go : (x : Bool) → list_any (is_front f) earlier ≡ x → (list_any (is_front f) earlier || is_found image (rest_of earlier w (length w)) f) ≡ (is_front f w || list_any (is_front f) earlier)
-        go true e = rw e (sym (or_true (is_front f w)))
-        go false e = rw e (rest_same f of is e (is_front f w) refl ∙ sym (or_false (is_front f w)))
+        go : (x : Bool) → list_any (is_proper_prefix f) earlier ≡ x → (list_any (is_proper_prefix f) earlier || is_found image (rest_of earlier w (length w)) f) ≡ (is_proper_prefix f w || list_any (is_proper_prefix f) earlier)
+        go true e = rw e (sym (or_true (is_proper_prefix f w)))
+        go false e = rw e (rest_same f of is e (is_proper_prefix f w) refl ∙ sym (or_false (is_proper_prefix f w)))
 
     found_now : AreFound (w ∷ earlier) (found ++ rest_of earlier w (length w))
-    found_now = record { ways = ways_now; in_snapshot_there = in_snapshot_now; fronts = fronts_now; same = same_now }
+    found_now = record { ways = ways_now; in_snapshot_there = in_snapshot_now; prefixes = prefixes_now; same = same_now }
 
   -- the paths in the order in which they were gone
   abbrev pub gone : List WordPath → List WordPath → List WordPath
@@ -254,7 +254,7 @@ module _ (image : Image) (wf : IsWellFormed image) (in_snapshot : ℕ → Bool) 
   gone earlier (w ∷ ws) = gone (w ∷ earlier) ws
 
   pub all_found : (earlier found ws : List WordPath) → AreFound earlier found → ((w : WordPath) → Has ws w → IsWayIn image w) →
-      (found_in image in_snapshot found ws ≡ found ++ filter (is_in_snapshot_at image in_snapshot) (fronts_of earlier ws)) × AreFound (gone earlier ws) (found_in image in_snapshot found ws)
+      (found_in image in_snapshot found ws ≡ found ++ filter (is_in_snapshot_at image in_snapshot) (proper_prefixes_of earlier ws)) × AreFound (gone earlier ws) (found_in image in_snapshot found ws)
   all_found earlier found [] so_far ways = (sym (append_nil found), so_far)
     where
       append_nil : (xs : List WordPath) → xs ++ [] ≡ xs
@@ -268,19 +268,19 @@ module _ (image : Image) (wf : IsWellFormed image) (in_snapshot : ℕ → Bool) 
       whole : rest_of earlier w (length w) ≡ filter (is_in_snapshot_at image in_snapshot) (filter (new_to earlier) (prefixes_from 0 w))
       whole = let all : length w ≡ length w - 0 = omega arith in ap (λ n. filter (is_in_snapshot_at image in_snapshot) (filter (new_to earlier) (map (λ n. take n w) (range_with_len 0 n)))) all
 
-      join : (found ++ rest_of earlier w (length w)) ++ filter (is_in_snapshot_at image in_snapshot) (fronts_of (w ∷ earlier) ws) ≡ found ++ filter (is_in_snapshot_at image in_snapshot) (fronts_of earlier (w ∷ ws))
+      join : (found ++ rest_of earlier w (length w)) ++ filter (is_in_snapshot_at image in_snapshot) (proper_prefixes_of (w ∷ earlier) ws) ≡ found ++ filter (is_in_snapshot_at image in_snapshot) (proper_prefixes_of earlier (w ∷ ws))
       join =
-          append_assoc found (rest_of earlier w (length w)) (filter (is_in_snapshot_at image in_snapshot) (fronts_of (w ∷ earlier) ws))
-          ∙ ap (λ xs. found ++ xs) (ap (λ xs. xs ++ filter (is_in_snapshot_at image in_snapshot) (fronts_of (w ∷ earlier) ws)) whole
-          ∙ sym (filter-append (is_in_snapshot_at image in_snapshot) (filter (new_to earlier) (prefixes_from 0 w)) (fronts_of (w ∷ earlier) ws)))
+          append_assoc found (rest_of earlier w (length w)) (filter (is_in_snapshot_at image in_snapshot) (proper_prefixes_of (w ∷ earlier) ws))
+          ∙ ap (λ xs. found ++ xs) (ap (λ xs. xs ++ filter (is_in_snapshot_at image in_snapshot) (proper_prefixes_of (w ∷ earlier) ws)) whole
+          ∙ sym (filter-append (is_in_snapshot_at image in_snapshot) (filter (new_to earlier) (prefixes_from 0 w)) (proper_prefixes_of (w ∷ earlier) ws)))
 
-      go : (found_in image in_snapshot (found ++ rest_of earlier w (length w)) ws ≡ (found ++ rest_of earlier w (length w)) ++ filter (is_in_snapshot_at image in_snapshot) (fronts_of (w ∷ earlier) ws))
+      go : (found_in image in_snapshot (found ++ rest_of earlier w (length w)) ws ≡ (found ++ rest_of earlier w (length w)) ++ filter (is_in_snapshot_at image in_snapshot) (proper_prefixes_of (w ∷ earlier) ws))
           × AreFound (gone (w ∷ earlier) ws) (found_in image in_snapshot (found ++ rest_of earlier w (length w)) ws) →
-          (found_in image in_snapshot found (w ∷ ws) ≡ found ++ filter (is_in_snapshot_at image in_snapshot) (fronts_of earlier (w ∷ ws))) × AreFound (gone earlier (w ∷ ws)) (found_in image in_snapshot found (w ∷ ws))
+          (found_in image in_snapshot found (w ∷ ws) ≡ found ++ filter (is_in_snapshot_at image in_snapshot) (proper_prefixes_of earlier (w ∷ ws))) × AreFound (gone earlier (w ∷ ws)) (found_in image in_snapshot found (w ∷ ws))
       go rest = (ap (λ xs. found_in image in_snapshot xs ws) here ∙ rest.0 ∙ join, subst (λ xs. AreFound (gone (w ∷ earlier) ws) (found_in image in_snapshot xs ws)) (sym here) rest.1)
 
   found_nothing : AreFound [] []
-  found_nothing = record { ways = λ w none. absurd none; in_snapshot_there = λ f none. absurd none; fronts = λ f none. absurd none; same = λ f of is. refl }
+  found_nothing = record { ways = λ w none. absurd none; in_snapshot_there = λ f none. absurd none; prefixes = λ f none. absurd none; same = λ f of is. refl }
 
   pub found_is : (ws : List WordPath) → ((w : WordPath) → Has ws w → IsWayIn image w) → found_in image in_snapshot [] ws ≡ thawed_on image in_snapshot ws
   found_is ws ways = (all_found [] [] ws found_nothing ways).0

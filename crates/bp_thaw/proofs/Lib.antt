@@ -2,7 +2,7 @@ pub mod Linked
 pub mod Marks
 pub mod Filled
 pub mod AllStored
-pub mod Told
+pub mod MovedBlocks
 pub mod MarkAll
 pub mod ThawEnd
 pub mod CopySteps

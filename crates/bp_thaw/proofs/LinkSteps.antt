@@ -46,7 +46,7 @@ length-links_of : (links : List (ℕ × ℕ)) → length (links_of links) ≡ le
 length-links_of [] = refl
 length-links_of (l ∷ links) = ap suc (length-links_of links)
 
--- behind a barrier
+-- after a barrier
 pub store_more : (old now next : Memory) (links : List (ℕ × ℕ)) (link : ℕ × ℕ) → Adds old now (Barrier ∷ links_of links) → Adds now next (Store link.0 link.1 ∷ []) → Adds old next (Barrier ∷ links_of (links ++ link ∷ []))
 store_more old now next links link first adds =
     subst (λ events. Adds old next (Barrier ∷ events)) (sym (links_of-more links link)) (adds_both old now next (Barrier ∷ links_of links) (Store link.0 link.1 ∷ []) first adds)

@@ -63,7 +63,7 @@ has-mapped f [] x b has e = absurd has
 has-mapped f (y ∷ xs) x b (inl same) e = inl (ap f same ∙ e)
 has-mapped f (y ∷ xs) x b (inr later) e = inr (has-mapped f xs x b later e)
 
--- what is told apart by a value
+-- what is distinguished by a value
 pub once_by : {A B : Type 0} (f : A → B) (xs : List A) → AreApart (map f xs) → (x y : A) → Has xs x → Has xs y → f x ≡ f y → x ≡ y
 once_by f [] apart x y one two e = absurd one
 once_by f (z ∷ xs) apart x y (inl a) (inl b) e = sym a ∙ b

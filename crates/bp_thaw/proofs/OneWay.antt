@@ -9,7 +9,7 @@ use Rattle.bp_layout.specs.WordPaths.{WordPath}
 use Rattle.bp_layout.specs.Words.{Image}
 use Rattle.bp_layout.proofs.MemberLaws.{has-filter, has-map, has-range}
 use Rattle.bp_layout.proofs.ThawLaws.{loose-on}
-use Rattle.bp_thaw.specs.Fronts.{IsWayIn, found_on}
+use Rattle.bp_thaw.specs.Prefixes.{IsWayIn, found_on}
 use Rattle.bp_thaw.proofs.Found.{found_is}
 
 -- nothing is found on it: so nothing is thawed on it
@@ -23,6 +23,6 @@ none_on_way image wf in_snapshot way of none = sym (found_is image wf in_snapsho
 -- a pointer on it leads to a block of the snapshot: so something is thawed
 pub snapshot_is_thawed : (image : Image) (in_snapshot : ℕ → Bool) (way : WordPath) (d : ℕ) → d < length way → is_in_snapshot_at image in_snapshot (take d way) ≡ true → thawed_on image in_snapshot (way ∷ []) ≡ [] → ⊥
 snapshot_is_thawed image in_snapshot way d low is none =
-    subst (λ fronts. Has fronts (take d way)) (loose-on image in_snapshot (way ∷ []) none way (inl refl) 0)
+    subst (λ prefixes. Has prefixes (take d way)) (loose-on image in_snapshot (way ∷ []) none way (inl refl) 0)
     (has-filter (is_in_snapshot_at image in_snapshot) (prefixes_from 0 way) (take d way)
     (has-map (λ n. take n way) (range_with_len 0 (length way - 0)) d (has-range 0 (length way - 0) d (omega arith) (omega (arith, low)))) is)

@@ -1,4 +1,4 @@
--- The paths of pointers: the tree and node that each tells, its trail and its place.
+-- The paths of pointers: the tree and node that each reports, its trail and its place.
 use Rattle.std.proofs.Common.{nat_le, ◌≡◌, ◌≢◌, ◌⊎◌, ℕ, zero, suc, ◌+◌, ◌-◌, ◌*◌, ◌/◌, ◌%◌, ◌<◌, ◌≤◌, List, [], ◌∷◌, ◌++◌, length, take, Bool, true, false, not, ◌&&◌, ◌==◌, refl, sym, ◌∙◌, ap, ap₂, subst, arith, inl, inr, true≢false, append_assoc}
 use Rattle.std.specs.Prelude.{nat_lt}
 use Rattle.std.proofs.lemmas.Bool.{cases_eq, cases_lt, eq-eqb, le-leb, lt-leb, lt-ltb, ltb-true, ne_eqb}
@@ -25,16 +25,16 @@ use Rattle.bp_shapes.proofs.ForestLaws.{block-tree, pointers, same_trail, short,
 use Rattle.bp_shapes.proofs.FreeSets.{wf_forest}
 use Rattle.bp_shapes.proofs.PathTrails.{AreNodes, address-on}
 use Rattle.bp_tree.proofs.Digits.{length-digits}
-use Rattle.bp_thaw.specs.Fronts.{HasDigits, IsPointerPath, IsWayIn, path_trail}
+use Rattle.bp_thaw.specs.Prefixes.{HasDigits, IsPointerPath, IsWayIn, path_trail}
 use Rattle.bp_thaw.proofs.Marks.{block_above, placed, places_apart, word-at_place}
 
 -- ---- trails of paths
 
-pub front-trail : (xs ys : List ℕ) (n : ℕ) → n ≤ length xs → trail_of (xs ++ ys) n ≡ trail_of xs n
-front-trail xs ys zero low = refl
-front-trail xs ys (suc n) low =
+pub prefix-trail : (xs ys : List ℕ) (n : ℕ) → n ≤ length xs → trail_of (xs ++ ys) n ≡ trail_of xs n
+prefix-trail xs ys zero low = refl
+prefix-trail xs ys (suc n) low =
     let head : slice_index (xs ++ ys) n ≡ slice_index xs n = get_or-append xs ys 0 n (omega (arith, low)) in
-    let tail : trail_of (xs ++ ys) n ≡ trail_of xs n = front-trail xs ys n (omega (arith, low)) in
+    let tail : trail_of (xs ++ ys) n ≡ trail_of xs n = prefix-trail xs ys n (omega (arith, low)) in
     ap₂ (λ s t. s ∷ t) head tail
 
 last-slot : (xs : List ℕ) (s : ℕ) → slice_index (xs ++ s ∷ []) (length xs) ≡ s
@@ -44,7 +44,7 @@ last-slot (x ∷ xs) s = last-slot xs s
 pub trail-more : (xs : List ℕ) (s : ℕ) → path_trail (xs ++ s ∷ []) ≡ s ∷ path_trail xs
 trail-more xs s =
     let long : length (xs ++ s ∷ []) ≡ suc (length xs) = length-append xs (s ∷ []) ∙ omega arith in
-    ap (trail_of (xs ++ s ∷ [])) long ∙ ap₂ (λ h t. h ∷ t) (last-slot xs s) (front-trail xs (s ∷ []) (length xs) (omega arith))
+    ap (trail_of (xs ++ s ∷ [])) long ∙ ap₂ (λ h t. h ∷ t) (last-slot xs s) (prefix-trail xs (s ∷ []) (length xs) (omega arith))
 
 trail-digits : (base : List ℕ) (d k : ℕ) → path_trail (base ++ digits d k) ≡ along (path_trail base) d k
 trail-digits base zero k = ap path_trail (append_nil base)
@@ -61,7 +61,7 @@ pub trail-tree : (h t d k : ℕ) → path_trail (tree_path h t d k) ≡ tree_tra
 trail-tree h zero d k = trail-digits [] d k
 trail-tree h (suc i) d k = trail-digits (inode_path h (suc i) 1) d k ∙ ap (λ base. along base d k) (trail-digits [] (suc h) (8 * suc i + 1))
 
--- ---- the fronts of a way
+-- ---- the prefixes of a way
 
 pub number-append : (ds : List ℕ) (d : ℕ) → path_number (ds ++ d ∷ []) ≡ 512 * path_number ds + d
 number-append ds d = fold-append (λ (n : ℕ) (d : ℕ). 512 * n + d) 0 ds (d ∷ [])
@@ -70,10 +70,10 @@ number-digits : (d k : ℕ) → HasDigits d k → path_number (digits d k) ≡ k
 number-digits zero k few = sym few
 number-digits (suc d) k few = number-append (digits d (k / 512)) (k % 512) ∙ omega (arith, number-digits d (k / 512) few)
 
--- behind the path of a root word
-pointed_behind : (heights : ℕ → ℕ) (t : ℕ) (base : WordPath) → length base ≡ suc (heights 0) → path_number base / 8 ≡ t → (d k : ℕ) → HasDigits d k →
+-- after the path of a root word
+pointed_after : (heights : ℕ → ℕ) (t : ℕ) (base : WordPath) → length base ≡ suc (heights 0) → path_number base / 8 ≡ t → (d k : ℕ) → HasDigits d k →
     pointed heights (base ++ digits d k) ≡ (t, record { level = heights t - d; index = k })
-pointed_behind heights t base whole tree d k few = rw (← whole, long, take-append_seam, drop-append_seam, tree, number-digits d k few, depth) refl
+pointed_after heights t base whole tree d k few = rw (← whole, long, take-append_seam, drop-append_seam, tree, number-digits d k few, depth) refl
   where
     count : length (base ++ digits d k) ≡ length base + d
     count = length-append base (digits d k) ∙ ap (λ n. length base + n) (length-digits d k)
@@ -84,34 +84,34 @@ pointed_behind heights t base whole tree d k few = rw (← whole, long, take-app
     long : nat_le (length (base ++ digits d k)) (heights 0) ≡ false
     long = lt-leb _ _ (omega (arith, count, whole))
 
-record DigitsFront (base : List ℕ) (depth : ℕ) (path : List ℕ) : Type 0 where
+record DigitsPrefix (base : List ℕ) (depth : ℕ) (path : List ℕ) : Type 0 where
   pub count : ℕ
   pub number : ℕ
   pub less : count < depth
   pub few : HasDigits count number
   pub is : path ≡ base ++ digits count number
 
-digits_front : (base : List ℕ) (depth k n : ℕ) → HasDigits depth k → length base ≤ n → n < length base + depth → DigitsFront base depth (take n (base ++ digits depth k))
-digits_front base zero k n few low high = absurd (omega (arith, low, high))
-digits_front base (suc d) k n few low high = go (cases_eq n (length base + d)) (λ less. digits_front base d (k / 512) n few low less)
+digits_prefix : (base : List ℕ) (depth k n : ℕ) → HasDigits depth k → length base ≤ n → n < length base + depth → DigitsPrefix base depth (take n (base ++ digits depth k))
+digits_prefix base zero k n few low high = absurd (omega (arith, low, high))
+digits_prefix base (suc d) k n few low high = go (cases_eq n (length base + d)) (λ less. digits_prefix base d (k / 512) n few low less)
   where
     long : length (base ++ digits d (k / 512)) ≡ length base + d
     long = length-append base (digits d (k / 512)) ∙ ap (λ m. length base + m) (length-digits d (k / 512))
 
-    front : take n (base ++ (digits d (k / 512) ++ k % 512 ∷ [])) ≡ take n (base ++ digits d (k / 512))
-    front = ap (take n) (sym (append_assoc base (digits d (k / 512)) (k % 512 ∷ []))) ∙ take-append-le n (base ++ digits d (k / 512)) (k % 512 ∷ []) (omega (arith, long, high))
+    prefix : take n (base ++ (digits d (k / 512) ++ k % 512 ∷ [])) ≡ take n (base ++ digits d (k / 512))
+    prefix = ap (take n) (sym (append_assoc base (digits d (k / 512)) (k % 512 ∷ []))) ∙ take-append-le n (base ++ digits d (k / 512)) (k % 512 ∷ []) (omega (arith, long, high))
 
-    go : (n ≡ length base + d) ⊎ (n ≡ length base + d → ⊥) → (n < length base + d → DigitsFront base d (take n (base ++ digits d (k / 512)))) → DigitsFront base (suc d) (take n (base ++ (digits d (k / 512) ++ k % 512 ∷ [])))
+    go : (n ≡ length base + d) ⊎ (n ≡ length base + d → ⊥) → (n < length base + d → DigitsPrefix base d (take n (base ++ digits d (k / 512)))) → DigitsPrefix base (suc d) (take n (base ++ (digits d (k / 512) ++ k % 512 ∷ [])))
     go (inl e) rest = record {
       count = d;
       number = k / 512;
       less = omega arith;
       few = few;
-      is = front ∙ ap (λ m. take m (base ++ digits d (k / 512))) (e ∙ sym long) ∙ take-length (base ++ digits d (k / 512));
+      is = prefix ∙ ap (λ m. take m (base ++ digits d (k / 512))) (e ∙ sym long) ∙ take-length (base ++ digits d (k / 512));
     }
     go (inr other) rest =
         let deeper = rest (omega (arith, high, other)) in
-        record { count = deeper.count; number = deeper.number; less = omega (arith, deeper.less); few = deeper.few; is = front ∙ deeper.is }
+        record { count = deeper.count; number = deeper.number; less = omega (arith, deeper.less); few = deeper.few; is = prefix ∙ deeper.is }
 
 module _ (image : Image) (wf : IsWellFormed image) where
   abbrev top : ℕ
@@ -135,15 +135,15 @@ module _ (image : Image) (wf : IsWellFormed image) where
       short_pointer (root_of image 0) (size_of image 0) (height_of (root_of image 0)) ((8 * suc i + 1) / 512) (forest.sound 0 inode_file).fits
       (live_above _ _ _ _ (live_content (root_of image 0) (size_of image 0) (8 * suc i + 1) (omega (arith, low))))
 
-  file_front : (depth k n : ℕ) → depth ≤ suc (height_of (word image 2)) → HasDigits depth k → n < depth → IsPointerPath image (take n (digits depth k))
-  file_front depth k n low few less =
-      let front = digits_front [] depth k n few (omega arith) (omega (arith, less)) in
-      record { tree = 0; depth = front.count; index = front.number; reached = inode_file; low = omega (arith, front.less, low); few = front.few; is = front.is }
+  file_prefix : (depth k n : ℕ) → depth ≤ suc (height_of (word image 2)) → HasDigits depth k → n < depth → IsPointerPath image (take n (digits depth k))
+  file_prefix depth k n low few less =
+      let prefix = digits_prefix [] depth k n few (omega arith) (omega (arith, less)) in
+      record { tree = 0; depth = prefix.count; index = prefix.number; reached = inode_file; low = omega (arith, prefix.less, low); few = prefix.few; is = prefix.is }
 
-  way_front : (t depth k n : ℕ) → IsReached image t → depth ≤ suc (height_of (root_of image t)) → HasDigits depth k → n < length (tree_path (height_of (word image 2)) t depth k) →
+  way_prefix : (t depth k n : ℕ) → IsReached image t → depth ≤ suc (height_of (root_of image t)) → HasDigits depth k → n < length (tree_path (height_of (word image 2)) t depth k) →
       IsPointerPath image (take n (tree_path (height_of (word image 2)) t depth k))
-  way_front zero depth k n reached low few less = file_front depth k n low few (omega (arith, less, length-digits depth k))
-  way_front (suc i) depth k n reached low few less = go (cases_lt n (length base))
+  way_prefix zero depth k n reached low few less = file_prefix depth k n low few (omega (arith, less, length-digits depth k))
+  way_prefix (suc i) depth k n reached low few less = go (cases_lt n (length base))
     where
       base : List ℕ
       base = inode_path (height_of (word image 2)) (suc i) 1
@@ -154,24 +154,24 @@ module _ (image : Image) (wf : IsWellFormed image) where
       go : (n < length (inode_path (height_of (word image 2)) (suc i) 1)) ⊎ (length (inode_path (height_of (word image 2)) (suc i) 1) ≤ n) → IsPointerPath image (take n (inode_path (height_of (word image 2)) (suc i) 1 ++ digits depth k))
       go (inl inside) =
           subst (IsPointerPath image) (sym (take-append-le n (inode_path (height_of (word image 2)) (suc i) 1) (digits depth k) (omega (arith, inside))))
-          (file_front (suc (height_of (word image 2))) (8 * suc i + 1) n (omega arith) (root_digits i reached) (omega (arith, inside, base_long)))
+          (file_prefix (suc (height_of (word image 2))) (8 * suc i + 1) n (omega arith) (root_digits i reached) (omega (arith, inside, base_long)))
       go (inr past) =
-          let front = digits_front (inode_path (height_of (word image 2)) (suc i) 1) depth k n few past (omega (arith, less, length-append (inode_path (height_of (word image 2)) (suc i) 1) (digits depth k), length-digits depth k)) in
-          record { tree = suc i; depth = front.count; index = front.number; reached = reached; low = omega (arith, front.less, low); few = front.few; is = front.is }
+          let prefix = digits_prefix (inode_path (height_of (word image 2)) (suc i) 1) depth k n few past (omega (arith, less, length-append (inode_path (height_of (word image 2)) (suc i) 1) (digits depth k), length-digits depth k)) in
+          record { tree = suc i; depth = prefix.count; index = prefix.number; reached = reached; low = omega (arith, prefix.less, low); few = prefix.few; is = prefix.is }
 
-  pub front_path : (path : WordPath) (n : ℕ) → IsWayIn image path → n < length path → IsPointerPath image (take n path)
-  front_path path n way less =
+  pub prefix_path : (path : WordPath) (n : ℕ) → IsWayIn image path → n < length path → IsPointerPath image (take n path)
+  prefix_path path n way less =
       subst (λ p. IsPointerPath image (take n p)) (sym way.is)
-      (way_front way.tree way.depth way.index n way.reached way.low way.few (subst (λ p. n < length p) way.is less))
+      (way_prefix way.tree way.depth way.index n way.reached way.low way.few (subst (λ p. n < length p) way.is less))
 
-  -- ---- the node that it tells
+  -- ---- the node that it reports
 
   pointed_node : (t d k : ℕ) → IsReached image t → d ≤ height_of (root_of image t) → HasDigits d k →
       pointed (heights_now image) (tree_path (height_of (word image 2)) t d k) ≡ (t, record { level = height_of (root_of image t) - d; index = k })
   pointed_node zero d k reached low few = rw (length-digits, number-digits d k few, le-leb d (height_of (word image 2)) low) refl
   pointed_node (suc i) d k reached low few =
       let number : path_number (digits (suc (height_of (word image 2))) (8 * suc i + 1)) ≡ 8 * suc i + 1 = number-digits (suc (height_of (word image 2))) (8 * suc i + 1) (root_digits i reached) in
-      pointed_behind (heights_now image) (suc i) (inode_path (height_of (word image 2)) (suc i) 1) (length-digits (suc (height_of (word image 2))) (8 * suc i + 1)) (omega (arith, number)) d k few
+      pointed_after (heights_now image) (suc i) (inode_path (height_of (word image 2)) (suc i) 1) (length-digits (suc (height_of (word image 2))) (8 * suc i + 1)) (omega (arith, number)) d k few
 
   module _ (path : WordPath) (of : IsPointerPath image path) where
     pub pointed_is : pointed (heights_now image) path ≡ (of.tree, record { level = height_of (root_of image of.tree) - of.depth; index = of.index })

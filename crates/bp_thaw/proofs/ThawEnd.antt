@@ -7,7 +7,7 @@ use Rattle.pm_epochs.specs.Log.{StoresTo, words_after}
 use Rattle.pm_epochs.specs.May.{AnyAt, AnyOf, EachMay, StoresMay, links_of}
 use Rattle.pm_epochs.proofs.MayLaws.{EachMay-stored, StoresMay-append, StoresMay-weaker, quiet_prepared}
 use Rattle.pm_epochs.proofs.CrashLaws.{IsClosed-append, IsClosed-barrier, words_after-append}
-use Rattle.pm_epochs.proofs.PieceLaws.{IsPiece-append, IsPiece-barrier, IsPiece-links_of, IsPiece-more, StoresTo-front}
+use Rattle.pm_epochs.proofs.PieceLaws.{IsPiece-append, IsPiece-barrier, IsPiece-links_of, IsPiece-more, StoresTo-prefix}
 use Rattle.pm_region.specs.Memory.{Memory, Adds, current_words}
 use Rattle.pm_region.proofs.MemoryLaws.{adds_both, current_words-adds}
 use Rattle.bp_free.specs.Set.{Set, has}
@@ -49,7 +49,7 @@ use Rattle.bp_thaw.proofs.Marks.{are_copies, block_above, copy_on-has, has-copy_
 use Rattle.bp_thaw.proofs.Filled.{filled_thawing, nothing_stored, outside}
 use Rattle.bp_thaw.proofs.MarkAll.{block-marked, copies_marked, mark-from, mark_all, number-marked, once_by, trail-marked}
 use Rattle.bp_thaw.proofs.AllStored.{all_are, any_source, any_stored, copies-has, has_copies, linked_thawing, word_mid}
-use Rattle.bp_thaw.proofs.Told.{same_stays, shape_stays, as_job, empty_job}
+use Rattle.bp_thaw.proofs.MovedBlocks.{same_stays, shape_stays, as_job, empty_job}
 
 bool_clash : (b : Bool) → b ≡ true → b ≡ false → ⊥
 bool_clash b one two = absurd (cc)
@@ -302,7 +302,7 @@ module _ (in_snapshot : ℕ → Bool) (first : Memory) (before after : Set) (wf 
           once = takes.once;
           free = each-of (IsFreeBlock old in_snapshot) (blocks_of copies) (λ b here. free.free b (takes.were b here));
           stored = each-as (λ b. StoresTo (InBlock b) fills.part.added) (λ b. StoresTo (InBlock b) added)
-              (λ b one. StoresTo-front (InBlock b) (fills.part.added ++ Barrier ∷ []) (links_of links ++ Barrier ∷ []) (StoresTo-front (InBlock b) fills.part.added (Barrier ∷ []) one)) (blocks_of copies) fills.stored;
+              (λ b one. StoresTo-prefix (InBlock b) (fills.part.added ++ Barrier ∷ []) (links_of links ++ Barrier ∷ []) (StoresTo-prefix (InBlock b) fills.part.added (Barrier ∷ []) one)) (blocks_of copies) fills.stored;
           only = StoresMay-append (AnyAt (IsOpen old in_snapshot (blocks_of copies))) (fills.part.added ++ Barrier ∷ []) (links_of links ++ Barrier ∷ [])
               (StoresMay-append (AnyAt (IsOpen old in_snapshot (blocks_of copies))) fills.part.added (Barrier ∷ [])
               (StoresMay-weaker (AnyAt (InBlocks (blocks_of copies))) (AnyAt (IsOpen old in_snapshot (blocks_of copies))) (λ place value inside. in_taken inside) fills.part.added fills.part.may) tt)

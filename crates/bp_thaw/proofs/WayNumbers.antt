@@ -1,4 +1,4 @@
--- The numbers that slots tell, and the nodes by them.
+-- The numbers that slots report, and the nodes by them.
 use Rattle.std.proofs.Common.{nat_le, ◌≡◌, ◌≢◌, ℕ, zero, suc, ◌+◌, ◌-◌, ◌*◌, ◌/◌, ◌^◌, ◌<◌, ◌≤◌, List, [], ◌∷◌, ◌++◌, length, take, drop, get_or, Bool, true, false, not, ◌&&◌, ◌==◌, pow-suc, refl, sym, ◌∙◌, ap, arith}
 use Rattle.std.specs.Prelude.{nat_lt}
 use Rattle.std.proofs.lemmas.Bool.{le-leb, lt-leb, ltb-true}
@@ -14,8 +14,8 @@ use Rattle.bp_layout.specs.WellFormed.{IsWellFormed}
 use Rattle.bp_layout.specs.WordPaths.{WordPath, digits, inode_path, tree_path}
 use Rattle.bp_layout.specs.Words.{Image, height_of, word}
 use Rattle.bp_tree.proofs.Digits.{length-digits}
-use Rattle.bp_thaw.specs.Fronts.{IsPointerPath, IsWayIn}
-use Rattle.bp_thaw.proofs.PointerPaths.{front_path, number-append, pointed_is}
+use Rattle.bp_thaw.specs.Prefixes.{IsPointerPath, IsWayIn}
+use Rattle.bp_thaw.proofs.PointerPaths.{prefix_path, number-append, pointed_is}
 
 pub drop_all : (n : ℕ) (xs : List ℕ) → length xs ≤ n → drop n xs ≡ []
 drop_all zero [] low = refl
@@ -23,10 +23,10 @@ drop_all zero (x ∷ xs) low = absurd (omega (arith, low))
 drop_all (suc n) [] low = refl
 drop_all (suc n) (x ∷ xs) low = drop_all n xs (omega (arith, low))
 
-drop_front : (n : ℕ) (xs ys : List ℕ) → n ≤ length xs → drop n (xs ++ ys) ≡ drop n xs ++ ys
-drop_front zero xs ys low = refl
-drop_front (suc n) [] ys low = absurd (omega (arith, low))
-drop_front (suc n) (x ∷ xs) ys low = drop_front n xs ys (omega (arith, low))
+drop_prefix : (n : ℕ) (xs ys : List ℕ) → n ≤ length xs → drop n (xs ++ ys) ≡ drop n xs ++ ys
+drop_prefix zero xs ys low = refl
+drop_prefix (suc n) [] ys low = absurd (omega (arith, low))
+drop_prefix (suc n) (x ∷ xs) ys low = drop_prefix n xs ys (omega (arith, low))
 
 pub number_start : (w : List ℕ) (from : ℕ) → from ≤ length w → 0 ≡ path_number (drop from (take from w))
 number_start w from low = ap path_number (sym (drop_all from (take from w) (omega (arith, length-take-le from w low))))
@@ -34,7 +34,7 @@ number_start w from low = ap path_number (sym (drop_all from (take from w) (omeg
 pub number_more : (w : List ℕ) (from i : ℕ) → from ≤ i → i < length w → 512 * path_number (drop from (take i w)) + get_or w i 0 ≡ path_number (drop from (take (i + 1) w))
 number_more w from i low less =
     sym (number-append (drop from (take i w)) (get_or w i 0))
-    ∙ ap path_number (sym (ap (drop from) (take_more w i 0 less) ∙ drop_front from (take i w) (get_or w i 0 ∷ []) (omega (arith, low, length-take-le i w (omega (arith, less))))))
+    ∙ ap path_number (sym (ap (drop from) (take_more w i 0 less) ∙ drop_prefix from (take i w) (get_or w i 0 ∷ []) (omega (arith, low, length-take-le i w (omega (arith, less))))))
 
 pub number_small : (n from i : ℕ) → n < 512 ^ (i - from) → i < from + 6 → n < 35184372088832
 number_small n from i below few =
@@ -61,7 +61,7 @@ module _ (image : Image) (root size level index : ℕ) where
   pub present_none : size ≡ 0 → is_present image root size (record { level = level; index = index }) ≡ false
   present_none none = present_far (λ below. omega (arith, below, none))
 
--- behind the slots of the inode file a pointer stands in the tree of an inode
+-- after the slots of the inode file a pointer stands in the tree of an inode
 pub record IsInTree (image : Image) (w : WordPath) (d h number : ℕ) : Type 0 where
   pub past : h < d
   pub reached : IsReached image (number / 8)
@@ -75,7 +75,7 @@ module _ (image : Image) (wf : IsWellFormed image) (w : WordPath) (way : IsWayIn
   top = height_of (root_of image 0)
 
   of : IsPointerPath image (take d w)
-  of = front_path image wf w d way low
+  of = prefix_path image wf w d way low
 
   long : length (take d w) ≡ d
   long = length-take-le d w (omega (arith, low))

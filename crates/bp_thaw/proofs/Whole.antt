@@ -24,13 +24,13 @@ use Rattle.bp_cow.specs.Committed.{IsCommitted}
 use Rattle.bp_cow.specs.Counting.{IsTreeWord}
 use Rattle.bp_thaw.specs.Copies.{Copies, blocks_of, is_copied, links_among, places_of}
 use Rattle.bp_layout.specs.Thaw.{thawed_on}
-use Rattle.bp_thaw.specs.Fronts.{places_found}
+use Rattle.bp_thaw.specs.Prefixes.{places_found}
 use Rattle.bp_thaw.specs.Steps.{AreInSnapshot, ArePlacesOf, CanFillCopies, FillsCopies, InBlocks, TakesAll}
 use Rattle.bp_thaw.specs.Thaws.{CanThaw, Thaws}
 use Rattle.bp_thaw.proofs.Clear.{clear, places_are, places_once, trails_in_snapshot, trails_number, trails_of}
 use Rattle.bp_thaw.proofs.Found.{found_is}
 use Rattle.bp_thaw.proofs.ThawEnd.{copied_loose, copy-place, copy-source, has_words, links_few, loose_same, shape, thaws}
-use Rattle.bp_thaw.proofs.Told.{shape_stays}
+use Rattle.bp_thaw.proofs.MovedBlocks.{shape_stays}
 
 -- the places of links are those of copies
 links_places : (image : Image) (every copies : Copies) (pair : ℕ × ℕ) → Has (links_among image every copies) pair → (c : ℕ × ℕ) × Has copies c × (pair.0 ≡ c.0)

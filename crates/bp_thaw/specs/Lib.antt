@@ -1,5 +1,5 @@
 pub mod Linked
 pub mod Copies
-pub mod Fronts
+pub mod Prefixes
 pub mod Steps
 pub mod Thaws

@@ -2,12 +2,12 @@
 //! into free blocks and sets the pointers to the copies. What a call then stores goes to no block of the snapshot.
 #![tactic(auto)]
 
-mod copying;
-mod finding;
-mod linking;
-mod thawing;
-mod walking;
+mod copies;
+mod find;
+mod links;
+mod thaws;
+mod walk;
 mod ways;
 
-pub use thawing::{thaw, thaw_need};
-pub use walking::is_clear;
+pub use thaws::{thaw, thaw_need};
+pub use walk::is_clear;

@@ -11,7 +11,7 @@ ghost use Rattle.bp_layout.specs.WellFormed.{IsWellFormed};
 ghost use Rattle.bp_layout.specs.Words.{height_of};
 ghost use Rattle.bp_limits.specs.Limits.{block_words};
 ghost use Rattle.pm_region.specs.Memory.{words_in};
-ghost use Rattle.bp_thaw.specs.Fronts.{IsWayIn};
+ghost use Rattle.bp_thaw.specs.Prefixes.{IsWayIn};
 
 use bp_limits::{INODE_WORDS, SUPER_ROOT, SUPER_SIZE};
 use bp_tree::{Slots, Tree};

@@ -37,7 +37,7 @@ pub record InSlots (image : Image) (root size level slots block : ℕ) : Type 0 
   pub live : slot * span level < size
   pub has : HasBlock image (child image (block_of root) level slot) (piece size level slot) block
 
--- so many are the topmost block and those below the first slots
+-- as many are the topmost block and those below the first slots
 pub record CountsUpTo (image : Image) (root size level slots count : ℕ) : Type 0 where
   pub set : ℕ → Bool
   pub has : (b : ℕ) → set b ≡ true → (b ≡ block_of root) ⊎ InSlots image root size level slots b

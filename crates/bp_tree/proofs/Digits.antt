@@ -24,6 +24,6 @@ next_digit count index levels path some within so_far =
     let more : count - l ≡ suc (count - levels) = omega arith in
     let digit : bit_and (index / 2 ^ (9 * l)) 511 ≡ index / 512 ^ l % 512 =
     and_mask (index / 2 ^ (9 * l)) 9 ∙ ap (λ n. n % 512) (shift index l) in
-    let front : path ≡ digits (count - levels) (index / 512 ^ l / 512) =
+    let prefix : path ≡ digits (count - levels) (index / 512 ^ l / 512) =
     so_far ∙ ap (digits (count - levels)) (ap (λ n. index / 512 ^ n) up ∙ quotient index l) in
-    rw more (ap₂ (λ p d. p ++ d ∷ []) front digit)
+    rw more (ap₂ (λ p d. p ++ d ∷ []) prefix digit)

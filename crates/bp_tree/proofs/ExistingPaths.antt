@@ -19,7 +19,7 @@ use Rattle.bp_layout.proofs.Reached.{reached-in_file}
 use Rattle.bp_layout.proofs.TreeLaws.{first_index, live_above, live_pointer_word, live_content}
 use Rattle.bp_tree.proofs.Digits.{length-digits}
 
--- ---- the number that digits tell
+-- ---- the number that digits report
 
 number-append : (ds : List ℕ) (d : ℕ) → path_number (ds ++ d ∷ []) ≡ 512 * path_number ds + d
 number-append ds d = fold-append (λ (n : ℕ) (d : ℕ). 512 * n + d) 0 ds (d ∷ [])
@@ -36,7 +36,7 @@ number-digits root size (suc d) k fits live =
 
 -- ---- a path each proper prefix of which points to a node that is there
 
--- behind a part that exists
+-- after a part that exists
 abbrev pub AllThere : (WordPath → Bool) → WordPath → WordPath → Type 0
 AllThere there here [] = Unit {0}
 AllThere there here (slot ∷ path) = (there here ≡ true) × AllThere there (here ++ slot ∷ []) path
@@ -46,9 +46,9 @@ existing-all there here [] all = sym (append-nil here)
 existing-all there here (slot ∷ path) all = rw all.0 (existing-all there (here ++ slot ∷ []) path all.1 ∙ append_assoc here (slot ∷ []) path)
 
 pub there-append : (there : WordPath → Bool) (here p q : WordPath) → AllThere there here p → AllThere there (here ++ p) q → AllThere there here (p ++ q)
-there-append there here [] q front rest = subst (λ x. AllThere there x q) (append-nil here) rest
-there-append there here (slot ∷ p) q front rest =
-    (front.0, there-append there (here ++ slot ∷ []) p q front.1 (subst (λ x. AllThere there x q) (sym (append_assoc here (slot ∷ []) p)) rest))
+there-append there here [] q prefix rest = subst (λ x. AllThere there x q) (append-nil here) rest
+there-append there here (slot ∷ p) q prefix rest =
+    (prefix.0, there-append there (here ++ slot ∷ []) p q prefix.1 (subst (λ x. AllThere there x q) (sym (append_assoc here (slot ∷ []) p)) rest))
 
 -- so the cover of one path is the path, and nothing is copied
 module _ (there : WordPath → Bool) (path : WordPath) (all : AllThere there [] path) where
@@ -95,7 +95,7 @@ under : (image : Image) (root d k : ℕ) → node image root d k ≢ 0 → IsUnd
 under image root zero k present = tt
 under image root (suc d) k present = present_above image root d k present
 
--- the digits of a word, behind a path at which those of each pointer tell its node
+-- the digits of a word, after a path at which those of each pointer report its node
 digits-there : (image : Image) (change : Change) (t : ℕ) (base : WordPath) →
     ((d k : ℕ) → IsLivePointer (root_of image t) (size_of image t) d k → pointed (height_after image change) (base ++ digits d k) ≡ node_under image t d k) →
     (d k : ℕ) → IsLiveWord (root_of image t) (size_of image t) d k → IsUnderNodes image (root_of image t) d k → AllThere (is_there_after image change) base (digits d k)
@@ -116,7 +116,7 @@ reads-inodes heights image same fits d k live = rw (length-digits, number, same,
     low : d ≤ height_of (root_of image 0)
     low = omega (arith, live.height)
 
--- behind the path of its root word
+-- after the path of its root word
 pub reads-tree : (heights : ℕ → ℕ) (image : Image) (t : ℕ) (base : WordPath) → length base ≡ suc (heights 0) → path_number base / 8 ≡ t → heights t ≡ height_of (root_of image t) →
     size_of image t ≤ covered (suc (height_of (root_of image t))) →
     (d k : ℕ) → IsLivePointer (root_of image t) (size_of image t) d k → pointed heights (base ++ digits d k) ≡ node_under image t d k

@@ -4,7 +4,7 @@ use Rattle.std.proofs.lemmas.List.Edits.{get_or-between, length-between}
 use Rattle.bp_layout.specs.Words.{Image, word}
 
 module _ (image words : Image) (first count : ℕ) (run : words ≡ slice_range image first (first + count)) where
-  -- each of them stands as far behind the first
+  -- each of them stands as far after the first
   pub loaded_word : (i : ℕ) → i < count → slice_index words i ≡ word image (first + i)
   loaded_word i low = ap (λ ws. slice_index ws i) run ∙ get_or-between image first (first + count) i 0 (omega (arith, low))
 

@@ -24,7 +24,7 @@ use Rattle.bp_layout.proofs.TreeLaws.{live_above, live_content}
 use Rattle.bp_tree.proofs.Digits.{length-digits}
 use Rattle.bp_tree.proofs.ExistingPaths.{node_under, number-digits, reads-inodes, reads-tree}
 
--- ---- what a loose way says of a front of it
+-- ---- what a loose way says of a prefix of it
 
 filter_none : {A : Type 0} (p : A → Bool) (xs : List A) (x : A) → filter p xs ≡ [] → Has xs x → p x ≡ false
 filter_none p xs x none has = go (p x) refl
@@ -33,8 +33,8 @@ filter_none p xs x none has = go (p x) refl
     go false is = is
     go true is = absurd (subst (λ ys. Has ys x) none (has-filter p xs x has is))
 
-pub loose-front : (image : Image) (in_snapshot : ℕ → Bool) (shortest : ℕ) (p : WordPath) (slot : ℕ) (rest : WordPath) → shortest ≤ length p → IsLoose image in_snapshot shortest (p ++ slot ∷ rest) → is_in_snapshot_at image in_snapshot p ≡ false
-loose-front image in_snapshot shortest p slot rest low loose =
+pub loose-prefix : (image : Image) (in_snapshot : ℕ → Bool) (shortest : ℕ) (p : WordPath) (slot : ℕ) (rest : WordPath) → shortest ≤ length p → IsLoose image in_snapshot shortest (p ++ slot ∷ rest) → is_in_snapshot_at image in_snapshot p ≡ false
+loose-prefix image in_snapshot shortest p slot rest low loose =
     let long : length (p ++ slot ∷ rest) ≡ length p + suc (length rest) = length-append p (slot ∷ rest) in
     let in_range : Has (range_with_len shortest (length (p ++ slot ∷ rest) - shortest)) (length p) = has-range shortest _ (length p) low (omega (arith, long, low)) in
     filter_none (is_in_snapshot_at image in_snapshot) (prefixes_from shortest (p ++ slot ∷ rest)) p loose
@@ -108,7 +108,7 @@ module _ (image : Image) (wf : IsWellFormed image) where
       let path : tree_path (heights_now image 0) t (suc d) k ≡ tree_path (heights_now image 0) t d (k / 512) ++ k % 512 ∷ [] = last_slot (heights_now image 0) t d k in
       let long : length (tree_path (heights_now image 0) t (suc d) k) ≡ length (tree_path (heights_now image 0) t d (k / 512)) + 1 = ap length path ∙ length-append (tree_path (heights_now image 0) t d (k / 512)) (k % 512 ∷ []) in
       sym (kept_node in_snapshot t d (k / 512) reached live present)
-      ∙ loose-front image in_snapshot (length (tree_path (heights_now image 0) t (suc d) k) - 1) (tree_path (heights_now image 0) t d (k / 512)) (k % 512) [] (omega (arith, long))
+      ∙ loose-prefix image in_snapshot (length (tree_path (heights_now image 0) t (suc d) k) - 1) (tree_path (heights_now image 0) t d (k / 512)) (k % 512) [] (omega (arith, long))
       (subst (IsLoose image in_snapshot (length (tree_path (heights_now image 0) t (suc d) k) - 1)) path loose)
 
   -- the block that holds word f of inode i

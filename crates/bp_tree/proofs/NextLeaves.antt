@@ -11,14 +11,14 @@ use Rattle.bp_tree.proofs.Below.{HasBelow, below, null_below}
 use Rattle.bp_tree.proofs.NullLeaves.{leaf_in, live_back, live_out, low_in, power_some}
 
 pub none_below_null : (image : Image) (root size from : ℕ) → block_of root ≡ 0 → HasNoLeafFrom image root size from
-none_below_null image root size from null leaf behind live = null_below image root null (height_of root) leaf
+none_below_null image root size from null leaf beyond live = null_below image root null (height_of root) leaf
 
 pub leaf_itself : (image : Image) (root size from : ℕ) → height_of root ≡ 0 → block_of root ≢ 0 → 0 < size → from ≡ 0 → IsNextLeaf image root size from 0
 leaf_itself image root size from flat present some first = record {
-  behind = omega (arith, first);
+  beyond = omega (arith, first);
   live = omega (arith, some);
   present = λ null. present (sym (ap block_of (tree_word-zero image root 0)) ∙ sym (ap (λ h. node image root h 0) flat) ∙ null);
-  first = λ other behind low. absurd (omega (arith, low));
+  first = λ other beyond low. absurd (omega (arith, low));
 }
 
 -- each leaf from one on that is below the slots before one is null
@@ -32,7 +32,7 @@ module _ (image : Image) (root size level slot from : ℕ) (has : HasBelow image
 
   found_in : (leaf : ℕ) → IsNextLeaf image sub part rest leaf → IsNextLeaf image root size from (slot * 512 ^ level + leaf)
   found_in leaf found = record {
-    behind = omega (arith, found.behind, rest_is);
+    beyond = omega (arith, found.beyond, rest_is);
     live = live_out image root size level slot has sub part root_is size_is leaf found.live;
     present = λ null. found.present (sym (leaf_in image root size level slot has sub part root_is size_is leaf low) ∙ null);
     first = first;
@@ -42,24 +42,24 @@ module _ (image : Image) (root size level slot from : ℕ) (has : HasBelow image
       low = low_in image root size level slot has sub part root_is size_is leaf found.live
 
       first : (other : ℕ) → from ≤ other → other < slot * 512 ^ level + leaf → node image root (height_of root) other ≡ 0
-      first other behind less = go (cases_lt other (slot * 512 ^ level))
+      first other beyond less = go (cases_lt other (slot * 512 ^ level))
         where
           go : (other < slot * 512 ^ level) ⊎ (slot * 512 ^ level ≤ other) → node image root (height_of root) other ≡ 0
           go (inl under) =
-              none other behind ((div-lt_iff_lt-mul {k = 512 ^ level} {x = other} {y = slot} q_some).1 under)
+              none other beyond ((div-lt_iff_lt-mul {k = 512 ^ level} {x = other} {y = slot} q_some).1 under)
               (omega (arith, less, live_out image root size level slot has sub part root_is size_is leaf found.live))
           go (inr over) =
               let is : other ≡ slot * 512 ^ level + (other - slot * 512 ^ level) = omega (arith, over) in
               let fewer : other - slot * 512 ^ level < leaf = omega (arith, over, less) in
               ap (node image root (height_of root)) is
               ∙ leaf_in image root size level slot has sub part root_is size_is (other - slot * 512 ^ level) (omega (arith, fewer, low))
-              ∙ found.first (other - slot * 512 ^ level) (omega (arith, behind, rest_is)) fewer
+              ∙ found.first (other - slot * 512 ^ level) (omega (arith, beyond, rest_is)) fewer
 
   none_in : HasNoLeafFrom image sub part rest → NoLeafBefore image root size level from (slot + 1)
-  none_in clear leaf behind low live = go (cases_lt (leaf / 512 ^ level) slot)
+  none_in clear leaf beyond low live = go (cases_lt (leaf / 512 ^ level) slot)
     where
       go : (leaf / 512 ^ level < slot) ⊎ (slot ≤ leaf / 512 ^ level) → node image root (height_of root) leaf ≡ 0
-      go (inl under) = none leaf behind under live
+      go (inl under) = none leaf beyond under live
       go (inr over) =
           let here : leaf / 512 ^ level ≡ slot = omega (arith, over, low) in
           let start : leaf / 512 ^ level * 512 ^ level ≡ slot * 512 ^ level = ap (λ n. n * 512 ^ level) here in
@@ -69,30 +69,30 @@ module _ (image : Image) (root size level slot from : ℕ) (has : HasBelow image
           let less : leaf - slot * 512 ^ level < 512 ^ level = omega (arith, start, floor, ceiling) in
           ap (node image root (height_of root)) is
           ∙ leaf_in image root size level slot has sub part root_is size_is (leaf - slot * 512 ^ level) less
-          ∙ clear (leaf - slot * 512 ^ level) (omega (arith, behind, rest_is))
+          ∙ clear (leaf - slot * 512 ^ level) (omega (arith, beyond, rest_is))
           (live_back image root size level slot has sub part root_is size_is (leaf - slot * 512 ^ level) less (subst (λ n. 4096 * n < size) is live))
 
 -- each live leaf is below a live slot
 pub none_left : (image : Image) (root size level from slots : ℕ) → NoLeafBefore image root size level from slots → ((slot : ℕ) → slot * span level < size → slot < slots) → HasNoLeafFrom image root size from
-none_left image root size level from slots none all leaf behind live =
+none_left image root size level from slots none all leaf beyond live =
     let q : ℕ = 512 ^ level in
     let floor : leaf / 512 ^ level * 512 ^ level ≤ leaf = div-mul-le_self leaf (512 ^ level) in
     let c : ℕ = leaf / 512 ^ level in
     let wide : c * span level ≡ 4096 * (c * q) = ap (λ s. c * s) (span-is level) ∙ omega arith in
-    none leaf behind (all (leaf / 512 ^ level) (omega (arith, live, floor, wide))) live
+    none leaf beyond (all (leaf / 512 ^ level) (omega (arith, live, floor, wide))) live
 
 -- the same as the walk has it
 pub found_below : (image : Image) (root size level slot from leaves before sub part rest leaf : ℕ) → IsSound image root size → height_of root ≡ suc level → block_of root ≢ 0 → slot * span level < size →
     sub ≡ child image (block_of root) level slot → part ≡ piece size level slot → leaves ≡ 512 ^ level → before ≡ slot * leaves → rest ≡ from - before →
     NoLeafBefore image root size level from slot → IsNextLeaf image sub part rest leaf → IsNextLeaf image root size from (before + leaf)
-found_below image root size level slot from leaves front sub part rest leaf sound height present live root_is size_is leaves_is front_is rest_is none found =
-    let start : front ≡ slot * 512 ^ level = front_is ∙ ap (λ n. slot * n) leaves_is in
+found_below image root size level slot from leaves prefix sub part rest leaf sound height present live root_is size_is leaves_is prefix_is rest_is none found =
+    let start : prefix ≡ slot * 512 ^ level = prefix_is ∙ ap (λ n. slot * n) leaves_is in
     subst (λ n. IsNextLeaf image root size from (n + leaf)) (sym start)
     (found_in image root size level slot from (below image root size level slot sound height present live) sub part rest root_is size_is (rest_is ∙ ap (λ n. from - n) start) none leaf found)
 
 pub none_below : (image : Image) (root size level slot from leaves before sub part rest : ℕ) → IsSound image root size → height_of root ≡ suc level → block_of root ≢ 0 → slot * span level < size →
     sub ≡ child image (block_of root) level slot → part ≡ piece size level slot → leaves ≡ 512 ^ level → before ≡ slot * leaves → rest ≡ from - before →
     NoLeafBefore image root size level from slot → HasNoLeafFrom image sub part rest → NoLeafBefore image root size level from (slot + 1)
-none_below image root size level slot from leaves front sub part rest sound height present live root_is size_is leaves_is front_is rest_is none clear =
-    let start : front ≡ slot * 512 ^ level = front_is ∙ ap (λ n. slot * n) leaves_is in
+none_below image root size level slot from leaves prefix sub part rest sound height present live root_is size_is leaves_is prefix_is rest_is none clear =
+    let start : prefix ≡ slot * 512 ^ level = prefix_is ∙ ap (λ n. slot * n) leaves_is in
     none_in image root size level slot from (below image root size level slot sound height present live) sub part rest root_is size_is (rest_is ∙ ap (λ n. from - n) start) none clear

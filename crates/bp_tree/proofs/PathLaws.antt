@@ -10,12 +10,12 @@ use Rattle.bp_layout.proofs.TreeLaws.{live_above, live_pointer_word}
 use Rattle.bp_tree.specs.Paths.{IsInRangeFrom}
 
 pub exists-append : (image : Image) (at : ℕ) (p q : WordPath) → ExistsFrom image at p → ExistsFrom image (address_from image at p) q → ExistsFrom image at (p ++ q)
-exists-append image at [] q front rest = rest
-exists-append image at (slot ∷ p) q front rest = (front.0, exists-append image (512 * block_of (word image at) + slot) p q front.1 rest)
+exists-append image at [] q prefix rest = rest
+exists-append image at (slot ∷ p) q prefix rest = (prefix.0, exists-append image (512 * block_of (word image at) + slot) p q prefix.1 rest)
 
 pub in_range-append : (image : Image) (at : ℕ) (p q : WordPath) → IsInRangeFrom image at p → IsInRangeFrom image (address_from image at p) q → IsInRangeFrom image at (p ++ q)
-in_range-append image at [] q front rest = rest
-in_range-append image at (slot ∷ p) q front rest = (front.0, in_range-append image (512 * block_of (word image at) + slot) p q front.1 rest)
+in_range-append image at [] q prefix rest = rest
+in_range-append image at (slot ∷ p) q prefix rest = (prefix.0, in_range-append image (512 * block_of (word image at) + slot) p q prefix.1 rest)
 
 pub small_digits : (count index : ℕ) → All (λ slot. slot < 512) (digits count index)
 small_digits zero index = All-nil (λ slot. slot < 512)

@@ -16,7 +16,7 @@ in_a_row f a (suc n) m b e =
     let more : suc n + m ≡ suc (n + m) = omega arith in
     rw more (ap (λ xs. f a ∷ xs) (in_a_row f (a + 1) n m b (omega (arith, e))))
 
--- a list is told by its elements
+-- a list is stated by its elements
 pub from_elements : (f : ℕ → ℕ) (a n : ℕ) (xs : List ℕ) → length xs ≡ n → ((i : ℕ) → i < n → get_or xs i 0 ≡ f (a + i)) → xs ≡ map f (range_with_len a n)
 from_elements f a n xs len each =
     ext_get_or 0 xs (map f (range_with_len a n)) (len ∙ sym (length-map-range_with_len f a n))
@@ -27,18 +27,18 @@ pub same_values : (f g : ℕ → ℕ) (a b n : ℕ) → ((i : ℕ) → i < n →
 same_values f g a b n same =
     from_elements g b n (map f (range_with_len a n)) (length-map-range_with_len f a n) (λ i low. get_or-map-range_with_len f a n i (a + i) 0 low refl ∙ same i low)
 
--- after a write of a part whose front was there
+-- after a write of a part whose prefix was there
 pub grown : (f : ℕ → ℕ) (a b done to : ℕ) (old part : List ℕ) → done ≤ to → to ≤ length old → take done old ≡ map f (range_with_len a done) → a + done ≡ b →
     part ≡ map f (range_with_len b (to - done)) → take to (put_mid done (to - done) old part) ≡ map f (range_with_len a to)
-grown f a b done to old part up within front e is =
+grown f a b done to old part up within prefix e is =
     let count : length part ≡ to - done = ap length is ∙ length-map-range_with_len f b (to - done) in
     let whole : done + (to - done) ≡ to = omega (arith, up) in
     take-put_mid done (to - done) old part to (omega (arith, count, up)) (omega (arith, up, within))
-    ∙ ap₂ (λ xs ys. xs ++ ys) front is
+    ∙ ap₂ (λ xs ys. xs ++ ys) prefix is
     ∙ in_a_row f a done (to - done) b e
     ∙ ap (λ n. map f (range_with_len a n)) whole
 
--- what lies behind the part
+-- what lies after the part
 pub rest_stays : (f : ℕ → ℕ) (b done to : ℕ) (old first part : List ℕ) → done ≤ to → to ≤ length old → drop done old ≡ drop done first →
     part ≡ map f (range_with_len b (to - done)) → drop to (put_mid done (to - done) old part) ≡ drop to first
 rest_stays f b done to old first part up within rest is =
@@ -55,15 +55,15 @@ rest_stays f b done to old first part up within rest is =
 -- after a write of the last part
 pub filled : (f : ℕ → ℕ) (a b done n : ℕ) (old part : List ℕ) → done ≤ n → length old ≡ n → take done old ≡ map f (range_with_len a done) → a + done ≡ b →
     part ≡ map f (range_with_len b (n - done)) → put_mid done (n - done) old part ≡ map f (range_with_len a n)
-filled f a b done n old part up len front e is =
+filled f a b done n old part up len prefix e is =
     let whole : done + (n - done) ≡ n = omega (arith, up) in
     let none : drop (n - done) (drop done old) ≡ [] = drop-drop (n - done) done old ∙ drop_all (done + (n - done)) old (omega (arith, whole, len)) in
     ap₂ (λ xs ys. take done old ++ (xs ++ ys)) is none
-    ∙ ap₂ (λ xs ys. xs ++ ys) front (append-nil (map f (range_with_len b (n - done))))
+    ∙ ap₂ (λ xs ys. xs ++ ys) prefix (append-nil (map f (range_with_len b (n - done))))
     ∙ in_a_row f a done (n - done) b e
     ∙ ap (λ n. map f (range_with_len a n)) whole
 
--- the same of a slice in two parts, of which the first was written at its front
+-- the same of a slice in two parts, of which the first was written at its start
 pub filled_in_two : (f : ℕ → ℕ) (a b head n : ℕ) (old first part : List ℕ) → head ≤ n → length old ≡ n → first ≡ map f (range_with_len a head) → a + head ≡ b →
     part ≡ map f (range_with_len b (n - head)) → put_mid head (n - head) (first ++ drop head old) part ≡ map f (range_with_len a n)
 filled_in_two f a b head n old first part up len is e rest =

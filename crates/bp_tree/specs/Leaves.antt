@@ -11,7 +11,7 @@ HasNoLeafFrom image root size from =
 
 -- the leaf is live and not null, and the leaves from `from` on before it are null
 pub record IsNextLeaf (image : Image) (root size from leaf : ℕ) : Type 0 where
-  pub behind : from ≤ leaf
+  pub beyond : from ≤ leaf
   pub live : block_size * leaf < size
   pub present : node image root (height_of root) leaf ≢ 0
   pub first : (other : ℕ) → from ≤ other → other < leaf → node image root (height_of root) other ≡ 0

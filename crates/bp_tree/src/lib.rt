@@ -10,7 +10,7 @@ pub mod leaves;
 pub mod magic;
 pub mod nulls;
 pub mod paths;
-pub mod reading;
+pub mod reads;
 mod subtrees;
 pub mod tree;
 
@@ -19,6 +19,6 @@ pub use leaves::next_leaf;
 pub use magic::version;
 pub use nulls::first_null;
 pub use paths::{Slots, address, word_path};
-pub use reading::{leaf_words, read, unpack};
+pub use reads::{leaf_words, read, unpack};
 pub use subtrees::child;
 pub use tree::{Tree, content_place, content_word, leaf_block, load_slot, node};

@@ -26,7 +26,7 @@ use Rattle.bp_plain.specs.Plain.{walk, refusal, file_refusal, on_parsed, on_path
 use Rattle.bp_layout.specs.WellFormed.{IsWellFormed}
 use Rattle.bp_dirs.specs.Names.{name_count}
 use Rattle.bp_volume.specs.Step.{PathFinds}
-use Rattle.bp_volume.specs.Told.{Tells, StopsAtFile, StopsWalk}
+use Rattle.bp_volume.specs.Queries.{Answers, StopsAtFile, StopsWalk}
 use Rattle.bp_volume.proofs.WalkLaws.{some_inode, reached_at, node_at, dir_at, walk-found}
 use Rattle.bp_volume.proofs.EntryLaws.{length-entries}
 use Rattle.bp_volume.proofs.LinksLaws.{counts_paths}
@@ -46,7 +46,7 @@ module _ (image : Image) (wf : IsWellFormed image) where
   pub at_low : (text : List ℕ) (i : ℕ) → PathFinds image text i → 1 ≤ i
   at_low text i at = let some : i ≢ 0 = some_inode image wf at.path i at.inode in omega arith
 
--- ---- what there is to tell of an inode
+-- ---- what there is to describe an inode
 
 module _ (image : Image) (i : ℕ) (tree : FileTree) (here : Path) (stands : Stands image tree) (at : lookup image here ≡ Some i) where
   pub stat-file : kind_of image i ≡ 1 → stat_answer tree.now.nodes here (get tree.now.nodes here) ≡ file_of (size_of image i)
@@ -74,25 +74,25 @@ module _ (image : Image) (i : ℕ) (tree : FileTree) (here : Path) (stands : Sta
 -- ---- calls
 
 module _ (image : Image) (text : List ℕ) where
-  pub stat_stops : (why : Refusal) → StopsWalk image text why → Tells image (stat text) (refused why)
+  pub stat_stops : (why : Refusal) → StopsWalk image text why → Answers image (stat text) (refused why)
   stat_stops why stops tree stands = refused_steps image tree (stat text) why (stops tree stands)
 
-  pub list_stops : (why : Refusal) → StopsWalk image text why → Tells image (list text) (refused why)
+  pub list_stops : (why : Refusal) → StopsWalk image text why → Answers image (list text) (refused why)
   list_stops why stops tree stands = refused_steps image tree (list text) why (refusal-list_stopped tree text why (stops tree stands))
 
-  pub read_stops : (offset len : ℕ) (why : Refusal) → StopsAtFile image text why → Tells image (read text offset len) (refused why)
+  pub read_stops : (offset len : ℕ) (why : Refusal) → StopsAtFile image text why → Answers image (read text offset len) (refused why)
   read_stops offset len why stops tree stands = refused_steps image tree (read text offset len) why (stops tree stands)
 
-  pub links_stops : (why : Refusal) → StopsAtFile image text why → Tells image (links text) (refused why)
+  pub links_stops : (why : Refusal) → StopsAtFile image text why → Answers image (links text) (refused why)
   links_stops why stops tree stands = refused_steps image tree (links text) why (stops tree stands)
 
   module _ (i : ℕ) (at : PathFinds image text i) where
     path_is : path_named text ≡ at.path
     path_is = ap (λ (o : Option Path). unwrap_or o []) at.parsed
 
-    pub stat_tells : (told : Answer) → ((tree : FileTree) (here : Path) → Stands image tree → lookup image here ≡ Some i → stat_answer tree.now.nodes here (get tree.now.nodes here) ≡ told) → Tells image (stat text) told
-    stat_tells told says tree stands =
-        answer_steps image tree (stat text) told (ap (λ o. on_parsed o (walk tree.now.nodes)) at.parsed ∙ walk-found image tree stands at.path i at.inode) refl
+    pub stat_reports : (reported : Answer) → ((tree : FileTree) (here : Path) → Stands image tree → lookup image here ≡ Some i → stat_answer tree.now.nodes here (get tree.now.nodes here) ≡ reported) → Answers image (stat text) reported
+    stat_reports reported says tree stands =
+        answer_steps image tree (stat text) reported (ap (λ o. on_parsed o (walk tree.now.nodes)) at.parsed ∙ walk-found image tree stands at.path i at.inode) refl
         (ap (λ p. stat_answer tree.now.nodes p (get tree.now.nodes p)) path_is ∙ says tree at.path stands at.inode)
 
     refusal_there : (tree : FileTree) → Stands image tree → refusal tree (list text) ≡ first (when (not (kind_of image i == 2)) not_dir ∷ [])
@@ -100,18 +100,18 @@ module _ (image : Image) (text : List ℕ) where
         refusal-list_walked tree text at.path at.parsed (walk-found image tree stands at.path i at.inode)
         ∙ ap (λ b. first (when (not b) not_dir ∷ [])) (dir_at image tree stands at.path i at.inode)
 
-    pub list_file : kind_of image i ≡ 1 → Tells image (list text) (refused not_dir)
+    pub list_file : kind_of image i ≡ 1 → Answers image (list text) (refused not_dir)
     list_file kind tree stands = refused_steps image tree (list text) not_dir (refusal_there tree stands ∙ ap (λ k. first (when (not (k == 2)) not_dir ∷ [])) kind)
 
     none_refused : kind_of image i ≡ 2 → (tree : FileTree) → Stands image tree → refusal tree (list text) ≡ None
     none_refused kind tree stands = refusal_there tree stands ∙ ap (λ k. first (when (not (k == 2)) not_dir ∷ [])) kind
 
-    pub list_memory : kind_of image i ≡ 2 → Tells image (list text) (refused no_memory)
+    pub list_memory : kind_of image i ≡ 2 → Answers image (list text) (refused no_memory)
     list_memory kind tree stands = memory_steps image tree text (none_refused kind tree stands)
 
-    pub list_tells : kind_of image i ≡ 2 → (told : List (Kind × Name)) → ((tree : FileTree) (here : Path) → Stands image tree → lookup image here ≡ Some i → told ≡ listing tree.now.nodes here) → Tells image (list text) (names told)
-    list_tells kind told says tree stands =
-        answer_steps image tree (list text) (names told) (none_refused kind tree stands) refl
+    pub list_reports : kind_of image i ≡ 2 → (reported : List (Kind × Name)) → ((tree : FileTree) (here : Path) → Stands image tree → lookup image here ≡ Some i → reported ≡ listing tree.now.nodes here) → Answers image (list text) (names reported)
+    list_reports kind reported says tree stands =
+        answer_steps image tree (list text) (names reported) (none_refused kind tree stands) refl
         (ap (λ p. names (listing tree.now.nodes p)) path_is ∙ ap names (sym (says tree at.path stands at.inode)))
 
     -- a call on a file
@@ -124,21 +124,21 @@ module _ (image : Image) (text : List ℕ) where
     file_allowed : kind_of image i ≡ 1 → (tree : FileTree) → Stands image tree → on_path text (file_refusal tree.now.nodes) ≡ None
     file_allowed kind tree stands = refusal_of_file_there tree stands ∙ ap (λ k. first (when (k == 2) is_dir ∷ [])) kind
 
-    pub read_tells : (offset len : ℕ) (told : List ℕ) → kind_of image i ≡ 1 → told ≡ take len (drop offset (content image (root_of image i) (size_of image i))) → Tells image (read text offset len) (bytes told)
-    read_tells offset len told kind says tree stands =
+    pub read_reports : (offset len : ℕ) (reported : List ℕ) → kind_of image i ≡ 1 → reported ≡ take len (drop offset (content image (root_of image i) (size_of image i))) → Answers image (read text offset len) (bytes reported)
+    read_reports offset len reported kind says tree stands =
         let node : get tree.now.nodes at.path ≡ Some (file (content image (root_of image i) (size_of image i))) =
         node_at image tree stands at.path i at.inode ∙ ap (λ k. Some (if k == 1 then file (content image (root_of image i) (size_of image i)) else dir)) kind in
-        answer_steps image tree (read text offset len) (bytes told) (file_allowed kind tree stands) refl
+        answer_steps image tree (read text offset len) (bytes reported) (file_allowed kind tree stands) refl
         (ap (λ p. bytes (take len (drop offset (bytes_at tree.now.nodes p)))) path_is ∙ ap (λ o. bytes (take len (drop offset (bytes_in o)))) node ∙ ap bytes (sym says))
 
-    pub links_tells : (count : ℕ) → kind_of image i ≡ 1 → HasNames image i count → Tells image (links text) (links_of count)
-    links_tells count kind has tree stands =
+    pub links_reports : (count : ℕ) → kind_of image i ≡ 1 → HasNames image i count → Answers image (links text) (links_of count)
+    links_reports count kind has tree stands =
         answer_steps image tree (links text) (links_of count) (file_allowed kind tree stands) refl
         (ap (λ p. links_of (path_count tree.now.one p)) path_is ∙ ap links_of (counts_paths image i kind tree stands at.path at.inode count has))
 
--- the names that were listed, with a lack of memory told as a refusal
+-- the names that were listed, with a lack of memory reported as a refusal
 pub listed_or_full : {E : Type 0} (image : Image) (text : List ℕ) (inner : Result (List (Kind × Name)) E) (outer : Result (List (Kind × Name)) FsError) →
-    MatchResult inner (λ x. outer ≡ Ok x) (λ lacks. IsErrAnd outer (λ error. error ≡ Memory)) → IfOk inner (λ told. Tells image (list text) (names told)) → Tells image (list text) (refused no_memory) → Tells image (list text) (list_answer_of outer)
-listed_or_full image text (Ok told) outer maps lists full = subst (λ r. Tells image (list text) (list_answer_of r)) (sym maps) lists
-listed_or_full image text (Err lacks) (Ok told) maps lists full = absurd maps
-listed_or_full image text (Err lacks) (Err error) maps lists full = subst (λ e. Tells image (list text) (refused (refusal_of e))) (sym maps) full
+    MatchResult inner (λ x. outer ≡ Ok x) (λ lacks. IsErrAnd outer (λ error. error ≡ Memory)) → IfOk inner (λ reported. Answers image (list text) (names reported)) → Answers image (list text) (refused no_memory) → Answers image (list text) (list_answer_of outer)
+listed_or_full image text (Ok reported) outer maps lists full = subst (λ r. Answers image (list text) (list_answer_of r)) (sym maps) lists
+listed_or_full image text (Err lacks) (Ok reported) maps lists full = absurd maps
+listed_or_full image text (Err lacks) (Err error) maps lists full = subst (λ e. Answers image (list text) (refused (refusal_of e))) (sym maps) full

@@ -26,7 +26,7 @@ use Rattle.bp_plain.proofs.Carried.{batch_refused}
 use Rattle.bp_volume.specs.Step.{AreStretches, IsChange, PathFinds}
 use Rattle.bp_volume.specs.Step.AreStretches.{none as no_stretch, more as more_stretches}
 use Rattle.bp_volume.specs.Step.IsChange.{by_batch}
-use Rattle.bp_volume.specs.Told.{Refuses, RefusesPiece, RefusesPieces, StopsAtFile, Tells, refusal_of_file}
+use Rattle.bp_volume.specs.Queries.{Refuses, RefusesPiece, RefusesPieces, StopsAtFile, Answers, refusal_of_file}
 use Rattle.bp_volume.proofs.AskingLaws.{at_reached}
 use Rattle.bp_volume.proofs.ChangeLaws.{MakesChange}
 use Rattle.bp_volume.proofs.FileLaws.{has_bytes, same_file}
@@ -127,7 +127,7 @@ module _ (image : Image) where
   patches_in wf _ _ (more_patches {piece} {pieces} {patches} {i} finds rest) =
       (record { reached = at_reached image wf piece.path i (found_at image piece i finds); is_file = finds.is_file; within = finds.within }, patches_in wf pieces patches rest)
 
-  -- none of them is refused, so the first refusal stands behind them
+  -- none of them is refused, so the first refusal stands after them
   passes : (pieces : List Piece) (patches : List Patch) → ArePatches image pieces patches → (tree : FileTree) → Stands image tree → first (map (piece_refusal tree.now.nodes) pieces) ≡ None
   passes _ _ no_patch tree stands = refl
   passes _ _ (more_patches {piece} {pieces} {patches} {i} finds rest) tree stands =
@@ -169,7 +169,7 @@ module _ (image : Image) (pieces : List Piece) where
         batch_goes tree stands = batch_left tree None (passes image pieces patches are tree stands)
 
         -- with no byte it changes nothing
-        pub batch_nothing : sum_by (λ piece. length piece.bytes) pieces ≡ 0 → Tells image (batch pieces) done
+        pub batch_nothing : sum_by (λ piece. length piece.bytes) pieces ≡ 0 → Answers image (batch pieces) done
         batch_nothing none tree stands = answer_steps image tree (batch pieces) done (batch_goes tree stands) (no_byte pieces (sym (sum_is pieces) ∙ none)) refl
 
         alike : (other : Change) → IsChange image (batch pieces) other → other ≡ overwrites (stretches_of patches)

@@ -36,7 +36,7 @@ pub record ComesTo (image : Image) (i : ℕ) (name : Name) (at : NameAt) : Type 
   pub slot : at.slot ≡ unwrap_or (empty_slot image i) (entry_count image i)
 
 module _ (old new : Image) (wf : IsWellFormed old) (i : ℕ) (reached : IsReached old i) (directory : IsDirectory old i) (name : Name) (at : NameAt) (comes : ComesTo old i name at) where
-  -- so it is behind a thaw
+  -- so it is after a thaw
   comes_thawed : (middle : Image) → SameMeaning old middle → ComesTo middle i name at
   comes_thawed middle same = record {
     dir = comes.dir;
@@ -93,7 +93,7 @@ snapshot_twice old middle new one two = record {
   slots = λ name slot is. two.slots name slot (one.slots name slot is);
 }
 
--- so behind a thaw
+-- so after a thaw
 pub snapshot_thawed : (old new : Image) (Effect : Image → Image → Type 0) → IsWellFormed old → ((image : Image) → IsWellFormed image → Effect image new → KeepsAllNames image new) → AfterThaw Effect old new → KeepsAllNames old new
 snapshot_thawed old new Effect wf keeps after =
     snapshot_twice old after.middle new (meaning_keeps_all old after.middle wf after.thawed.meaning)
@@ -111,7 +111,7 @@ cache_thawed old middle cache wf shape right = cache_kept old middle cache (mean
 
 -- ---- results
 
--- a call on inodes whose result, with its refusal told as that of a call with a path, is `Ok`
+-- a call on inodes whose result, with its refusal reported as that of a call with a path, is `Ok`
 pub on_ok_was : {P : Type 0} (inner : Result (Unit {0}) NoSpace) (v : Unit {0}) → MatchResult inner (λ x. ◌≡◌ {A = Result (Unit {0}) FsError} (Ok v) (Ok x)) (λ _. ⊥) → OnOk inner P → P
 on_ok_was (Ok x) v maps holds = holds
 on_ok_was (Err lacks) v maps holds = absurd maps

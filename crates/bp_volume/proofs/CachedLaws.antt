@@ -15,7 +15,7 @@ use Rattle.bp_volume.specs.Volume.{IsCachedVolume, IsVolume}
 use Rattle.bp_volume.proofs.CarriedLaws.{carried_volume}
 use Rattle.bp_volume.proofs.FileCallLaws.{volume-ended}
 use Rattle.bp_volume.proofs.SuperLaws.{CallsSuper, super_trees, volume_super}
-use Rattle.bp_volume.proofs.SuperLaws.CallsSuper.{anew, unchanged}
+use Rattle.bp_volume.proofs.SuperLaws.CallsSuper.{altered, unchanged}
 
 -- a marker changes no word
 right_ended : (made new : Memory) (cache : DirectoryCache) → IsCacheOf (current_words made) cache → Adds made new (CallEnd ∷ []) → IsCacheOf (current_words new) cache
@@ -37,10 +37,10 @@ cached_carried middle made new parts after region pending cache volume called ex
 
 -- a call that stores words of the superblock beside the first tree
 right_super : (memory made : Memory) (call : Call) (answer : Answer) (cache : DirectoryCache) → CallsSuper memory made call answer → IsCacheOf (current_words memory) cache → IsCacheOf (current_words made) cache
-right_super memory made call answer cache (anew is does) right =
+right_super memory made call answer cache (altered is does) right =
     cache_kept (current_words memory) (current_words made) cache
     (same_trees_keep_all (current_words memory) (current_words made) (super_trees memory made call does) does.well.first) right
-right_super memory made call answer cache (unchanged same told) right = rw same right
+right_super memory made call answer cache (unchanged same reported) right = rw same right
 
 pub cached_super : {R : Type 0} (memory made ended : Memory) (call : Call) (answer : Answer) (parts after : Parts R) (region : R) (pending : ℕ) (cache : DirectoryCache) → IsVolume memory parts pending →
     IsCacheOf (current_words memory) cache → CallsSuper memory made call answer → IsExact (current_words made) after → AreInSnapshot (current_words made) (in_snapshot_of after) → Adds made ended (CallEnd ∷ []) →

@@ -29,7 +29,7 @@ blocks-adds old new more adds =
 -- the marker has its room
 pub call_end_fits : {call : Call} {answer : Answer} {middle made : Memory} → CarriesOut middle call answer made → call_room ≤ room_in middle → 0 < room_in made
 call_end_fits (changed performs) room = performs.room
-call_end_fits (unchanged same tells) room = rw same (omega (arith, room))
+call_end_fits (unchanged same reports) room = rw same (omega (arith, room))
 
 -- the blocks of the snapshot are those that they were
 snapshot_carried : {R : Type 0} {call : Call} {answer : Answer} (middle made : Memory) (parts after : Parts R) (pending : ℕ) → IsVolume middle parts pending → PerformsCall middle call answer made →
@@ -53,7 +53,7 @@ carried_volume {R} {call} {answer} middle made new parts after region pending vo
       exact = rw words (exact_parts (current_words made) after region exact);
       scans = volume.scans ∙ ap (λ n. 64 * n) (sym (blocks-adds made new (CallEnd ∷ []) ends ∙ blocks-adds middle made _ does.performs.commit.adds));
     }
-carried_volume {R} {call} {answer} middle made new parts after region pending volume (unchanged same tells) exact kept ends =
+carried_volume {R} {call} {answer} middle made new parts after region pending volume (unchanged same reports) exact kept ends =
     let here : IsVolume middle after pending = record {
       safe = volume.safe;
       roomy = volume.roomy;
@@ -68,4 +68,4 @@ carried_volume {R} {call} {answer} middle made new parts after region pending vo
 pub file_call_carried : (old middle made new : Memory) (call : Call) (answer : Answer) → middle ≡ with_room call_room old → IsSafe SameFiles middle → IsFileSystem (current_words middle) →
     CarriesOut middle call answer made → Adds made new (CallEnd ∷ []) → FileCall old call answer new
 file_call_carried old middle made new call answer room safe is (changed does) ends = file_call_changed old middle made new call answer room safe is does ends
-file_call_carried old middle made new call answer room safe is (unchanged same tells) ends = file_call_unchanged old middle new call answer room safe (rw same at ends) tells
+file_call_carried old middle made new call answer room safe is (unchanged same reports) ends = file_call_unchanged old middle new call answer room safe (rw same at ends) reports

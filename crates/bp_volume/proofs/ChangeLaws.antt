@@ -22,14 +22,14 @@ use Rattle.bp_commit.proofs.PerformsLaws.{performs_as, performs_fits}
 use Rattle.bp_calls.specs.Space.{LacksSpace}
 use Rattle.bp_volume.specs.Step.{StepFor, IsChange, Fits}
 use Rattle.bp_volume.specs.Step.StepFor.{changed}
-use Rattle.bp_volume.specs.Told.{Tells}
+use Rattle.bp_volume.specs.Queries.{Answers}
 use Rattle.bp_volume.specs.Carried.{CarriesOut, ChangesTree, PerformsCall}
 use Rattle.bp_volume.specs.Carried.CarriesOut.{changed as carried, unchanged}
 use Rattle.bp_volume.specs.Seen.{unit_answer}
 use Rattle.bp_volume.proofs.StepLaws.{no_space_steps}
 use Rattle.bp_volume.proofs.WholeLaws.{whole_stands}
 
--- The blocks of a snapshot are told in one way.
+-- The blocks of a snapshot are reported in one way.
 pub snapshot_once : (image : Image) (one other : ℕ → Bool) → AreInSnapshot image one → AreInSnapshot image other → one ≡ other
 snapshot_once image one other are also = λ i b. at b (one b) refl (other b) refl i
   where
@@ -53,7 +53,7 @@ module _ (image : Image) (call : Call) (change : Change) (makes : MakesChange im
   changes_now tree stands = ap (λ o. is_none o && changes tree call) (makes.allowed tree stands) ∙ makes.changing tree stands
 
   -- where fewer blocks are free than it needs, it is refused
-  pub lacks_space : (lacks : NoSpace) → LacksSpace image in_snapshot change lacks → Tells image call (refused (no_space lacks.need lacks.free))
+  pub lacks_space : (lacks : NoSpace) → LacksSpace image in_snapshot change lacks → Answers image call (refused (no_space lacks.need lacks.free))
   lacks_space lacks lack tree stands =
       no_space_steps image tree call lacks.need lacks.free (changes_now tree stands)
       (record { change = change; is = makes.is; in_snapshot = in_snapshot; snapshot_blocks = snapshot_blocks; needs = lack.needed; has = lack.free }) lack.fewer
@@ -97,18 +97,18 @@ performs_call in_snapshot old new call change Effect is snapshot_blocks makes pe
     becomes effect tree stands = subst (Stands (current_words new)) (sym (makes.stays tree))
         (whole_stands in_snapshot old new change Effect performs long is snapshot_blocks tree (tree_after tree call).now stands (shows effect tree stands))
 
--- A call on inodes, and its result with the refusal told as that of a call with a path: it is performed, or it lacks space and has changed nothing.
+-- A call on inodes, and its result with the refusal reported as that of a call with a path: it is performed, or it lacks space and has changed nothing.
 pub carried_or_lacks : (old new : Memory) (call : Call) (inner : Result (Unit {0}) NoSpace) (outer : Result (Unit {0}) FsError) →
     MatchResult inner (λ x. outer ≡ Ok x) (λ lacks. IsErrAnd outer (λ error. refusal_of error ≡ no_space lacks.need lacks.free)) → OnOk inner (PerformsCall old call done new) →
-    OnErr inner (new ≡ old) → IfErr inner (λ lacks. Tells (current_words old) call (refused (no_space lacks.need lacks.free))) → CarriesOut old call (unit_answer outer) new
-carried_or_lacks old new call (Ok x) (Ok y) maps performs same tells = carried performs
-carried_or_lacks old new call (Ok x) (Err error) maps performs same tells = absurd (true≢false (ap is_err maps))
-carried_or_lacks old new call (Err lacks) (Ok y) maps performs same tells = absurd maps
-carried_or_lacks old new call (Err lacks) (Err error) maps performs same tells = unchanged same (rw maps tells)
+    OnErr inner (new ≡ old) → IfErr inner (λ lacks. Answers (current_words old) call (refused (no_space lacks.need lacks.free))) → CarriesOut old call (unit_answer outer) new
+carried_or_lacks old new call (Ok x) (Ok y) maps performs same reports = carried performs
+carried_or_lacks old new call (Ok x) (Err error) maps performs same reports = absurd (true≢false (ap is_err maps))
+carried_or_lacks old new call (Err lacks) (Ok y) maps performs same reports = absurd maps
+carried_or_lacks old new call (Err lacks) (Err error) maps performs same reports = unchanged same (rw maps reports)
 
 -- the same where it was refused
 pub carried_lacks : (old new : Memory) (call : Call) (inner : Result (Unit {0}) NoSpace) (error : FsError) →
     MatchResult inner (λ x. ◌≡◌ {A = Result (Unit {0}) FsError} (Err error) (Ok x)) (λ lacks. refusal_of error ≡ no_space lacks.need lacks.free) →
-    OnErr inner (new ≡ old) → IfErr inner (λ lacks. Tells (current_words old) call (refused (no_space lacks.need lacks.free))) → CarriesOut old call (refused (refusal_of error)) new
-carried_lacks old new call (Ok x) error maps same tells = absurd (true≢false (ap is_err maps))
-carried_lacks old new call (Err lacks) error maps same tells = unchanged same (rw maps tells)
+    OnErr inner (new ≡ old) → IfErr inner (λ lacks. Answers (current_words old) call (refused (no_space lacks.need lacks.free))) → CarriesOut old call (refused (refusal_of error)) new
+carried_lacks old new call (Ok x) error maps same reports = absurd (true≢false (ap is_err maps))
+carried_lacks old new call (Err lacks) error maps same reports = unchanged same (rw maps reports)

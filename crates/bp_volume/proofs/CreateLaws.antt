@@ -26,7 +26,7 @@ use Rattle.bp_plain.specs.Plain.{walk_parent, on_parsed, on_path, first, when, i
 use Rattle.bp_volume.specs.Carried.{making}
 use Rattle.bp_volume.specs.Step.{IsChange, FindsNew, last_of}
 use Rattle.bp_volume.specs.Step.IsChange.{by_create, by_mkdir}
-use Rattle.bp_volume.specs.Told.{Refuses, StopsAtNew, refusal_of_new}
+use Rattle.bp_volume.specs.Queries.{Refuses, StopsAtNew, refusal_of_new}
 use Rattle.bp_volume.proofs.ChangeLaws.{MakesChange}
 use Rattle.bp_volume.proofs.WalkLaws.{dir_at, get-next, walk-found}
 
@@ -87,7 +87,7 @@ pub new_stops : (image : Image) (text : List ℕ) (kind : Kind) (why : Refusal) 
 new_stops image text File why stops = stops
 new_stops image text Dir why stops = stops
 
--- the least free inode is told in one way
+-- the least free inode is reported in one way
 least_once : (image : Image) (one other : Option ℕ) → IsLeastFree image one → IsLeastFree image other → one ≡ other
 least_once image (Some i) (Some j) (a_least free least) (a_least other most) = let low : i ≤ j = least j other in let high : j ≤ i = most i free in ap Some (omega (arith, low, high))
 least_once image (Some i) None (a_least free least) (no_least nobody) = absurd (nobody i free)
@@ -109,14 +109,14 @@ module _ (image : Image) (text : List ℕ) (i : ℕ) (name : Name) (names : Find
       cc
 
   module _ (free : Option ℕ) (least : IsLeastFree image free) where
-    one_change : (k : ℕ) (other : Name) (told : Option ℕ) → FindsNew image text k other → IsLeastFree image told → enters k (entrant_of told) ≡ enters i (entrant_of free)
-    one_change k other told new is = ap₂ (λ d o. enters d (entrant_of o)) (same_directory k other new) (least_once image told free is least)
+    one_change : (k : ℕ) (other : Name) (reported : Option ℕ) → FindsNew image text k other → IsLeastFree image reported → enters k (entrant_of reported) ≡ enters i (entrant_of free)
+    one_change k other reported new is = ap₂ (λ d o. enters d (entrant_of o)) (same_directory k other new) (least_once image reported free is least)
 
     alike_file : (change : Change) → IsChange image (create text) change → change ≡ enters i (entrant_of free)
-    alike_file _ (by_create {name = other} {i = k} {free = told} new is) = one_change k other told new is
+    alike_file _ (by_create {name = other} {i = k} {free = reported} new is) = one_change k other reported new is
 
     alike_dir : (change : Change) → IsChange image (mkdir text) change → change ≡ enters i (entrant_of free)
-    alike_dir _ (by_mkdir {name = other} {i = k} {free = told} new is) = one_change k other told new is
+    alike_dir _ (by_mkdir {name = other} {i = k} {free = reported} new is) = one_change k other reported new is
 
     -- the name is what the call makes
     pub making_makes : (kind : Kind) → MakesChange image (making kind text) (enters i (entrant_of free))

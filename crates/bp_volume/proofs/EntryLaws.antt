@@ -31,20 +31,20 @@ kind_of_node-is kind content = go (kind == 1) refl
     go false at = rw at refl
 
 module _ (image : Image) (tree : FileTree) (stands : Stands image tree) (here : Path) (i : ℕ) (at : lookup image here ≡ Some i) (kind : kind_of image i ≡ 2) where
-  abbrev told : ℕ → Kind
-  told j = kind_seen (kind_of image j)
+  abbrev reported : ℕ → Kind
+  reported j = kind_seen (kind_of image j)
 
   abbrev seen_at : ℕ → Kind × Name
-  seen_at slot = (told (inumber_at image i slot), name_at image i slot)
+  seen_at slot = (reported (inumber_at image i slot), name_at image i slot)
 
   reached : IsReached image i
   reached = reached_at image stands.now.well_formed here i at
 
   seen_once : NamesDiffer (map by_name (entries_seen image i (entry_count image i)))
-  seen_once = items-differ image stands.now.well_formed i reached kind told by_name seen_at (λ slot. refl)
+  seen_once = items-differ image stands.now.well_formed i reached kind reported by_name seen_at (λ slot. refl)
 
   seen_found : (name : Name) → find by_bytes name (map by_name (entries_seen image i (entry_count image i))) ≡ option_map kind_of_node (get tree.now.nodes (here ++ name ∷ []))
-  seen_found = find-shown image stands.now.well_formed i reached kind told by_name seen_at (λ slot. refl) (λ k. k) (λ j. sym (kind_of_node-is (kind_of image j) _)) tree.now stands.now here at
+  seen_found = find-shown image stands.now.well_formed i reached kind reported by_name seen_at (λ slot. refl) (λ k. k) (λ j. sym (kind_of_node-is (kind_of image j) _)) tree.now stands.now here at
 
   -- the plain listing has as many
   pub length-entries : length (listing tree.now.nodes here) ≡ length (entries_seen image i (entry_count image i))
@@ -57,6 +57,6 @@ module _ (image : Image) (tree : FileTree) (stands : Stands image tree) (here : 
       let same : map (keyed seen) before ≡ map by_name (entries_seen image i (entry_count image i)) = sym (map-map by_name seen before) ∙ ap (map by_name) are in
       sorted-listing seen tree.now.nodes here before (rw same seen_once) (λ name. rw same (seen_found name)) done moved up
 
-  -- what a directory is told to have is the plain listing
+  -- what a directory is reported to have is the plain listing
   pub listing-names : (names : List (Kind × Name)) → ListsNames image i names → names ≡ listing tree.now.nodes here
   listing-names names lists = sym (map-id names) ∙ listing-entries (λ e. e) (entries_seen image i (entry_count image i)) names (map-id (entries_seen image i (entry_count image i))) lists.all lists.sorted

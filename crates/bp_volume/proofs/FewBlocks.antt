@@ -42,39 +42,39 @@ one_few shortest earlier path =
     omega (arith, few, many)
 
 -- paths that begin alike share these prefixes
-shared_prefix : (n : ℕ) (front rest other : WordPath) → n ≤ length front → is_prefix (take n (front ++ rest)) (front ++ other) ≡ true
-shared_prefix n front rest other low =
-    let one : take n (front ++ rest) ≡ take n front = take-append-le n front rest low in
-    let two : take (length (take n front)) (front ++ other) ≡ take n front = ap (λ m. take m (front ++ other)) (length-take-le n front low) ∙ take-append-le n front other low in
-    ap (λ p. is_prefix p (front ++ other)) one ∙ ap (bytes_eq (take n front)) two ∙ bytes_eq_self (take n front)
+shared_prefix : (n : ℕ) (leading rest other : WordPath) → n ≤ length leading → is_prefix (take n (leading ++ rest)) (leading ++ other) ≡ true
+shared_prefix n leading rest other low =
+    let one : take n (leading ++ rest) ≡ take n leading = take-append-le n leading rest low in
+    let two : take (length (take n leading)) (leading ++ other) ≡ take n leading = ap (λ m. take m (leading ++ other)) (length-take-le n leading low) ∙ take-append-le n leading other low in
+    ap (λ p. is_prefix p (leading ++ other)) one ∙ ap (bytes_eq (take n leading)) two ∙ bytes_eq_self (take n leading)
 
-module _ (front rest other : WordPath) (earlier : List WordPath) where
+module _ (leading rest other : WordPath) (earlier : List WordPath) where
   abbrev is_new : WordPath → Bool
-  is_new prefix = not (list_any (is_prefix prefix) ((front ++ other) ∷ earlier))
+  is_new prefix = not (list_any (is_prefix prefix) ((leading ++ other) ∷ earlier))
 
-  new_from : (count from : ℕ) → length (filter is_new (map (λ n. take n (front ++ rest)) (range_with_len from count))) ≤ from + count - suc (length front)
+  new_from : (count from : ℕ) → length (filter is_new (map (λ n. take n (leading ++ rest)) (range_with_len from count))) ≤ from + count - suc (length leading)
   new_from zero from = omega arith
-  new_from (suc count) from = go (cases_lt (length front) from) (new_from count (from + 1))
+  new_from (suc count) from = go (cases_lt (length leading) from) (new_from count (from + 1))
     where
-      go : (length front < from) ⊎ (from ≤ length front) → length (filter is_new (map (λ n. take n (front ++ rest)) (range_with_len (from + 1) count))) ≤ from + 1 + count - suc (length front) →
-          length (filter is_new (map (λ n. take n (front ++ rest)) (range_with_len from (suc count)))) ≤ from + suc count - suc (length front)
+      go : (length leading < from) ⊎ (from ≤ length leading) → length (filter is_new (map (λ n. take n (leading ++ rest)) (range_with_len (from + 1) count))) ≤ from + 1 + count - suc (length leading) →
+          length (filter is_new (map (λ n. take n (leading ++ rest)) (range_with_len from (suc count)))) ≤ from + suc count - suc (length leading)
       go (inl past) few =
-          let all = filter_few is_new (map (λ n. take n (front ++ rest)) (range_with_len from (suc count))) in
-          let many : length (map (λ n. take n (front ++ rest)) (range_with_len from (suc count))) ≡ suc count = length-map-range_with_len (λ n. take n (front ++ rest)) from (suc count) in
+          let all = filter_few is_new (map (λ n. take n (leading ++ rest)) (range_with_len from (suc count))) in
+          let many : length (map (λ n. take n (leading ++ rest)) (range_with_len from (suc count))) ≡ suc count = length-map-range_with_len (λ n. take n (leading ++ rest)) from (suc count) in
           omega (arith, all, many, past)
       go (inr low) few =
-          let old : is_new (take from (front ++ rest)) ≡ false = ap (λ b. not (b || list_any (is_prefix (take from (front ++ rest))) earlier)) (shared_prefix from front rest other low) in
+          let old : is_new (take from (leading ++ rest)) ≡ false = ap (λ b. not (b || list_any (is_prefix (take from (leading ++ rest))) earlier)) (shared_prefix from leading rest other low) in
           rw old (omega (arith, few))
 
-  -- so one more of them copies what it has of its own at most, but for its last slot
-  next_few : (shortest : ℕ) → length (filter is_new (prefixes_from shortest (front ++ rest))) ≤ length rest - 1
-  next_few shortest = go (cases_lt (length (front ++ rest)) shortest)
+  -- so one more of them copies what it has of its own at most, except for its last slot
+  next_few : (shortest : ℕ) → length (filter is_new (prefixes_from shortest (leading ++ rest))) ≤ length rest - 1
+  next_few shortest = go (cases_lt (length (leading ++ rest)) shortest)
     where
-      go : (length (front ++ rest) < shortest) ⊎ (shortest ≤ length (front ++ rest)) → length (filter is_new (prefixes_from shortest (front ++ rest))) ≤ length rest - 1
+      go : (length (leading ++ rest) < shortest) ⊎ (shortest ≤ length (leading ++ rest)) → length (filter is_new (prefixes_from shortest (leading ++ rest))) ≤ length rest - 1
       go (inl past) =
-          let none : length (front ++ rest) - shortest ≡ 0 = omega (arith, past) in
+          let none : length (leading ++ rest) - shortest ≡ 0 = omega (arith, past) in
           rw none (omega arith)
-      go (inr low) = omega (arith, new_from (length (front ++ rest) - shortest) shortest, low, length-append front rest)
+      go (inr low) = omega (arith, new_from (length (leading ++ rest) - shortest) shortest, low, length-append leading rest)
 
 -- ---- a run of paths
 
@@ -121,24 +121,24 @@ module _ (base : WordPath) (height : ℕ) (low : height ≤ max_height) (shortes
       go (inr other) (inr far) = omega (arith, next_few base (digits (suc height) (suc k)) (digits (suc height) k) earlier shortest, length-digits (suc height) (suc k), low, other, far)
 
   module _ (rest : List WordPath) (most : ℕ) (few : (earlier : List WordPath) → length (prefixes_of shortest earlier rest) ≤ most) where
-    run_behind : (n k : ℕ) (earlier : List WordPath) → length (prefixes_of shortest (path k ∷ earlier) (map path (range_with_len (k + 1) n) ++ rest)) + charge k ≤ charge (k + n) + most
-    run_behind zero k earlier = omega (arith, few (path k ∷ earlier))
-    run_behind (suc n) k earlier =
+    run_after : (n k : ℕ) (earlier : List WordPath) → length (prefixes_of shortest (path k ∷ earlier) (map path (range_with_len (k + 1) n) ++ rest)) + charge k ≤ charge (k + n) + most
+    run_after zero k earlier = omega (arith, few (path k ∷ earlier))
+    run_after (suc n) k earlier =
         let next : k + 1 ≡ suc k = omega arith in
         let end : k + 1 + n ≡ k + suc n = omega arith in
-        let behind : length (prefixes_of shortest (path (k + 1) ∷ path k ∷ earlier) (map path (range_with_len (k + 1 + 1) n) ++ rest)) + charge (k + 1) ≤ charge (k + suc n) + most = rw end at (run_behind n (k + 1) (path k ∷ earlier)) in
+        let following : length (prefixes_of shortest (path (k + 1) ∷ path k ∷ earlier) (map path (range_with_len (k + 1 + 1) n) ++ rest)) + charge (k + 1) ≤ charge (k + suc n) + most = rw end at (run_after n (k + 1) (path k ∷ earlier)) in
         let here : length (filter (λ prefix. not (list_any (is_prefix prefix) (path k ∷ earlier))) (prefixes_from shortest (path (k + 1)))) + charge k ≤ charge (k + 1) = rw next (step k earlier) in
         let both = length-append (filter (λ prefix. not (list_any (is_prefix prefix) (path k ∷ earlier))) (prefixes_from shortest (path (k + 1)))) (prefixes_of shortest (path (k + 1) ∷ path k ∷ earlier) (map path (range_with_len (k + 1 + 1) n) ++ rest)) in
-        omega (arith, behind, here, both)
+        omega (arith, following, here, both)
 
     -- a run of paths copies few blocks besides those of the first, whatever comes before
     pub run_few_after : (earlier : List WordPath) (n k : ℕ) → length (prefixes_of shortest earlier (map path (range_with_len k n) ++ rest)) + charge k ≤ length (path k) + charge (k + n) + most
     run_few_after earlier zero k = omega (arith, few earlier)
     run_few_after earlier (suc n) k =
-        let behind = run_behind n k earlier in
+        let following = run_after n k earlier in
         let here = one_few shortest earlier (path k) in
         let both = length-append (filter (λ prefix. not (list_any (is_prefix prefix) earlier)) (prefixes_from shortest (path k))) (prefixes_of shortest (path k ∷ earlier) (map path (range_with_len (k + 1) n) ++ rest)) in
-        omega (arith, behind, here, both)
+        omega (arith, following, here, both)
 
     pub run_few : (n k : ℕ) → length (prefixes_of shortest [] (map path (range_with_len k n) ++ rest)) + charge k ≤ length (path k) + charge (k + n) + most
     run_few = run_few_after []
@@ -162,12 +162,12 @@ module _ (image : Image) where
       go true = tall_low (root_of image t) (size_of image t) b.to low
       go false = fits
 
-  -- the blocks of the bytes of one call behind a size, by the leaves that those fill
+  -- the blocks of the bytes of one call after a size, by the leaves that those fill
   prepared_few : (b : Beyond) (many : ℕ) → many ≤ 512 → b.to ≤ b.from + many * 4096 → size_of image b.tree ≤ b.from → (0 < size_of image b.tree → height_of (root_of image b.tree) ≤ max_height) → (is : Bool) →
       length (flat_map (prepared_for image) (if is then b ∷ [] else [])) ≤ many + 2 + 3 * max_height
-  prepared_few b many few near behind low false = omega arith
-  prepared_few b many few near behind low true =
-      let needed = few_needed image (root_of image b.tree) (size_of image b.tree) b.from b.to many few near behind low in
+  prepared_few b many few near following low false = omega arith
+  prepared_few b many few near following low true =
+      let needed = few_needed image (root_of image b.tree) (size_of image b.tree) b.from b.to many few near following low in
       let with_tree : TreeNode → ℕ × TreeNode = λ n. (b.tree, n) in
       let same = length-map (nodes_for image (root_of image b.tree) (size_of image b.tree) b.from b.to) with_tree in
       let end = length-append (prepared_for image b) [] in
@@ -269,7 +269,7 @@ pub few_left : (image : Image) → IsWellFormed image → (i s : ℕ) → IsReac
 few_left image wf i s reached some =
     omega (arith, alone_few (length (cover_of (is_there_after image (leaves i s)) (touched image (leaves i s)))) [] (entry_path image (leaves i s) i s 0), content_slots image wf (leaves i s) i (32 * s + 0) reached some)
 
--- an entry behind the last one, where none is empty
+-- an entry after the last one, where none is empty
 pub new_entry_few : (image : Image) → IsWellFormed image → (i : ℕ) → IsReached image i → (slot : Option ℕ) → length (flat_map (prepared_for image) (new_entry image i slot)) ≤ 3 + 3 * max_height
 new_entry_few image wf i reached None = prepared_few image (record { tree = i; from = size_of image i; to = size_of image i + entry_size }) 1 (omega arith) (omega arith) (omega arith) (wf.sound i reached).low true
 new_entry_few image wf i reached (Some slot) = omega arith

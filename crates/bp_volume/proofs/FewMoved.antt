@@ -24,7 +24,7 @@ two_few shortest one two =
     let both = length-append (filter (λ prefix. not (list_any (is_prefix prefix) [])) (prefixes_from shortest one)) (prefixes_of shortest (one ∷ []) (two ∷ [])) in
     omega (arith, one_few shortest [] one, alone_few shortest (one ∷ []) two, both)
 
--- indices that are told from a first one
+-- indices that are reported from a first one
 from_first : (first : ℕ) (path : ℕ → WordPath) (n from : ℕ) → map (λ k. path (first + k)) (range_with_len from n) ≡ map path (range_with_len (first + from) n)
 from_first first path zero from = refl
 from_first first path (suc n) from =

@@ -16,7 +16,7 @@ use Rattle.bp_layout.specs.Need.Change.{writes, resizes, enters, leaves, replace
 use Rattle.bp_layout.specs.Need.Entrant.{taken, grown, linked}
 use Rattle.bp_layout.specs.Same.{Same}
 use Rattle.bp_layout.specs.Tree.{span}
-use Rattle.bp_layout.specs.Thaw.{end_path_now, end_targets, entry_targets, fronts_of, full_need, heights_now, is_front, is_in_snapshot_at, is_there_now, slot_target, targets, thawed}
+use Rattle.bp_layout.specs.Thaw.{end_path_now, end_targets, entry_targets, proper_prefixes_of, full_need, heights_now, is_proper_prefix, is_in_snapshot_at, is_there_now, slot_target, targets, thawed}
 use Rattle.bp_layout.specs.WordPaths.{WordPath, digits, inode_path, tree_path}
 use Rattle.bp_layout.specs.Words.{Image}
 use Rattle.bp_layout.proofs.MemberLaws.{each-append}
@@ -24,7 +24,7 @@ use Rattle.bp_commit.specs.Performs.{HasRoomFor, Performs, most_barriers, most_s
 use Rattle.bp_tree.proofs.Digits.{length-digits}
 use Rattle.bp_volume.proofs.FewBlocks.{IsFew, filter_few}
 
--- ---- paths, at whatever heights a root word tells
+-- ---- paths, at whatever heights a root word reports
 
 abbrev IsShort : WordPath → Type 0
 IsShort path = length path ≤ 16
@@ -205,18 +205,18 @@ module _ (image : Image) where
 
 -- ---- the pointers on the ways
 
-fronts_few : (paths : List WordPath) → Each IsShort paths → (earlier : List WordPath) → length (fronts_of earlier paths) ≤ 16 * length paths
-fronts_few [] short earlier = omega arith
-fronts_few (path ∷ paths) short earlier =
-    let few = filter_few (λ front. not (list_any (is_front front) earlier)) (prefixes_from 0 path) in
+prefixes_few : (paths : List WordPath) → Each IsShort paths → (earlier : List WordPath) → length (proper_prefixes_of earlier paths) ≤ 16 * length paths
+prefixes_few [] short earlier = omega arith
+prefixes_few (path ∷ paths) short earlier =
+    let few = filter_few (λ prefix. not (list_any (is_proper_prefix prefix) earlier)) (prefixes_from 0 path) in
     let many : length (prefixes_from 0 path) ≡ length path - 0 = length-map-range_with_len (λ n. take n path) 0 (length path - 0) in
-    let both = length-append (filter (λ front. not (list_any (is_front front) earlier)) (prefixes_from 0 path)) (fronts_of (path ∷ earlier) paths) in
-    omega (arith, short.0, few, many, both, fronts_few paths short.1 (path ∷ earlier))
+    let both = length-append (filter (λ prefix. not (list_any (is_proper_prefix prefix) earlier)) (prefixes_from 0 path)) (proper_prefixes_of (path ∷ earlier) paths) in
+    omega (arith, short.0, few, many, both, prefixes_few paths short.1 (path ∷ earlier))
 
 -- no call thaws more blocks, whichever are in the snapshot
 pub thawed_few : (image : Image) (in_snapshot : ℕ → Bool) (change : Change) → length (thawed image in_snapshot change) ≤ 96
 thawed_few image in_snapshot change =
-    omega (arith, filter_few (is_in_snapshot_at image in_snapshot) (fronts_of [] (targets image change)), fronts_few (targets image change) (targets_short image change) [], targets_few image change)
+    omega (arith, filter_few (is_in_snapshot_at image in_snapshot) (proper_prefixes_of [] (targets image change)), prefixes_few (targets image change) (targets_short image change) [], targets_few image change)
 
 -- ---- room
 

@@ -18,7 +18,7 @@ use Rattle.bp_volume.specs.Step.{IsChange}
 use Rattle.bp_limits.specs.Limits.{call_room}
 use Rattle.bp_volume.specs.FileCall.{FileCall}
 use Rattle.bp_volume.specs.FileCall.IsCheap.{changes}
-use Rattle.bp_volume.specs.Told.{Tells}
+use Rattle.bp_volume.specs.Queries.{Answers}
 use Rattle.bp_volume.specs.Volume.{IsVolume}
 use Rattle.bp_volume.proofs.SafeLaws.{whole_safe}
 use Rattle.bp_volume.proofs.WholeLaws.{whole_equivalence}
@@ -44,22 +44,22 @@ volume-ended old new parts region pending volume adds =
       scans = rw words volume.scans;
     }
 
--- ---- calls, from the memory behind the room that they made
+-- ---- calls, from the memory after the room that they made
 
 -- a call that changes nothing: its marker is all that it adds
 pub file_call_unchanged : (old middle new : Memory) (call : Call) (answer : Answer) → middle ≡ with_room call_room old → IsSafe SameFiles middle → Adds middle new (CallEnd ∷ []) →
-    Tells (current_words middle) call answer → FileCall old call answer new
-file_call_unchanged old middle new call answer room safe adds tells =
+    Answers (current_words middle) call answer → FileCall old call answer new
+file_call_unchanged old middle new call answer room safe adds reports =
     let before : current_words middle ≡ current_words old = ap current_words room ∙ current_words-with_room call_room old in
     let words : current_words new ≡ current_words old = current_words-adds middle new (CallEnd ∷ []) adds ∙ before in
-    let told : Tells (current_words old) call answer = rw before at tells in
+    let reported : Answers (current_words old) call answer = rw before at reports in
     record {
       added = [];
       no_call_end = refl;
       adds = rw room at adds;
-      step = λ tree stands. rw words (told tree stands).1;
+      step = λ tree stands. rw words (reported tree stands).1;
       silent = λ tree stands none. refl;
-      short = λ tree stands changed. absurd (let both : true ≡ false = sym changed ∙ (told tree stands).0 in cc);
+      short = λ tree stands changed. absurd (let both : true ≡ false = sym changed ∙ (reported tree stands).0 in cc);
       safe = safe_call_end SameFiles whole_equivalence middle new safe adds;
     }
 
@@ -70,7 +70,7 @@ file_call_changed old middle committed new call answer room safe is does ends =
     let events = performed does.in_snapshot middle committed does.change (ChangesTree call answer) does.performs in
     let before : current_words middle ≡ current_words old = ap current_words room ∙ current_words-with_room call_room old in
     let words : current_words new ≡ current_words committed = current_words-adds committed new (CallEnd ∷ []) ends in
-    let told : ChangesTree call answer (current_words old) (current_words committed) = rw before at does.performs.effect in
+    let reported : ChangesTree call answer (current_words old) (current_words committed) = rw before at does.performs.effect in
     let change : IsChange (current_words old) call does.change = rw before at does.is in
     let snapshot_blocks : AreInSnapshot (current_words old) does.in_snapshot = rw before at does.snapshot_blocks in
     let short : IsShort (current_words old) (current_words committed) does.in_snapshot does.change events =
@@ -80,8 +80,8 @@ file_call_changed old middle committed new call answer room safe is does ends =
       no_call_end = performs_no_call_end does.in_snapshot middle committed does.change (ChangesTree call answer) does.performs;
       adds = subst (λ memory. Adds memory new (events ++ CallEnd ∷ [])) room
           (adds_both middle committed new events (CallEnd ∷ []) (performs_adds does.in_snapshot middle committed does.change (ChangesTree call answer) does.performs) ends);
-      step = λ tree stands. rw words (told tree stands).1;
-      silent = λ tree stands none. absurd (let both : true ≡ false = sym (told tree stands).0 ∙ none in cc);
+      step = λ tree stands. rw words (reported tree stands).1;
+      silent = λ tree stands none. absurd (let both : true ≡ false = sym (reported tree stands).0 ∙ none in cc);
       short = λ tree stands changed. changes change snapshot_blocks (rw words short);
       safe = whole_safe does.in_snapshot middle committed does.change (ChangesTree call answer) does.performs is does.snapshot_blocks new ends safe;
     }

@@ -25,7 +25,7 @@ use Rattle.bp_plain.specs.PlainTree.{FileTree}
 use Rattle.bp_plain.specs.Stands.{Shows, Stands}
 use Rattle.bp_volume.specs.Step.{IsChange, PathFinds}
 use Rattle.bp_volume.specs.Step.IsChange.{by_write, by_truncate}
-use Rattle.bp_volume.specs.Told.{Refuses, RefusesFileAt, StopsAtFile, Tells, refusal_of_file}
+use Rattle.bp_volume.specs.Queries.{Refuses, RefusesFileAt, StopsAtFile, Answers, refusal_of_file}
 use Rattle.bp_volume.proofs.ChangeLaws.{MakesChange}
 use Rattle.bp_volume.proofs.StepLaws.{refused_steps, answer_steps}
 use Rattle.bp_volume.proofs.WalkLaws.{node_at, dir_at, walk-found}
@@ -43,7 +43,7 @@ short_of_size version new short = omega (arith, write_most version, size_least v
 -- ---- refusals by the path
 
 module _ (tree : FileTree) (text : List ℕ) where
-  -- a call on a file is refused as any call there, whatever comes behind
+  -- a call on a file is refused as any call there, whatever comes after
   file_first : (others : Path → List (Option Refusal)) (why : Refusal) → on_path text (refusal_of_file tree) ≡ Some why → on_path text (λ p. first (file_refusal tree.now.nodes p ∷ others p)) ≡ Some why
   file_first others why stops = go (parse text) stops
     where
@@ -51,7 +51,7 @@ module _ (tree : FileTree) (text : List ℕ) where
       go None e = e
       go (Some path) e = ap (λ o. first (o ∷ others path)) e
 
-  -- those of a write behind the number of its bytes
+  -- those of a write after the number of its bytes
   abbrev too_far : ℕ → List ℕ → List (Option Refusal)
   too_far offset new = when (nat_lt 0 (length new) && nat_lt (greatest_size tree.version) (offset + length new)) too_big ∷ []
 
@@ -72,7 +72,7 @@ module _ (image : Image) (text : List ℕ) where
       refusal-write tree text offset new (subst (λ v. length new ≤ greatest_write v) (sym stands.version) short)
       ∙ file_first tree text (λ p. too_far tree text offset new) why (ap (λ o. on_parsed o (refusal_of_file tree)) parsed ∙ stops tree stands)
 
-  pub truncate_stops : (size : ℕ) (why : Refusal) → StopsAtFile image text why → Tells image (truncate text size) (refused why)
+  pub truncate_stops : (size : ℕ) (why : Refusal) → StopsAtFile image text why → Answers image (truncate text size) (refused why)
   truncate_stops size why stops tree stands =
       refused_steps image tree (truncate text size) why (file_first tree text (λ p. when (nat_lt (greatest_size tree.version) size) too_big ∷ []) why (stops tree stands))
 
@@ -97,8 +97,8 @@ module _ (image : Image) (text : List ℕ) (i : ℕ) (at : PathFinds image text 
       cc
 
   module _ (tree : FileTree) (stands : Stands image tree) where
-    behind : (others : Path → List (Option Refusal)) → on_path text (λ p. first (file_refusal tree.now.nodes p ∷ others p)) ≡ first (others at.path)
-    behind others =
+    following : (others : Path → List (Option Refusal)) → on_path text (λ p. first (file_refusal tree.now.nodes p ∷ others p)) ≡ first (others at.path)
+    following others =
         ap (λ o. on_parsed o (λ p. first (file_refusal tree.now.nodes p ∷ others p))) at.parsed
         ∙ ap (λ o. first (first (o ∷ when (is_dir_at tree.now.nodes at.path) is_dir ∷ []) ∷ others at.path)) (walk-found image tree stands at.path i at.inode)
         ∙ ap (λ b. first (first (when b is_dir ∷ []) ∷ others at.path)) (dir_at image tree stands at.path i at.inode ∙ ap (λ k. k == 2) kind)
@@ -119,16 +119,16 @@ module _ (image : Image) (text : List ℕ) (i : ℕ) (at : PathFinds image text 
       write_left : (tree : FileTree) → Stands image tree → refusal tree (write text offset new) ≡ first (when (nat_lt 0 (length new) && nat_lt (greatest_size (version_of image)) (offset + length new)) too_big ∷ [])
       write_left tree stands =
           refusal-write tree text offset new (subst (λ v. length new ≤ greatest_write v) (sym stands.version) short)
-          ∙ behind tree stands (λ p. too_far tree text offset new)
+          ∙ following tree stands (λ p. too_far tree text offset new)
           ∙ ap (λ v. first (when (nat_lt 0 (length new) && nat_lt (greatest_size v) (offset + length new)) too_big ∷ [])) stands.version
 
-      pub write_too_big : 0 < length new → greatest_size (version_of image) < offset + length new → Tells image (write text offset new) (refused too_big)
+      pub write_too_big : 0 < length new → greatest_size (version_of image) < offset + length new → Answers image (write text offset new) (refused too_big)
       write_too_big some big tree stands =
           refused_steps image tree (write text offset new) too_big
           (write_left tree stands ∙ ap₂ (λ a b. first (when (a && b) too_big ∷ [])) (lt-ltb 0 (length new) some) (lt-ltb (greatest_size (version_of image)) (offset + length new) big))
 
       -- no bytes change nothing
-      pub write_nothing : length new ≤ 0 → Tells image (write text offset new) done
+      pub write_nothing : length new ≤ 0 → Answers image (write text offset new) done
       write_nothing none tree stands =
           answer_steps image tree (write text offset new) done
           (write_left tree stands ∙ ap (λ b. first (when (b && nat_lt (greatest_size (version_of image)) (offset + length new)) too_big ∷ [])) (le-ltb 0 (length new) none)) (le-ltb 0 (length new) none) refl
@@ -151,9 +151,9 @@ module _ (image : Image) (text : List ℕ) (i : ℕ) (at : PathFinds image text 
   module _ (size : ℕ) where
     truncate_left : (tree : FileTree) → Stands image tree → refusal tree (truncate text size) ≡ first (when (nat_lt (greatest_size (version_of image)) size) too_big ∷ [])
     truncate_left tree stands =
-        behind tree stands (λ p. when (nat_lt (greatest_size tree.version) size) too_big ∷ []) ∙ ap (λ v. first (when (nat_lt (greatest_size v) size) too_big ∷ [])) stands.version
+        following tree stands (λ p. when (nat_lt (greatest_size tree.version) size) too_big ∷ []) ∙ ap (λ v. first (when (nat_lt (greatest_size v) size) too_big ∷ [])) stands.version
 
-    pub truncate_too_big : greatest_size (version_of image) < size → Tells image (truncate text size) (refused too_big)
+    pub truncate_too_big : greatest_size (version_of image) < size → Answers image (truncate text size) (refused too_big)
     truncate_too_big big tree stands =
         refused_steps image tree (truncate text size) too_big (truncate_left tree stands ∙ ap (λ b. first (when b too_big ∷ [])) (lt-ltb (greatest_size (version_of image)) size big))
 
@@ -161,7 +161,7 @@ module _ (image : Image) (text : List ℕ) (i : ℕ) (at : PathFinds image text 
     truncate_goes fits tree stands = truncate_left tree stands ∙ ap (λ b. first (when b too_big ∷ [])) (le-ltb (greatest_size (version_of image)) size fits)
 
     -- the size that it has changes nothing
-    pub truncate_nothing : size ≤ greatest_size (version_of image) → size ≡ size_of image i → Tells image (truncate text size) done
+    pub truncate_nothing : size ≤ greatest_size (version_of image) → size ≡ size_of image i → Answers image (truncate text size) done
     truncate_nothing fits same tree stands =
         answer_steps image tree (truncate text size) done (truncate_goes fits tree stands) (ap not (eq-eqb size (length (bytes_at tree.now.nodes (path_named text))) (same ∙ sym (has_bytes tree stands)))) refl
 

@@ -1,4 +1,4 @@
--- Calls that need no block, as the plain tree tells of them: they are never refused for want of space.
+-- Calls that need no block, as the plain tree describes them: they are never refused for want of space.
 use Rattle.std.proofs.Common.{◌≡◌, ◌≢◌, ℕ, ◌≤◌, List, [], ◌∷◌, length, Bool, true, false, Option, None, Some, true≢false, refl, sym, ◌∙◌, ap, subst, arith, ◌<◌}
 use Rattle.std.specs.Prelude.{◌&&◌, is_none, nat_lt, not}
 use Rattle.std.proofs.lemmas.Bool.{eqb-false}
@@ -29,7 +29,7 @@ use Rattle.bp_plain.specs.Stands.{ShowsSnapshot, Stands}
 use Rattle.bp_volume.specs.Step.{FindsEntry, HasNeed, IsChange, IsNeverShort, PathFinds, StandsIn}
 use Rattle.bp_volume.specs.Step.IsChange.{by_unlink, by_rmdir, by_truncate}
 use Rattle.bp_volume.specs.Step.StepFor.{no_room, unchanged, changed}
-use Rattle.bp_volume.specs.Told.{refusal_of_walk}
+use Rattle.bp_volume.specs.Queries.{refusal_of_walk}
 use Rattle.bp_volume.proofs.FileLaws.{has_bytes, write_alike}
 use Rattle.bp_volume.proofs.ChangeLaws.{snapshot_once}
 use Rattle.bp_volume.proofs.LeavingLaws.{is_found}

@@ -24,7 +24,7 @@ use Rattle.bp_plain.specs.PlainTree.{FileTree}
 use Rattle.bp_plain.specs.Stands.{Shows, Stands}
 use Rattle.bp_volume.specs.Step.{FindsEntry, IsChange, StandsIn, last_of}
 use Rattle.bp_volume.specs.Step.IsChange.{by_unlink, by_rmdir}
-use Rattle.bp_volume.specs.Told.{Refuses, StopsAtEntry, refusal_of_entry}
+use Rattle.bp_volume.specs.Queries.{Refuses, StopsAtEntry, refusal_of_entry}
 use Rattle.bp_volume.proofs.ChangeLaws.{MakesChange}
 use Rattle.bp_volume.proofs.CreateLaws.{by_parent, not_root}
 use Rattle.bp_volume.proofs.FewBlocks.{IsFew, few_left}
@@ -39,7 +39,7 @@ first_beside (Some other) two beside rest why e = e
 first_beside None (Some other) beside rest why e = e
 first_beside None None beside rest why e = absurd (cc)
 
--- what stops at the entry refuses the call, whatever comes behind
+-- what stops at the entry refuses the call, whatever comes after
 entry_first : (image : Image) (text : List ℕ) (root why : Refusal) (beside others : FileTree → Path → List (Option Refusal)) → StopsAtEntry image text root why → (tree : FileTree) → Stands image tree →
     on_path text (λ p. first (when (is_root_path p) root ∷ first (walk tree.now.nodes p ∷ beside tree p) ∷ others tree p)) ≡ Some why
 entry_first image text root why beside others stops tree stands = go (parse text) (stops tree stands)
@@ -102,8 +102,8 @@ module _ (image : Image) (text : List ℕ) (i s j : ℕ) (at : FindsEntry image 
   name_lost after loses tree stands = subst (λ p. Shows after (with_nothing tree.now p)) here (loses tree.now (parent_of at.path) stands.now at.entry.parent)
 
   module _ (tree : FileTree) (stands : Stands image tree) where
-    behind : (root : Refusal) (beside others : Path → List (Option Refusal)) → on_path text (λ p. first (when (is_root_path p) root ∷ first (walk tree.now.nodes p ∷ beside p) ∷ others p)) ≡ first (first (beside at.path) ∷ others at.path)
-    behind root beside others =
+    following : (root : Refusal) (beside others : Path → List (Option Refusal)) → on_path text (λ p. first (when (is_root_path p) root ∷ first (walk tree.now.nodes p ∷ beside p) ∷ others p)) ≡ first (first (beside at.path) ∷ others at.path)
+    following root beside others =
         ap (λ o. on_parsed o (λ p. first (when (is_root_path p) root ∷ first (walk tree.now.nodes p ∷ beside p) ∷ others p))) at.parsed
         ∙ ap (λ b. first (when b root ∷ first (walk tree.now.nodes at.path ∷ beside at.path) ∷ others at.path)) (not_root at.path at.entry.below)
         ∙ ap (λ o. first (first (o ∷ beside at.path) ∷ others at.path)) (walk-found image tree stands at.path j at.entry.inode)
@@ -112,10 +112,10 @@ module _ (image : Image) (text : List ℕ) (i s j : ℕ) (at : FindsEntry image 
     is_dir_there kind is = dir_at image tree stands at.path j at.entry.inode ∙ ap (λ k. k == 2) is
 
     unlink_left : refusal tree (unlink text) ≡ first (first (when (is_dir_at tree.now.nodes at.path) is_dir ∷ []) ∷ [])
-    unlink_left = behind is_dir (λ p. when (is_dir_at tree.now.nodes p) is_dir ∷ []) (λ p. [])
+    unlink_left = following is_dir (λ p. when (is_dir_at tree.now.nodes p) is_dir ∷ []) (λ p. [])
 
     rmdir_left : refusal tree (rmdir text) ≡ first (first (when (not (is_dir_at tree.now.nodes at.path)) not_dir ∷ []) ∷ when (not (is_empty_dir tree.now.nodes at.path)) not_empty ∷ [])
-    rmdir_left = behind is_root (λ p. when (not (is_dir_at tree.now.nodes p)) not_dir ∷ []) (λ p. when (not (is_empty_dir tree.now.nodes p)) not_empty ∷ [])
+    rmdir_left = following is_root (λ p. when (not (is_dir_at tree.now.nodes p)) not_dir ∷ []) (λ p. when (not (is_empty_dir tree.now.nodes p)) not_empty ∷ [])
 
     rmdir_by : (kind : ℕ) → kind_of image j ≡ kind → refusal tree (rmdir text) ≡ first (first (when (not (kind == 2)) not_dir ∷ []) ∷ when (not (is_empty_dir tree.now.nodes at.path)) not_empty ∷ [])
     rmdir_by kind is = rmdir_left ∙ ap (λ b. first (first (when (not b) not_dir ∷ []) ∷ when (not (is_empty_dir tree.now.nodes at.path)) not_empty ∷ [])) (is_dir_there kind is)

@@ -21,7 +21,7 @@ pub mod MovingLaws
 pub mod CarriedLaws
 pub mod CacheLaws
 pub mod LaidLaws
-pub mod FrontLaws
+pub mod PrefixLaws
 pub mod LinksLaws
 pub mod BesideExact
 pub mod SafeLaws
@@ -35,7 +35,7 @@ pub mod HalfFormat
 pub mod CrashedLaws
 pub mod WholeLaws
 pub mod SharingLaws
-pub mod ToldNames
+pub mod RemovedNames
 pub mod CachedLaws
 pub mod SuperLaws
 pub mod LiveBlocks

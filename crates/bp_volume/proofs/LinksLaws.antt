@@ -26,7 +26,7 @@ use Rattle.bp_plain.proofs.Rooted.{same_above}
 -- paths that are one have one last name
 names_same : (p q : Path) (a b : Name) → p ++ a ∷ [] ≡ q ++ b ∷ [] → a ≡ b
 names_same p q a b e =
-    let lasts : ◌≡◌ {A = Path} (a ∷ []) (b ∷ []) = append_cancel_left p (a ∷ []) (b ∷ []) (e ∙ ap (λ front. front ++ b ∷ []) (sym (same_above p q a b e))) in
+    let lasts : ◌≡◌ {A = Path} (a ∷ []) (b ∷ []) = append_cancel_left p (a ∷ []) (b ∷ []) (e ∙ ap (λ prefix. prefix ++ b ∷ []) (sym (same_above p q a b e))) in
     cc
 
 module _ (image : Image) (wf : IsWellFormed image) where
@@ -72,8 +72,8 @@ module _ (image : Image) (wf : IsWellFormed image) where
     -- two entries have two paths
     by_apart : (a b : ℕ × ℕ) (one : IsNamed image j a) (two : IsNamed image j b) → path_by a one ≡ path_by b two → a ≡ b
     by_apart a b one two same =
-        let fronts : (above_entry a one).path ≡ (above_entry b two).path = same_above _ _ _ _ same in
-        let dirs : ◌≡◌ {A = Option ℕ} (Some a.0) (Some b.0) = sym (above_entry a one).found ∙ ap (lookup image) fronts ∙ (above_entry b two).found in
+        let prefixes : (above_entry a one).path ≡ (above_entry b two).path = same_above _ _ _ _ same in
+        let dirs : ◌≡◌ {A = Option ℕ} (Some a.0) (Some b.0) = sym (above_entry a one).found ∙ ap (lookup image) prefixes ∙ (above_entry b two).found in
         let dir : a.0 ≡ b.0 = cc in
         let names : name_at image a.0 a.1 ≡ name_at image a.0 b.1 = names_same _ _ _ _ same ∙ ap (λ i. name_at image i b.1) (sym dir) in
         let other : EntryNames image a.0 b.1 j = subst (λ i. EntryNames image i b.1 j) (sym dir) two.names in
@@ -133,15 +133,15 @@ module _ (image : Image) (wf : IsWellFormed image) where
         go none at =
             let root : 1 ≡ j = cc in
             absurd (omega (arith, kind, ap (kind_of image) root, wf.root_kind))
-        go (more {path = front} before name) at =
-            let step : LastStep image wf front name j = last_step image wf front name j at in
+        go (more {path = prefix} before name) at =
+            let step : LastStep image wf prefix name j = last_step image wf prefix name j at in
             let has : Has entries (step.parent, step.shows.slot) = all step.parent step.shows.slot (record { reached = step.reached; names = step.shows.entry }) in
-            found_by entries are (front ++ name ∷ []) (step.parent, step.shows.slot) has
+            found_by entries are (prefix ++ name ∷ []) (step.parent, step.shows.slot) has
             (λ other is here.
             let dir : other.0 ≡ step.parent = ap (λ (e : ℕ × ℕ). e.0) here in
             let slot : other.1 ≡ step.shows.slot = ap (λ (e : ℕ × ℕ). e.1) here in
             ap₂ (λ p n. p ++ n ∷ [])
-            (path_once image wf front (above_entry other is).path step.parent step.found ((above_entry other is).found ∙ ap Some dir) step.shows.entry.directory)
+            (path_once image wf prefix (above_entry other is).path step.parent step.found ((above_entry other is).found ∙ ap Some dir) step.shows.entry.directory)
             (sym step.shows.spelled ∙ ap₂ (name_at image) (sym dir) (sym slot)))
 
 -- ---- the answer

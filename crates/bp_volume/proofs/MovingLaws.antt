@@ -22,12 +22,12 @@ use Rattle.bp_plain.specs.PlainTree.{FileTree}
 use Rattle.bp_plain.specs.Stands.{Shows, Stands}
 use Rattle.bp_rename.specs.CanRename.{CanRename, change_of, change_to, moved_inode}
 use Rattle.bp_rename.specs.MovesPath.{IsFoundTarget, MovesPath}
-use Rattle.bp_rename.specs.declared.moving.Move.{Move}
+use Rattle.bp_rename.specs.declared.moves.Move.{Move}
 use Rattle.bp_rename.proofs.RenamedStands.{found_can_rename}
 use Rattle.bp_volume.specs.Renaming.{FindsEnds, IsMoveOf, MayMove, is_inode}
 use Rattle.bp_volume.specs.Step.{FindsEntry, IsChange, FindsNew, StandsIn, last_of}
 use Rattle.bp_volume.specs.Step.IsChange.{onto, across, within}
-use Rattle.bp_volume.specs.declared.renaming.Ends.{Ends}
+use Rattle.bp_volume.specs.declared.rename.Ends.{Ends}
 use Rattle.bp_volume.proofs.ChangeLaws.{MakesChange}
 use Rattle.bp_volume.proofs.CreateLaws.{by_parent}
 use Rattle.bp_volume.proofs.FewBlocks.{IsFew}
@@ -46,8 +46,8 @@ parent_outside p q below other outside = go (rest_below p (parent_of q)) refl
     go : (o : Option Path) → rest_below p (parent_of q) ≡ o → o ≡ None
     go None at = refl
     go (Some rest) at =
-        let front : parent_of q ≡ p ++ rest = rest_below-is p (parent_of q) rest at in
-        let whole : q ≡ p ++ (rest ++ last_of q ∷ []) = by_parent q below ∙ ap (λ r. r ++ last_of q ∷ []) front ∙ append_assoc p rest (last_of q ∷ []) in
+        let prefix : parent_of q ≡ p ++ rest = rest_below-is p (parent_of q) rest at in
+        let whole : q ≡ p ++ (rest ++ last_of q ∷ []) = by_parent q below ∙ ap (λ r. r ++ last_of q ∷ []) prefix ∙ append_assoc p rest (last_of q ∷ []) in
         let inside : rest_below p q ≡ Some (rest ++ last_of q ∷ []) = ap (rest_below p) whole ∙ rest_below-append p (rest ++ last_of q ∷ []) in
         absurd (true≢false (sym (ap is_some inside) ∙ no_rest))
 

@@ -6,7 +6,7 @@ use Rattle.std.proofs.lemmas.Bool.{not-false}
 use Rattle.std.proofs.lemmas.List.{drop_more, map-append, take_more}
 use Rattle.std.proofs.lemmas.Slice.Eq.{bytes_eq-Decides}
 use Rattle.bp_calls.specs.Overwritten.{patch_seen, patches_seen}
-use Rattle.bp_calls.specs.declared.batching.Patch.{Patch as GivenPatch}
+use Rattle.bp_calls.specs.declared.batches.Patch.{Patch as GivenPatch}
 use Rattle.bp_changes.specs.Overwrites.{Patch}
 use Rattle.bp_layout.specs.Paths.{parse}
 use Rattle.bp_layout.specs.Words.{Image}
@@ -18,10 +18,10 @@ use Rattle.bp_plain.specs.Stands.{Stands}
 use Rattle.bp_plain.specs.declared.calls.Piece.{Piece as GivenPiece}
 use Rattle.bp_stands.specs.Pieces.{ArePatches, PieceFinds, patch_of}
 use Rattle.bp_stands.specs.Pieces.ArePatches.{none as no_patch, more as more_patches}
-use Rattle.bp_volume.specs.Told.{RefusesPiece, RefusesPieces}
+use Rattle.bp_volume.specs.Queries.{RefusesPiece, RefusesPieces}
 use Rattle.bp_volume.proofs.BatchLaws.{found_at, piece_goes}
 
--- one more patch, behind those that there are
+-- one more patch, after those that there are
 patches_more : (image : Image) (pieces : List Piece) (patches : List Patch) (piece : Piece) (i : ℕ) → ArePatches image pieces patches → PieceFinds image piece i →
     ArePatches image (pieces ++ piece ∷ []) (patches ++ patch_of piece i ∷ [])
 patches_more image _ _ piece i no_patch finds = more_patches finds no_patch
@@ -35,7 +35,7 @@ parsed_good (Err e) o is some fine = absurd (true≢false fine)
 pub same_good : (path good : List ℕ) → not (bytes_eq path good) ≡ false → is_none (parse good) ≡ false → is_none (parse path) ≡ false
 same_good path good same is = subst (λ text. is_none (parse text) ≡ false) (sym ((bytes_eq-Decides path good).0 (not-false _ same))) is
 
--- the piece at this place, between those before it and those behind it
+-- the piece at this place, between those before it and those after it
 pub record IsPieceAt (pieces : List GivenPiece) (i : ℕ) (piece : GivenPiece) : Type 0 where
   pub next : drop i pieces ≡ piece ∷ drop (i + 1) pieces
   pub more : take (i + 1) pieces ≡ take i pieces ++ piece ∷ []
@@ -43,10 +43,10 @@ pub record IsPieceAt (pieces : List GivenPiece) (i : ℕ) (piece : GivenPiece) :
 pub piece_at : (pieces : List GivenPiece) (i : ℕ) (other : GivenPiece) → i < length pieces → IsPieceAt pieces i (get_or pieces i other)
 piece_at pieces i other low = record { next = drop_more pieces i other low; more = take_more pieces i other low }
 
--- its path is one, so those behind it tell whether a path is not
-pub bad_behind : (text : List ℕ) (pieces : List GivenPiece) (i : ℕ) (piece : GivenPiece) → IsPieceAt pieces i piece → is_none (parse (piece_in text piece).path) ≡ false →
+-- its path is one, so those after it show whether a path is not
+pub bad_after : (text : List ℕ) (pieces : List GivenPiece) (i : ℕ) (piece : GivenPiece) → IsPieceAt pieces i piece → is_none (parse (piece_in text piece).path) ≡ false →
     list_any (λ piece. is_none (parse piece.path)) (map (piece_in text) (drop (i + 1) pieces)) ≡ list_any (λ piece. is_none (parse piece.path)) (map (piece_in text) (drop i pieces))
-bad_behind text pieces i piece at good =
+bad_after text pieces i piece at good =
     sym (ap (λ (ps : List GivenPiece). list_any (λ (p : Piece). is_none (parse p.path)) (map (piece_in text) ps)) at.next
     ∙ ap (λ b. b || list_any (λ (p : Piece). is_none (parse p.path)) (map (piece_in text) (drop (i + 1) pieces))) good)
 
@@ -59,7 +59,7 @@ module _ (image : Image) (text : List ℕ) (pieces : List GivenPiece) (i : ℕ) 
       sym (left tree stands) ∙ ap (λ (ps : List GivenPiece). first (map (piece_refusal tree.now.nodes) (map (piece_in text) ps))) at.next
       ∙ ap (λ o. first (o ∷ map (piece_refusal tree.now.nodes) (map (piece_in text) (drop (i + 1) pieces)))) (stops tree stands)
 
-  -- it is not refused, so those behind it tell
+  -- it is not refused, so those after it report
   pub piece_passes : (k : ℕ) → PieceFinds image (piece_in text piece) k → (tree : FileTree) → Stands image tree →
       first (map (piece_refusal tree.now.nodes) (map (piece_in text) (drop (i + 1) pieces))) ≡ first (map (piece_refusal tree.now.nodes) (map (piece_in text) (drop i pieces)))
   piece_passes k finds tree stands =
@@ -78,10 +78,10 @@ module _ (image : Image) (text : List ℕ) (pieces : List GivenPiece) (i : ℕ) 
       go true e both = absurd (true≢false (rw e at both))
       go false e both = (e, rw e at both)
 
-  pub paths_behind : list_any (λ piece. is_none (parse piece.path)) (map (piece_in text) (drop i pieces)) ≡ false → list_any (λ piece. is_none (parse piece.path)) (map (piece_in text) (drop (i + 1) pieces)) ≡ false
-  paths_behind none = (paths_split none).1
+  pub paths_after : list_any (λ piece. is_none (parse piece.path)) (map (piece_in text) (drop i pieces)) ≡ false → list_any (λ piece. is_none (parse piece.path)) (map (piece_in text) (drop (i + 1) pieces)) ≡ false
+  paths_after none = (paths_split none).1
 
-  -- its patch comes behind the others
+  -- its patch comes after the others
   pub patch_pushed : (patches after : List GivenPatch) (patch : GivenPatch) → after ≡ patches ++ patch ∷ [] → ArePatches image (map (piece_in text) (take i pieces)) (patches_seen patches) →
       PieceFinds image (piece_in text piece) patch.inode → patch_seen patch ≡ patch_of (piece_in text piece) patch.inode → ArePatches image (map (piece_in text) (take (i + 1) pieces)) (patches_seen after)
   patch_pushed patches after patch pushed are finds is =

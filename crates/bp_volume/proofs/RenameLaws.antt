@@ -26,9 +26,9 @@ use Rattle.bp_plain.specs.Stands.{Stands}
 use Rattle.bp_volume.specs.FileCall.{has_changed}
 use Rattle.bp_volume.specs.Renaming.{Allows, AreRenameEnds, FindsEnds, IsTarget, MayMove, are_same, is_inode}
 use Rattle.bp_volume.specs.Step.{FindsEntry, IsEntryOn, StepFor, last_of}
-use Rattle.bp_volume.specs.Told.{Refuses, RefusesEntry, RefusesParent, RefusesRename, Tells}
-use Rattle.bp_volume.specs.declared.renaming.Ends.{Ends}
-use Rattle.bp_volume.specs.declared.walking.Target.{Target}
+use Rattle.bp_volume.specs.Queries.{Refuses, RefusesEntry, RefusesParent, RefusesRename, Answers}
+use Rattle.bp_volume.specs.declared.rename.Ends.{Ends}
+use Rattle.bp_volume.specs.declared.lookup.Target.{Target}
 use Rattle.bp_volume.proofs.CreateLaws.{get-name, lookup-name, not_root, parent_goes}
 use Rattle.bp_volume.proofs.EntryLaws.{length-entries}
 use Rattle.bp_volume.proofs.StepLaws.{answer_steps}
@@ -72,28 +72,28 @@ module _ (image : Image) (p q : Path) where
   at_kinds tree =
       when (moves_file_onto_dir tree.now.nodes p q) is_dir ∷ when (moves_dir_onto_file tree.now.nodes p q) not_dir ∷ when (moves_onto_names tree.now.nodes p q) not_empty ∷ []
 
-  abbrev behind : FileTree → List (Option Refusal)
-  behind tree = when (moves_below p q) into_self ∷ at_kinds tree
+  abbrev following : FileTree → List (Option Refusal)
+  following tree = when (moves_below p q) into_self ∷ at_kinds tree
 
   module _ (below : p ≢ []) (target_below : q ≢ []) where
-    past_roots : (tree : FileTree) → move_refusal tree.now.nodes p q ≡ first (walk tree.now.nodes p ∷ walk_parent tree.now.nodes q ∷ behind tree)
-    past_roots tree = ap₂ (λ a b. first (when a is_root ∷ when b is_root ∷ walk tree.now.nodes p ∷ walk_parent tree.now.nodes q ∷ behind tree)) (not_root p below) (not_root q target_below)
+    past_roots : (tree : FileTree) → move_refusal tree.now.nodes p q ≡ first (walk tree.now.nodes p ∷ walk_parent tree.now.nodes q ∷ following tree)
+    past_roots tree = ap₂ (λ a b. first (when a is_root ∷ when b is_root ∷ walk tree.now.nodes p ∷ walk_parent tree.now.nodes q ∷ following tree)) (not_root p below) (not_root q target_below)
 
     pub source_stops : (why : Refusal) → RefusesEntry image p is_root why → RefusesRename image p q why
     source_stops why stops tree stands =
         let walked : walk tree.now.nodes p ≡ Some why = sym (first_one (walk tree.now.nodes p)) ∙ sym (ap (λ b. first (when b is_root ∷ walk tree.now.nodes p ∷ [])) (not_root p below)) ∙ stops tree stands in
-        past_roots tree ∙ ap (λ o. first (o ∷ walk_parent tree.now.nodes q ∷ behind tree)) walked
+        past_roots tree ∙ ap (λ o. first (o ∷ walk_parent tree.now.nodes q ∷ following tree)) walked
 
     module _ (i s x : ℕ) (source : IsEntryOn image p i s x) where
       pub target_stops : (why : Refusal) → RefusesParent image q why → RefusesRename image p q why
       target_stops why stops tree stands =
-          past_roots tree ∙ ap₂ (λ a b. first (a ∷ b ∷ behind tree)) (walk-found image tree stands p x source.inode) (stops tree stands)
+          past_roots tree ∙ ap₂ (λ a b. first (a ∷ b ∷ following tree)) (walk-found image tree stands p x source.inode) (stops tree stands)
 
       module _ (target : Target) (is : IsTarget image q target) where
-        pub past_walks : (tree : FileTree) → Stands image tree → move_refusal tree.now.nodes p q ≡ first (behind tree)
+        pub past_walks : (tree : FileTree) → Stands image tree → move_refusal tree.now.nodes p q ≡ first (following tree)
         past_walks tree stands =
             past_roots tree
-            ∙ ap₂ (λ a b. first (a ∷ b ∷ behind tree)) (walk-found image tree stands p x source.inode)
+            ∙ ap₂ (λ a b. first (a ∷ b ∷ following tree)) (walk-found image tree stands p x source.inode)
             (parent_goes image q target_below target.dir is.parent is.directory target.name.now is.last tree stands)
 
         pub into_itself : true ≡ moves_below p q → RefusesRename image p q into_self
@@ -287,7 +287,7 @@ module _ (image : Image) (from to : List ℕ) (ends : Ends) (found : FindsEnds i
   changes_are tree = ap₂ (λ a b. not (same_path a b) && not (is_one tree.now.one a b)) source_is target_is
 
   -- a name that is to move onto itself, or onto another name of its file
-  pub same_stays : IsWellFormed image → are_same ends ≡ true → Tells image (rename from to) done
+  pub same_stays : IsWellFormed image → are_same ends ≡ true → Answers image (rename from to) done
   same_stays wf same tree stands = go ends.target.there refl
     where
       go : (o : Option FoundEntry) → ends.target.there ≡ o → (has_changed tree (rename from to) done ≡ false) × StepFor image tree (rename from to) done image

@@ -20,7 +20,7 @@ use Rattle.bp_plain.specs.declared.errors.FsError.{FsError}
 use Rattle.bp_plain.specs.declared.errors.FsError.TheVariants.{BadPath}
 use Rattle.bp_volume.specs.Step.{FindsNew, IsChange, PathFinds}
 use Rattle.bp_volume.specs.Step.IsChange.{by_link}
-use Rattle.bp_volume.specs.Told.{Refuses, StopsAtFile, StopsAtNew, refusal_of_file, refusal_of_new}
+use Rattle.bp_volume.specs.Queries.{Refuses, StopsAtFile, StopsAtNew, refusal_of_file, refusal_of_new}
 use Rattle.bp_volume.proofs.ChangeLaws.{MakesChange}
 use Rattle.bp_volume.proofs.CreateLaws.{goes, same_directory, text_path}
 use Rattle.bp_volume.proofs.WalkLaws.{dir_at, walk-found}
@@ -38,7 +38,7 @@ module _ (image : Image) (from to : List ℕ) where
       go None = refl
       go (Some p) = ap (λ u. on_parsed u (of_both tree p)) none
 
-  -- as the error of a parser tells it
+  -- as the error of a parser reports it
   pub text_stops : {T E : Type 0} (inner : Result T E) (error : FsError) → MatchResult inner (λ x. ◌≡◌ {A = Result T FsError} (Err error) (Ok x)) (λ _. error ≡ BadPath) → OnErr inner (parse to ≡ None) → Refuses image (link from to) (refusal_of error)
   text_stops (Ok x) error maps none = absurd (true≢false (ap is_err maps))
   text_stops (Err fault) error maps none = subst (λ e. Refuses image (link from to) (refusal_of e)) (sym maps) (no_target none)

@@ -50,13 +50,13 @@ use Rattle.bp_volume.specs.Snapped.Snaps.{made as has_made, refused as has_refus
 use Rattle.bp_volume.specs.Snapped.Unsnaps.{gone, refused as refuses}
 use Rattle.bp_volume.specs.SuperEvents.{snap_events, unsnap_events}
 use Rattle.bp_volume.specs.Step.{Fits, IsChange}
-use Rattle.bp_volume.specs.Told.{Tells}
+use Rattle.bp_volume.specs.Queries.{Answers}
 use Rattle.bp_volume.proofs.BesideExact.{beside_exact}
 use Rattle.bp_volume.proofs.LiveBlocks.{others_live}
 use Rattle.bp_volume.proofs.SafeLaws.{long_words, whole_self}
 use Rattle.bp_volume.proofs.StepLaws.{refused_steps}
 use Rattle.bp_volume.proofs.SuperLaws.{CallsSuper, StoresSuper, changing_steps, super_trees}
-use Rattle.bp_volume.proofs.SuperLaws.CallsSuper.{anew, unchanged}
+use Rattle.bp_volume.proofs.SuperLaws.CallsSuper.{altered, unchanged}
 use Rattle.bp_volume.proofs.WholeLaws.{whole_equivalence}
 
 -- ---- the snapshot of the tree for which an image stands
@@ -81,21 +81,21 @@ module _ (image : Image) (tree : FileTree) (stands : Stands image tree) where
 
 -- ---- refusals
 
-pub snap_too_old : (image : Image) → version_of image ≡ One → Tells image snap (is_refused old_version)
+pub snap_too_old : (image : Image) → version_of image ≡ One → Answers image snap (is_refused old_version)
 snap_too_old image one tree stands =
     refused_steps image tree snap old_version (ap (λ version. first (when (not (is_two version)) old_version ∷ when (is_some tree.snap) has_snap ∷ [])) (stands.version ∙ one))
 
-pub snap_again : (image : Image) → version_of image ≡ Two → has_snapshot image ≡ true → Tells image snap (is_refused has_snap)
+pub snap_again : (image : Image) → version_of image ≡ Two → has_snapshot image ≡ true → Answers image snap (is_refused has_snap)
 snap_again image two there tree stands =
     let one = tree_has_one image tree stands there in
     refused_steps image tree snap has_snap
     (ap (λ version. first (when (not (is_two version)) old_version ∷ when (is_some tree.snap) has_snap ∷ [])) (stands.version ∙ two)
     ∙ ap (λ o. first (when (is_some o) has_snap ∷ [])) one.1)
 
-pub unsnap_none : (image : Image) → has_snapshot image ≡ false → Tells image unsnap (is_refused no_snap)
+pub unsnap_none : (image : Image) → has_snapshot image ≡ false → Answers image unsnap (is_refused no_snap)
 unsnap_none image none tree stands = refused_steps image tree unsnap no_snap (ap (λ o. when (is_none o) no_snap) (tree_has_none image tree stands none))
 
--- ---- stores behind the words of the first tree
+-- ---- stores after the words of the first tree
 
 abbrev IsIdle : ℕ → Type 0
 IsIdle place = (4 ≤ place) × (place < 512)
@@ -196,7 +196,7 @@ module _ (memory made : Memory) (is : IsFileSystem (current_words memory)) (two 
     quiet = snap_quiet image is two none;
     piece = record { no_call_end = refl; few_barriers = omega arith; few_stores = omega arith };
     beside = ((omega arith, (λ e. omega (arith, e)), (λ e. omega (arith, e))), ((omega arith, (λ e. omega (arith, e)), (λ e. omega (arith, e))), tt));
-    told = refl;
+    reported = refl;
     well = rw words_snapped (snapped_file_system image is two none);
     changes = rw words_snapped (snap_changes image is two none);
   }
@@ -254,8 +254,8 @@ module _ (memory made : Memory) (is : IsFileSystem (current_words memory)) (two 
       }
 
 pub snap_calls : (memory made : Memory) (answer : Answer) → IsFileSystem (current_words memory) → Snaps memory answer made → CallsSuper memory made snap answer
-snap_calls memory made answer is (has_made told two none adds) = anew told (snap_stores memory made is two none adds)
-snap_calls memory made answer is (has_refused same told) = unchanged same told
+snap_calls memory made answer is (has_made reported two none adds) = altered reported (snap_stores memory made is two none adds)
+snap_calls memory made answer is (has_refused same reported) = unchanged same reported
 
 -- ---- it goes
 
@@ -303,7 +303,7 @@ module _ (memory made : Memory) (is : IsFileSystem (current_words memory)) (ther
     quiet = quiet_none (current_words memory) is;
     piece = record { no_call_end = refl; few_barriers = omega arith; few_stores = omega arith };
     beside = ((omega arith, (λ e. omega (arith, e)), (λ e. omega (arith, e))), tt);
-    told = refl;
+    reported = refl;
     well = rw words_unsnapped (unsnapped_file_system (current_words memory) is there);
     changes = rw words_unsnapped (unsnap_changes (current_words memory) is there);
   }
@@ -316,5 +316,5 @@ module _ (memory made : Memory) (is : IsFileSystem (current_words memory)) (ther
   unsnapped_blocks = ap (λ (words : Image). length words / 512) words_unsnapped ∙ ap (λ n. n / 512) (length-set (current_words memory) 5 0)
 
 pub unsnap_calls : (memory made : Memory) (answer : Answer) → IsFileSystem (current_words memory) → Unsnaps memory answer made → CallsSuper memory made unsnap answer
-unsnap_calls memory made answer is (gone told there adds) = anew told (unsnap_stores memory made is there adds)
-unsnap_calls memory made answer is (refuses same told) = unchanged same told
+unsnap_calls memory made answer is (gone reported there adds) = altered reported (unsnap_stores memory made is there adds)
+unsnap_calls memory made answer is (refuses same reported) = unchanged same reported

@@ -19,12 +19,12 @@ use Rattle.bp_plain.specs.Stands.{ShowsSnapshot, Stands}
 use Rattle.bp_volume.specs.FileCall.{has_changed, is_refused}
 use Rattle.bp_volume.specs.Step.{StepFor}
 use Rattle.bp_volume.specs.Step.StepFor.{no_room, no_listing, no_snap_listing, unchanged, changed}
-use Rattle.bp_volume.specs.Told.{Tells}
+use Rattle.bp_volume.specs.Queries.{Answers}
 use Rattle.bp_volume.proofs.SafeLaws.{long_words}
 use Rattle.bp_volume.proofs.SnapLaws.{tree_has_none, tree_has_one}
 use Rattle.bp_volume.proofs.StepLaws.{refused_steps}
 
--- ---- what a call that changes nothing is told
+-- ---- what a call that changes nothing is reported
 
 abbrev is_listing : Call → Bool
 is_listing (list text) = true
@@ -32,16 +32,16 @@ is_listing (snap_list text) = true
 is_listing _ = false
 
 -- the answer of the plain tree, or want of memory to a listing
-data IsTold (tree : FileTree) (call : Call) (answer : Answer) : Type 0 where
-  plainly_told : answer ≡ (plain tree call).0 → IsTold tree call answer
-  for_memory : answer ≡ refused no_memory → is_listing call ≡ true → refusal tree call ≡ None → IsTold tree call answer
+data IsReported (tree : FileTree) (call : Call) (answer : Answer) : Type 0 where
+  plainly_reported : answer ≡ (plain tree call).0 → IsReported tree call answer
+  for_memory : answer ≡ refused no_memory → is_listing call ≡ true → refusal tree call ≡ None → IsReported tree call answer
 
-told_by : {image new : Image} {tree : FileTree} {call : Call} {answer : Answer} → StepFor image tree call answer new → is_changing tree call ≡ false → IsTold tree call answer
-told_by (no_room changing need few) still = absurd (true≢false (sym changing ∙ still))
-told_by (no_listing none) still = for_memory refl refl none
-told_by (no_snap_listing none) still = for_memory refl refl none
-told_by (unchanged same) still = plainly_told refl
-told_by (changed changing fits stands) still = absurd (true≢false (sym changing ∙ still))
+recorded_by : {image new : Image} {tree : FileTree} {call : Call} {answer : Answer} → StepFor image tree call answer new → is_changing tree call ≡ false → IsReported tree call answer
+recorded_by (no_room changing need few) still = absurd (true≢false (sym changing ∙ still))
+recorded_by (no_listing none) still = for_memory refl refl none
+recorded_by (no_snap_listing none) still = for_memory refl refl none
+recorded_by (unchanged same) still = plainly_reported refl
+recorded_by (changed changing fits stands) still = absurd (true≢false (sym changing ∙ still))
 
 never : (o : Option Refusal) → (is_none o && false) ≡ false
 never None = refl
@@ -83,17 +83,17 @@ module _ (image : Image) (is : IsFileSystem image) where
 
   module _ (there : has_snapshot image ≡ true) where
     -- where a call on the snapshot asks what another one asks of the tree that it shows
-    asks_second : (call of_snap : Call) (told : Answer) →
+    asks_second : (call of_snap : Call) (reported : Answer) →
         ((tree : FileTree) → changes tree call ≡ false) → ((tree : FileTree) → changes tree of_snap ≡ false) →
         ((tree : FileTree) (map : PathMap) → tree.snap ≡ Some map → refusal tree of_snap ≡ refusal (second_tree tree map) call) →
         ((tree : FileTree) (map : PathMap) → tree.snap ≡ Some map → answer tree of_snap ≡ answer (second_tree tree map) call) →
         (is_listing call ≡ true → (tree : FileTree) → refusal tree of_snap ≡ None → StepFor image tree of_snap (refused no_memory) image) →
-        Tells second call told → Tells image of_snap told
-    asks_second call of_snap told still snap_still same_refusal same_answer listing tells tree stands =
+        Answers second call reported → Answers image of_snap reported
+    asks_second call of_snap reported still snap_still same_refusal same_answer listing reports tree stands =
         let one = tree_has_one image tree stands there in
         let shown : FileTree = second_tree tree one.0 in
         go shown (same_refusal tree one.0 one.1) (same_answer tree one.0 one.1)
-        (told_by (tells shown (second_stands tree one.0 stands one.1)).1 (ap (λ b. is_none (refusal shown call) && b) (still shown) ∙ never (refusal shown call)))
+        (recorded_by (reports shown (second_stands tree one.0 stands one.1)).1 (ap (λ b. is_none (refusal shown call) && b) (still shown) ∙ never (refusal shown call)))
       where
         snap_unchanging : is_changing tree of_snap ≡ false
         snap_unchanging = ap (λ b. is_none (refusal tree of_snap) && b) (snap_still tree) ∙ never (refusal tree of_snap)
@@ -105,27 +105,27 @@ module _ (image : Image) (is : IsFileSystem image) where
             both None = asks
             both (Some why) = refl
 
-        go : (shown : FileTree) → refusal tree of_snap ≡ refusal shown call → answer tree of_snap ≡ answer shown call → IsTold shown call told →
-            (has_changed tree of_snap told ≡ false) × StepFor image tree of_snap told image
-        go shown refuses asks (plainly_told e) =
-            (ap (λ b. b && not (is_refused told)) snap_unchanging, subst (λ a. StepFor image tree of_snap a image) (same_plain shown refuses asks ∙ sym e) (unchanged snap_unchanging))
+        go : (shown : FileTree) → refusal tree of_snap ≡ refusal shown call → answer tree of_snap ≡ answer shown call → IsReported shown call reported →
+            (has_changed tree of_snap reported ≡ false) × StepFor image tree of_snap reported image
+        go shown refuses asks (plainly_reported e) =
+            (ap (λ b. b && not (is_refused reported)) snap_unchanging, subst (λ a. StepFor image tree of_snap a image) (same_plain shown refuses asks ∙ sym e) (unchanged snap_unchanging))
         go shown refuses asks (for_memory e is_list none) =
-            (ap (λ b. b && not (is_refused told)) snap_unchanging, subst (λ a. StepFor image tree of_snap a image) (sym e) (listing is_list tree (refuses ∙ none)))
+            (ap (λ b. b && not (is_refused reported)) snap_unchanging, subst (λ a. StepFor image tree of_snap a image) (sym e) (listing is_list tree (refuses ∙ none)))
 
-    pub second_stat : (text : List ℕ) (told : Answer) → Tells second (stat text) told → Tells image (snap_stat text) told
-    second_stat text told = asks_second (stat text) (snap_stat text) told (λ tree. refl) (λ tree. refl)
+    pub second_stat : (text : List ℕ) (reported : Answer) → Answers second (stat text) reported → Answers image (snap_stat text) reported
+    second_stat text reported = asks_second (stat text) (snap_stat text) reported (λ tree. refl) (λ tree. refl)
         (λ tree map is. ap (λ o. on_path text (λ p. on_snap o (λ nodes. walk nodes p))) is)
         (λ tree map is. ap (λ o. stat_answer (snap_nodes o) (path_named text) (get (snap_nodes o) (path_named text))) is)
         (λ wrong tree none. absurd (true≢false (sym wrong)))
 
-    pub second_list : (text : List ℕ) (told : Answer) → Tells second (list text) told → Tells image (snap_list text) told
-    second_list text told = asks_second (list text) (snap_list text) told (λ tree. refl) (λ tree. refl)
+    pub second_list : (text : List ℕ) (reported : Answer) → Answers second (list text) reported → Answers image (snap_list text) reported
+    second_list text reported = asks_second (list text) (snap_list text) reported (λ tree. refl) (λ tree. refl)
         (λ tree map is. ap (λ o. on_path text (λ p. on_snap o (λ nodes. dir_refusal nodes p))) is)
         (λ tree map is. ap (λ o. names (listing (snap_nodes o) (path_named text))) is)
         (λ is_list tree none. no_snap_listing none)
 
-    pub second_read : (text : List ℕ) (offset len : ℕ) (told : Answer) → Tells second (read text offset len) told → Tells image (snap_read text offset len) told
-    second_read text offset len told = asks_second (read text offset len) (snap_read text offset len) told (λ tree. refl) (λ tree. refl)
+    pub second_read : (text : List ℕ) (offset len : ℕ) (reported : Answer) → Answers second (read text offset len) reported → Answers image (snap_read text offset len) reported
+    second_read text offset len reported = asks_second (read text offset len) (snap_read text offset len) reported (λ tree. refl) (λ tree. refl)
         (λ tree map is. ap (λ o. on_path text (λ p. on_snap o (λ nodes. file_refusal nodes p))) is)
         (λ tree map is. ap (λ o. read_answer (snap_nodes o) text offset len) is)
         (λ wrong tree none. absurd (true≢false (sym wrong)))
@@ -133,14 +133,14 @@ module _ (image : Image) (is : IsFileSystem image) where
 -- ---- where there is no snapshot
 
 module _ (image : Image) (none : has_snapshot image ≡ false) (text : List ℕ) (why : Refusal) (refuses : on_path text (λ path. Some no_snap) ≡ Some why) where
-  pub no_stat : Tells image (snap_stat text) (refused why)
+  pub no_stat : Answers image (snap_stat text) (refused why)
   no_stat tree stands =
       refused_steps image tree (snap_stat text) why (ap (λ o. on_path text (λ p. on_snap o (λ nodes. walk nodes p))) (tree_has_none image tree stands none) ∙ refuses)
 
-  pub no_list : Tells image (snap_list text) (refused why)
+  pub no_list : Answers image (snap_list text) (refused why)
   no_list tree stands =
       refused_steps image tree (snap_list text) why (ap (λ o. on_path text (λ p. on_snap o (λ nodes. dir_refusal nodes p))) (tree_has_none image tree stands none) ∙ refuses)
 
-  pub no_read : (offset len : ℕ) → Tells image (snap_read text offset len) (refused why)
+  pub no_read : (offset len : ℕ) → Answers image (snap_read text offset len) (refused why)
   no_read offset len tree stands =
       refused_steps image tree (snap_read text offset len) why (ap (λ o. on_path text (λ p. on_snap o (λ nodes. file_refusal nodes p))) (tree_has_none image tree stands none) ∙ refuses)

@@ -18,15 +18,15 @@ module _ (image : Image) (tree : FileTree) where
   pub refused_steps : (call : Call) (why : Refusal) → refusal tree call ≡ Some why → (has_changed tree call (refused why) ≡ false) × StepFor image tree call (refused why) image
   refused_steps call why is =
       let still : is_changing tree call ≡ false = ap (λ o. is_none o && changes tree call) is in
-      let told : (plain tree call).0 ≡ refused why = ap (λ o. (answer_or tree call o).0) is in
-      (ap (λ b. b && not (is_refused (refused why))) still, subst (λ a. StepFor image tree call a image) told (unchanged still))
+      let reported : (plain tree call).0 ≡ refused why = ap (λ o. (answer_or tree call o).0) is in
+      (ap (λ b. b && not (is_refused (refused why))) still, subst (λ a. StepFor image tree call a image) reported (unchanged still))
 
   -- a call that asks
-  pub answer_steps : (call : Call) (told : Answer) → refusal tree call ≡ None → changes tree call ≡ false → answer tree call ≡ told → (has_changed tree call told ≡ false) × StepFor image tree call told image
-  answer_steps call told none still is =
+  pub answer_steps : (call : Call) (reported : Answer) → refusal tree call ≡ None → changes tree call ≡ false → answer tree call ≡ reported → (has_changed tree call reported ≡ false) × StepFor image tree call reported image
+  answer_steps call reported none still is =
       let same : is_changing tree call ≡ false = ap (λ o. is_none o && changes tree call) none ∙ still in
-      let says : (plain tree call).0 ≡ told = ap (λ o. (answer_or tree call o).0) none ∙ is in
-      (ap (λ b. b && not (is_refused told)) same, subst (λ a. StepFor image tree call a image) says (unchanged same))
+      let says : (plain tree call).0 ≡ reported = ap (λ o. (answer_or tree call o).0) none ∙ is in
+      (ap (λ b. b && not (is_refused reported)) same, subst (λ a. StepFor image tree call a image) says (unchanged same))
 
   -- a listing for which there is no memory
   pub memory_steps : (text : List ℕ) → refusal tree (list text) ≡ None → (has_changed tree (list text) (refused no_memory) ≡ false) × StepFor image tree (list text) (refused no_memory) image
@@ -57,7 +57,7 @@ module _ (tree : FileTree) (text : List ℕ) where
       ap (λ o. on_parsed o (λ p. first (walk tree.now.nodes p ∷ when (not (is_dir_at tree.now.nodes p)) not_dir ∷ []))) parsed
       ∙ ap (λ o. first (o ∷ when (not (is_dir_at tree.now.nodes path)) not_dir ∷ [])) walked
 
-  -- that of a directory, behind the walk of a read
+  -- that of a directory, after the walk of a read
   pub refusal-read_walked : (offset len : ℕ) (path : Path) → parse text ≡ Some path → walk tree.now.nodes path ≡ None → refusal tree (read text offset len) ≡ first (when (is_dir_at tree.now.nodes path) is_dir ∷ [])
   refusal-read_walked offset len path parsed walked =
       ap (λ o. on_parsed o (λ p. first (walk tree.now.nodes p ∷ when (is_dir_at tree.now.nodes p) is_dir ∷ []))) parsed

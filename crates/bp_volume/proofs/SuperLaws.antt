@@ -26,18 +26,18 @@ use Rattle.bp_plain.specs.Stands.{Stands}
 use Rattle.bp_shapes.specs.Sets.{IsExact, in_snapshot_of}
 use Rattle.bp_volume.specs.Carried.{ChangesTree}
 use Rattle.bp_volume.specs.FileCall.{FileCall, has_changed}
-use Rattle.bp_volume.specs.FileCall.IsCheap.{tells}
+use Rattle.bp_volume.specs.FileCall.IsCheap.{reports}
 use Rattle.bp_volume.specs.SuperEvents.{super_events}
 use Rattle.bp_volume.specs.Step.{Fits, StepFor}
 use Rattle.bp_volume.specs.Step.StepFor.{changed}
-use Rattle.bp_volume.specs.Told.{Tells}
+use Rattle.bp_volume.specs.Queries.{Answers}
 use Rattle.bp_volume.specs.Volume.{IsVolume}
 use Rattle.bp_volume.proofs.CarriedLaws.{blocks-adds}
 use Rattle.bp_volume.proofs.FileCallLaws.{exact_parts, file_call_unchanged, volume-ended}
 use Rattle.bp_volume.proofs.SafeLaws.{whole_self}
 use Rattle.bp_volume.proofs.WholeLaws.{whole_equivalence}
 
--- the words of the superblock that do not tell of the first tree
+-- the words of the superblock that do not describe the first tree
 abbrev pub IsBeside : ℕ → Type 0
 IsBeside place = (place ≤ 5) × (place ≢ 2) × (place ≢ 3)
 
@@ -59,14 +59,14 @@ pub record StoresSuper (memory made : Memory) (call : Call) : Type 0 where
   pub quiet : IsQuiet SameFiles (current_words memory) prepared
   pub piece : IsPiece 2 3 (prepared ++ commit place value)
   pub beside : StoresMay (AnyAt IsBeside) (prepared ++ commit place value)
-  pub told : super_events (current_words memory) call ≡ Some (prepared ++ commit place value)
+  pub reported : super_events (current_words memory) call ≡ Some (prepared ++ commit place value)
   pub well : IsFileSystem (current_words made)
   pub changes : ChangesTree call done (current_words memory) (current_words made)
 
 -- it does so, or it changes nothing and this may be its answer
 pub data CallsSuper (memory made : Memory) (call : Call) (answer : Answer) : Type 0 where
-  anew : answer ≡ done → StoresSuper memory made call → CallsSuper memory made call answer
-  unchanged : made ≡ memory → Tells (current_words memory) call answer → CallsSuper memory made call answer
+  altered : answer ≡ done → StoresSuper memory made call → CallsSuper memory made call answer
+  unchanged : made ≡ memory → Answers (current_words memory) call answer → CallsSuper memory made call answer
 
 module _ (memory made : Memory) (call : Call) (does : StoresSuper memory made call) where
   abbrev events : List Event
@@ -102,17 +102,17 @@ module _ (memory made : Memory) (call : Call) (does : StoresSuper memory made ca
       scans = volume.scans ∙ ap (λ n. 64 * n) (sym (blocks-adds made ended (CallEnd ∷ []) ends ∙ blocks-adds memory made events does.adds));
     }
 
--- ---- a call, behind the room that it made
+-- ---- a call, after the room that it made
 
 -- its marker has room
 pub super_call_end_fits : (memory made : Memory) (call : Call) (answer : Answer) → CallsSuper memory made call answer → call_room ≤ room_in memory → 1 ≤ room_in made
-super_call_end_fits memory made call answer (anew is does) room = super_fits memory made call does room
-super_call_end_fits memory made call answer (unchanged same told) room = rw same (omega (arith, room))
+super_call_end_fits memory made call answer (altered is does) room = super_fits memory made call does room
+super_call_end_fits memory made call answer (unchanged same reported) room = rw same (omega (arith, room))
 
 pub volume_super : {R : Type 0} (memory made ended : Memory) (call : Call) (answer : Answer) (parts after : Parts R) (region : R) (pending : ℕ) → IsVolume memory parts pending → CallsSuper memory made call answer →
     IsExact (current_words made) after → AreInSnapshot (current_words made) (in_snapshot_of after) → Adds made ended (CallEnd ∷ []) → IsVolume ended (record after { region = region }) pending
-volume_super memory made ended call answer parts after region pending volume (anew is does) exact snapshot_blocks ends = super_volume memory made call does ended ends parts after region pending volume exact snapshot_blocks
-volume_super memory made ended call answer parts after region pending volume (unchanged same told) exact snapshot_blocks ends =
+volume_super memory made ended call answer parts after region pending volume (altered is does) exact snapshot_blocks ends = super_volume memory made call does ended ends parts after region pending volume exact snapshot_blocks
+volume_super memory made ended call answer parts after region pending volume (unchanged same reported) exact snapshot_blocks ends =
     let here : IsVolume memory after pending = record {
       safe = volume.safe;
       roomy = volume.roomy;
@@ -126,21 +126,21 @@ volume_super memory made ended call answer parts after region pending volume (un
 -- the whole call
 pub file_call_super : (old middle made new : Memory) (call : Call) (answer : Answer) → middle ≡ with_room call_room old → IsSafe SameFiles middle → CallsSuper middle made call answer → Adds made new (CallEnd ∷ []) →
     FileCall old call answer new
-file_call_super old middle made new call answer room safe (anew is does) ends =
+file_call_super old middle made new call answer room safe (altered is does) ends =
     let before : current_words middle ≡ current_words old = ap current_words room ∙ current_words-with_room call_room old in
     let made_events : List Event = events middle made call does in
-    let told : ChangesTree call answer (current_words old) (current_words new) =
+    let reported : ChangesTree call answer (current_words old) (current_words new) =
     rw is (rw (words middle made call does new ends) (subst (λ image. ChangesTree call done image (current_words made)) before does.changes)) in
     record {
       added = made_events;
       no_call_end = does.piece.no_call_end;
       adds = subst (λ memory. Adds memory new (made_events ++ CallEnd ∷ [])) room (adds_both middle made new made_events (CallEnd ∷ []) does.adds ends);
-      step = λ tree stands. (told tree stands).1;
-      silent = λ tree stands none. absurd (let both : true ≡ false = sym (told tree stands).0 ∙ none in cc);
-      short = λ tree stands changing. tells (subst (λ image. super_events image call ≡ Some made_events) before does.told);
+      step = λ tree stands. (reported tree stands).1;
+      silent = λ tree stands none. absurd (let both : true ≡ false = sym (reported tree stands).0 ∙ none in cc);
+      short = λ tree stands changing. reports (subst (λ image. super_events image call ≡ Some made_events) before does.reported);
       safe = super_safe middle made call does new ends safe;
     }
-file_call_super old middle made new call answer room safe (unchanged same told) ends = file_call_unchanged old middle new call answer room safe (rw same at ends) told
+file_call_super old middle made new call answer room safe (unchanged same reported) ends = file_call_unchanged old middle new call answer room safe (rw same at ends) reported
 
 -- ---- what such a call changes of a tree
 

@@ -17,12 +17,12 @@ use Rattle.bp_plain.specs.Calls.Refusal.{not_found}
 use Rattle.bp_plain.specs.Plain.{parent_of}
 use Rattle.bp_plain.proofs.Rooted.{parent_of-last}
 use Rattle.bp_rename.specs.CanRename.{IsSlotAcross}
-use Rattle.bp_rename.specs.declared.moving.Move.{Move}
+use Rattle.bp_rename.specs.declared.moves.Move.{Move}
 use Rattle.bp_volume.specs.Renaming.{IsMoveOf, IsNameIn, IsTarget}
-use Rattle.bp_volume.specs.declared.renaming.Ends.{Ends}
+use Rattle.bp_volume.specs.declared.rename.Ends.{Ends}
 use Rattle.bp_volume.specs.Step.{IsEntryOn, last_of}
-use Rattle.bp_volume.specs.Told.{RefusesEntry, RefusesParent, refusal_of_walk}
-use Rattle.bp_volume.specs.declared.walking.Target.{Target}
+use Rattle.bp_volume.specs.Queries.{RefusesEntry, RefusesParent, refusal_of_walk}
+use Rattle.bp_volume.specs.declared.lookup.Target.{Target}
 use Rattle.bp_volume.proofs.CreateLaws.{by_parent, lookup-name, path_is}
 use Rattle.bp_volume.proofs.WalkLaws.{walk_parent-image}
 use Rattle.bp_volume.proofs.WalkingLaws.{entry_ends, name_form, walk_ends}
@@ -67,25 +67,25 @@ walk_stops image i [] name why stops = go (kind_of image i == 2) (lookup_in imag
   where
     go : (b : Bool) (o : Option ℕ) → refusal_of_walk (if b then found i else in_file) ≡ Some why →
         (if b then onward (λ j. walk_from image j []) o else in_file) ≡ (if b then found i else in_file)
-    go true o told = let clash : ◌≡◌ {A = Option Refusal} None (Some why) = told in absurd (cc)
-    go false o told = refl
+    go true o reported = let clash : ◌≡◌ {A = Option Refusal} None (Some why) = reported in absurd (cc)
+    go false o reported = refl
 walk_stops image i (first ∷ before) name why stops = go (λ j. walk_stops image j before name why) (kind_of image i == 2) (lookup_in image i first) stops
   where
     go : ((j : ℕ) → refusal_of_walk (in_directory image (walk_from image j before)) ≡ Some why → walk_from image j (before ++ name ∷ []) ≡ in_directory image (walk_from image j before)) →
         (b : Bool) (o : Option ℕ) → refusal_of_walk (in_directory image (if b then onward (λ j. walk_from image j before) o else in_file)) ≡ Some why →
         (if b then onward (λ j. walk_from image j (before ++ name ∷ [])) o else in_file) ≡ in_directory image (if b then onward (λ j. walk_from image j before) o else in_file)
-    go on true None told = refl
-    go on true (Some j) told = on j told
-    go on false o told = refl
+    go on true None reported = refl
+    go on true (Some j) reported = on j reported
+    go on false o reported = refl
 
 -- so the entry at a path is refused where its directory is
 pub directory_ends : (image : Image) (path : Path) (walked : Walked) (why : Refusal) → path ≢ [] → walked ≡ in_directory image (walk_from image 1 (parent_of path)) →
     refusal_of_walk walked ≡ Some why → (root : Refusal) → RefusesEntry image path root why
-directory_ends image path walked why below is told root =
+directory_ends image path walked why below is reported root =
     entry_ends image path root why below
     (walk_ends image path walked why
-    (is ∙ sym (ap (walk_from image 1) (by_parent path below) ∙ walk_stops image 1 (parent_of path) (last_of path) why (ap refusal_of_walk (sym is) ∙ told)))
-    told)
+    (is ∙ sym (ap (walk_from image 1) (by_parent path below) ∙ walk_stops image 1 (parent_of path) (last_of path) why (ap refusal_of_walk (sym is) ∙ reported)))
+    reported)
 
 module _ (image : Image) (path : Path) (target : Target) (below : path ≢ []) (parent : lookup image (parent_of path) ≡ Some target.dir) (directory : kind_of image target.dir ≡ 2)
     (last : target.name.now ≡ last_of path) (form : is_name target.name.now ≡ true) where
@@ -123,7 +123,7 @@ module _ (image : Image) (path : Path) (target : Target) (below : path ≢ []) (
 
 -- the walk to the directory fails
 pub parent_ends : (image : Image) (path : Path) (walked : Walked) (why : Refusal) → walked ≡ in_directory image (walk_from image 1 (parent_of path)) → refusal_of_walk walked ≡ Some why → RefusesParent image path why
-parent_ends image path walked why is told tree stands = walk_parent-image image tree stands path (parent_of path) refl ∙ ap refusal_of_walk (sym is) ∙ told
+parent_ends image path walked why is reported tree stands = walk_parent-image image tree stands path (parent_of path) refl ∙ ap refusal_of_walk (sym is) ∙ reported
 
 -- where the move is to a new name, its slot is that of the target
 pub slot_handed : (image : Image) (ends : Ends) (move : Move) → IsMoveOf ends move → (ends.target.there ≡ None → ends.target.empty ≡ empty_slot image ends.target.dir) → IsSlotAcross image move ends.target.empty

@@ -32,7 +32,7 @@ use Rattle.bp_plain.specs.Stands.{Shows}
 use Rattle.bp_rename.specs.CanRename.{CanRename, moved_inode}
 use Rattle.bp_rename.specs.MovesPath.{MovesPath}
 use Rattle.bp_rename.specs.RenamesEntry.{RenamesEntry}
-use Rattle.bp_rename.specs.declared.moving.Move.{Move}
+use Rattle.bp_rename.specs.declared.moves.Move.{Move}
 use Rattle.bp_rename.proofs.OntoLaws.{replaced}
 use Rattle.bp_rename.proofs.Outside.{below_before}
 use Rattle.bp_rename.proofs.RenamedStands.{renamed_moves}

@@ -28,7 +28,7 @@ use Rattle.bp_shapes.specs.Sets.{IsExact, in_snapshot_of}
 use Rattle.bp_stands.proofs.UpgradeStands.{upgrade_stands}
 use Rattle.bp_volume.specs.Carried.{ChangesTree}
 use Rattle.bp_volume.specs.Step.{Fits, IsChange}
-use Rattle.bp_volume.specs.Told.{Tells}
+use Rattle.bp_volume.specs.Queries.{Answers}
 use Rattle.bp_volume.specs.SuperEvents.{upgrade_events}
 use Rattle.bp_volume.specs.Upgraded.{Upgrades}
 use Rattle.bp_volume.specs.Upgraded.Upgrades.{first, second}
@@ -36,7 +36,7 @@ use Rattle.bp_volume.specs.Volume.{IsVolume}
 use Rattle.bp_volume.proofs.BesideExact.{beside_exact}
 use Rattle.bp_volume.proofs.StepLaws.{answer_steps}
 use Rattle.bp_volume.proofs.SuperLaws.{CallsSuper, StoresSuper, changing_steps, super_trees, trees_beside}
-use Rattle.bp_volume.proofs.SuperLaws.CallsSuper.{anew, unchanged}
+use Rattle.bp_volume.proofs.SuperLaws.CallsSuper.{altered, unchanged}
 use Rattle.bp_volume.proofs.WholeLaws.{whole_equivalence}
 
 -- the words that version 2 keeps for a second tree
@@ -59,8 +59,8 @@ module _ (image : Image) where
       changing_steps image (upgraded image) tree upgrade refl (ap (λ version. not (is_two version)) (stands.version ∙ one)) refl upgrade_needs_none (upgrade_stands image one tree stands)
 
   -- in version 2 it changes nothing
-  upgrade_tells : version_of image ≡ Two → Tells image upgrade done
-  upgrade_tells two tree stands = answer_steps image tree upgrade done refl (ap (λ version. not (is_two version)) (stands.version ∙ two)) refl
+  upgrade_reports : version_of image ≡ Two → Answers image upgrade done
+  upgrade_reports two tree stands = answer_steps image tree upgrade done refl (ap (λ version. not (is_two version)) (stands.version ∙ two)) refl
 
 -- ---- an upgrade of version 1
 
@@ -96,7 +96,7 @@ module _ (memory made : Memory) (is : IsFileSystem (current_words memory)) (one 
       (omega arith, (λ e. omega (arith, e)), (λ e. omega (arith, e))),
       ((omega arith, (λ e. omega (arith, e)), (λ e. omega (arith, e))), ((omega arith, (λ e. omega (arith, e)), (λ e. omega (arith, e))), tt)),
     );
-    told = refl;
+    reported = refl;
     well = rw words_made (upgraded_file_system image is.first);
     changes = rw words_made (upgrade_changes image one);
   }
@@ -113,8 +113,8 @@ module _ (memory made : Memory) (is : IsFileSystem (current_words memory)) (one 
 -- ---- an upgrade
 
 pub upgrade_calls : (memory made : Memory) → IsFileSystem (current_words memory) → Upgrades memory made → CallsSuper memory made upgrade done
-upgrade_calls memory made is (first one adds) = anew refl (upgrade_stores memory made is one adds)
-upgrade_calls memory made is (second two same) = unchanged same (upgrade_tells (current_words memory) two)
+upgrade_calls memory made is (first one adds) = altered refl (upgrade_stores memory made is one adds)
+upgrade_calls memory made is (second two same) = unchanged same (upgrade_reports (current_words memory) two)
 
 module _ {R : Type 0} (memory made : Memory) (parts : Parts R) (pending : ℕ) (volume : IsVolume memory parts pending) where
   -- the blocks of a snapshot stay

@@ -25,7 +25,7 @@ use Rattle.bp_plain.specs.Plain.{is_a_dir, is_dir_at, first, when, walk, walk_pa
 use Rattle.bp_path.specs.Walk.{Walked, onward, walk_from, in_directory}
 use Rattle.bp_path.specs.Walk.Walked.{found, missing, in_file}
 use Rattle.bp_path.proofs.WalkLaws.{walk_is_lookup}
-use Rattle.bp_volume.specs.Told.{refusal_of_walk}
+use Rattle.bp_volume.specs.Queries.{refusal_of_walk}
 
 kind_test : (kind : ℕ) (content : List ℕ) → 1 ≤ kind → kind ≤ 2 → is_a_dir (Some (if kind == 1 then file content else dir)) ≡ (kind == 2)
 kind_test kind content low high = go (kind == 1) refl

@@ -1,4 +1,4 @@
--- Where the path of a call leads, as its answer tells it.
+-- Where the path of a call leads, as its answer reports it.
 use Rattle.std.proofs.Common.{◌≡◌, ◌≢◌, ℕ, [], ◌∷◌, length, true, false, not, ◌&&◌, ◌==◌, Option, None, Some, bytes_eq, refl, sym, ◌∙◌, ap, true≢false}
 use Rattle.std.specs.Prelude.{is_some, is_err, nat_le, Result, Ok, Err, IsErrAnd, MatchResult, IfErr, IfOk}
 use Rattle.std.specs.List.{AllByRecursion, list_all}
@@ -22,7 +22,7 @@ use Rattle.bp_path.specs.Walk.{Walked, walk_from, in_directory}
 use Rattle.bp_path.specs.declared.steps.FoundEntry.{FoundEntry}
 use Rattle.bp_path.specs.declared.steps.WalkFault.{WalkFault}
 use Rattle.bp_volume.specs.Step.{IsEntryOn, IsNewOn, last_of}
-use Rattle.bp_volume.specs.Told.{RefusesEntry, RefusesFileAt, RefusesNew, RefusesWalk, refusal_of_new, refusal_of_walk}
+use Rattle.bp_volume.specs.Queries.{RefusesEntry, RefusesFileAt, RefusesNew, RefusesWalk, refusal_of_new, refusal_of_walk}
 use Rattle.bp_volume.proofs.WalkLaws.{walk-image, walk-found, walk_parent-image, dir_at}
 use Rattle.bp_volume.proofs.CreateLaws.{by_parent, create_stopped, create_there, not_root}
 
@@ -55,26 +55,26 @@ name_form name e =
 -- ---- walks that stop
 
 pub walk_ends : (image : Image) (path : Path) (walked : Walked) (why : Refusal) → walked ≡ walk_from image 1 path → refusal_of_walk walked ≡ Some why → RefusesWalk image path why
-walk_ends image path walked why is told tree stands = walk-image image tree stands path ∙ ap refusal_of_walk (sym is) ∙ told
+walk_ends image path walked why is reported tree stands = walk-image image tree stands path ∙ ap refusal_of_walk (sym is) ∙ reported
 
--- behind the `?` of a result whose error is told as another one, its value has what the result had
+-- after the `?` of a result whose error is reported as another one, its value has what the result had
 pub ok_was : {T E : Type 0} (P : T → Type 0) (inner : Result T E) (v : T) → MatchResult inner (λ x. ◌≡◌ {A = Result T FsError} (Ok v) (Ok x)) (λ _. ⊥) → IfOk inner P → P v
 ok_was P (Ok x) v maps holds = IfOk-at_ok P {r = Ok x} (sym maps) holds
 ok_was P (Err e) v maps holds = absurd maps
 
--- the fault of a walk to a parent, told as a refusal
-pub fault_told : (inner : Result ℕ WalkFault) (error : FsError) → MatchResult inner (λ x. ◌≡◌ {A = Result ℕ FsError} (Err error) (Ok x)) (λ fault. refusal_of_walk (fault_of fault) ≡ Some (refusal_of error)) →
+-- the fault of a walk to a parent, reported as a refusal
+pub fault_reported : (inner : Result ℕ WalkFault) (error : FsError) → MatchResult inner (λ x. ◌≡◌ {A = Result ℕ FsError} (Err error) (Ok x)) (λ fault. refusal_of_walk (fault_of fault) ≡ Some (refusal_of error)) →
     refusal_of_walk (dir_of inner) ≡ Some (refusal_of error)
-fault_told (Ok x) error maps = absurd (true≢false (ap is_err maps))
-fault_told (Err fault) error maps = maps
+fault_reported (Ok x) error maps = absurd (true≢false (ap is_err maps))
+fault_reported (Err fault) error maps = maps
 
--- a walk, and its result with the fault told as a refusal
-pub walk_told : (image : Image) (path : Path) (inner : Result FoundEntry WalkFault) (outer : Result FoundEntry FsError) → walked_of inner ≡ walk_from image 1 path →
+-- a walk, and its result with the fault reported as a refusal
+pub walk_reported : (image : Image) (path : Path) (inner : Result FoundEntry WalkFault) (outer : Result FoundEntry FsError) → walked_of inner ≡ walk_from image 1 path →
     MatchResult inner (λ x. outer ≡ Ok x) (λ fault. IsErrAnd outer (λ error. refusal_of_walk (fault_of fault) ≡ Some (refusal_of error))) → IfErr outer (λ error. RefusesWalk image path (refusal_of error))
-walk_told image path (Ok x) (Ok y) is maps = tt
-walk_told image path (Ok x) (Err error) is maps = absurd (true≢false (ap is_err maps))
-walk_told image path (Err fault) (Ok y) is maps = absurd maps
-walk_told image path (Err fault) (Err error) is maps = walk_ends image path _ _ is maps
+walk_reported image path (Ok x) (Ok y) is maps = tt
+walk_reported image path (Ok x) (Err error) is maps = absurd (true≢false (ap is_err maps))
+walk_reported image path (Err fault) (Ok y) is maps = absurd maps
+walk_reported image path (Err fault) (Err error) is maps = walk_ends image path _ _ is maps
 
 -- ---- the entry at a path
 
@@ -96,8 +96,8 @@ no_file image path i found kind tree stands =
     ∙ ap (λ b. first (when b is_dir ∷ [])) (dir_at image tree stands path i found ∙ ap (λ k. k == 2) kind)
 
 pub parent_stops : (image : Image) (path : Path) (walked : Walked) (why : Refusal) → path ≢ [] → walked ≡ in_directory image (walk_from image 1 (parent_of path)) → refusal_of_walk walked ≡ Some why → RefusesNew image path why
-parent_stops image path walked why below is told tree stands =
-    create_stopped tree path why below (walk_parent-image image tree stands path (parent_of path) refl ∙ ap refusal_of_walk (sym is) ∙ told)
+parent_stops image path walked why below is reported tree stands =
+    create_stopped tree path why below (walk_parent-image image tree stands path (parent_of path) refl ∙ ap refusal_of_walk (sym is) ∙ reported)
 
 -- ---- the name of a new file
 

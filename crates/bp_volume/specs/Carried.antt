@@ -13,7 +13,7 @@ use Rattle.bp_plain.specs.Calls.Call.{create, mkdir}
 use Rattle.bp_commit.specs.Performs.{Performs}
 use Rattle.bp_volume.specs.Step.{StepFor, IsChange}
 use Rattle.bp_volume.specs.FileCall.{has_changed}
-use Rattle.bp_volume.specs.Told.{Tells}
+use Rattle.bp_volume.specs.Queries.{Answers}
 
 -- The call that makes an empty file or an empty directory.
 abbrev pub making : Kind → List ℕ → Call
@@ -39,4 +39,4 @@ pub record PerformsCall (old : Memory) (call : Call) (answer : Answer) (new : Me
 -- `answer` is a possible answer.
 pub data CarriesOut (old : Memory) (call : Call) (answer : Answer) (new : Memory) : Type 0 where
   changed : PerformsCall old call answer new → CarriesOut old call answer new
-  unchanged : new ≡ old → Tells (current_words old) call answer → CarriesOut old call answer new
+  unchanged : new ≡ old → Answers (current_words old) call answer → CarriesOut old call answer new

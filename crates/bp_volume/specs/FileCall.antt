@@ -32,7 +32,7 @@ has_changed tree call answer = is_changing tree call && not (is_refused answer)
 pub data IsCheap (image : Image) (call : Call) (new : Image) (events : List Event) : Type 0 where
   changes : {change : Change} {in_snapshot : ℕ → Bool} → IsChange image call change → AreInSnapshot image in_snapshot →
       IsShort image new in_snapshot change events → IsCheap image call new events
-  tells : super_events image call ≡ Some events → IsCheap image call new events
+  reports : super_events image call ≡ Some events → IsCheap image call new events
 
 -- A call on files. The answer and the new image are a step. The log got the call's events and then its end-of-call
 -- marker. A call that changes nothing has no events, and the events of a changing call are within its bounds. The new

@@ -3,7 +3,7 @@ pub mod SuperEvents
 pub mod FileCall
 pub mod Volume
 pub mod Ready
-pub mod Told
+pub mod Queries
 pub mod Laid
 pub mod Upgraded
 pub mod Seen

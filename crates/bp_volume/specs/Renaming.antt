@@ -15,10 +15,10 @@ use Rattle.bp_plain.specs.Plain.{moves_below, parent_of, refusal}
 use Rattle.bp_plain.specs.PlainTree.{FileTree}
 use Rattle.bp_plain.specs.Stands.{Stands}
 use Rattle.bp_rename.specs.RenamesEntry.{new_slot}
-use Rattle.bp_rename.specs.declared.moving.Move.{Move}
+use Rattle.bp_rename.specs.declared.moves.Move.{Move}
 use Rattle.bp_volume.specs.Step.{IsEntryOn, last_of}
-use Rattle.bp_volume.specs.declared.renaming.Ends.{Ends}
-use Rattle.bp_volume.specs.declared.walking.Target.{Target}
+use Rattle.bp_volume.specs.declared.rename.Ends.{Ends}
+use Rattle.bp_volume.specs.declared.lookup.Target.{Target}
 
 -- The path is this name in directory `i`, whether the directory has it or not.
 pub record IsNameIn (image : Image) (path : Path) (i : ℕ) (name : Name) : Type 0 where

@@ -1,28 +1,28 @@
 //! A volume: a file system over a region of persistent memory.
 #![tactic(auto)]
 
-mod asking;
-mod batching;
-mod creating;
+mod batch;
+mod create;
+mod format_stores;
 pub mod laws;
-mod laying;
-mod linking;
-mod refusing;
-mod removing;
-mod renaming;
-mod replying;
-mod rescanning;
-mod resizing;
+mod link;
+mod lookup;
+mod queries;
+mod refusals;
+mod remove;
+mod rename;
+mod replies;
+mod rescan;
+mod resize;
 mod sets;
-mod snapping;
+mod snapshot;
 mod space;
-mod upgrading;
+mod upgrade;
 mod volume;
-mod walking;
-mod writing;
+mod write;
 
 pub use bp_scan::{MountFault, Totals};
-pub use laying::{lay_front, lay_out};
+pub use format_stores::{lay_first_blocks, lay_out};
 pub use sets::Sets;
 pub use space::Space;
 pub use volume::Volume;

@@ -24,21 +24,21 @@ ghost use Rattle.bp_volume.specs.FileCall.{FileCall};
 ghost use Rattle.bp_volume.specs.Laid.{formatted_memory};
 ghost use Rattle.bp_volume.specs.Seen.{links_answer, list_answer_of, read_answer_of, stat_answer_of, unit_answer};
 
-use crate::asking::{do_links, do_list, do_read, do_stat};
-use crate::batching::do_batch;
-use crate::creating::do_create;
-use crate::laying::lay_out;
-use crate::linking::do_link;
-use crate::removing::{do_rmdir, do_unlink};
-use crate::renaming::do_rename;
-use crate::replying::{report_done, report_links, report_list, report_read, report_stat};
-use crate::rescanning::rescan;
-use crate::resizing::do_truncate;
+use crate::batch::do_batch;
+use crate::create::do_create;
+use crate::format_stores::lay_out;
+use crate::link::do_link;
+use crate::queries::{do_links, do_list, do_read, do_stat};
+use crate::remove::{do_rmdir, do_unlink};
+use crate::rename::do_rename;
+use crate::replies::{report_done, report_links, report_list, report_read, report_stat};
+use crate::rescan::rescan;
+use crate::resize::do_truncate;
 use crate::sets::{Sets, memory_for};
-use crate::snapping::{do_snap, do_snap_list, do_snap_read, do_snap_stat, do_unsnap};
+use crate::snapshot::{do_snap, do_snap_list, do_snap_read, do_snap_stat, do_unsnap};
 use crate::space::Space;
-use crate::upgrading::upgrade_region;
-use crate::writing::do_write;
+use crate::upgrade::upgrade_region;
+use crate::write::do_write;
 use bp_cache::DirectoryCache;
 use bp_free::Parts;
 use bp_layout::{Kind, Listing, Stat};
@@ -435,9 +435,9 @@ impl<R: Region> Volume<R> {
         ensures unread { OnErr result (into.new ≡ into.old) }
     {
         self.make_room();
-        let told = do_read(&self.parts.region, &mut self.cache, path, offset, into);
+        let reported = do_read(&self.parts.region, &mut self.cache, path, offset, into);
         self.parts.region.end_call();
-        told
+        reported
     }
 
     /// Returns the size in bytes of the file at a path, or the number of names of the directory there.
@@ -451,9 +451,9 @@ impl<R: Region> Volume<R> {
         ensures { FileCall self.old (stat path.now) (stat_answer_of result) self.new }
     {
         self.make_room();
-        let told = do_stat(&self.parts.region, &mut self.cache, path);
+        let reported = do_stat(&self.parts.region, &mut self.cache, path);
         self.parts.region.end_call();
-        told
+        reported
     }
 
     /// Returns the number of links of the file at a path.
@@ -468,9 +468,9 @@ impl<R: Region> Volume<R> {
         ensures { FileCall self.old (links path.now) (links_answer result) self.new }
     {
         self.make_room();
-        let told = do_links(&self.parts, &mut self.cache, path);
+        let reported = do_links(&self.parts, &mut self.cache, path);
         self.parts.region.end_call();
-        told
+        reported
     }
 
     /// Returns the names in the directory at a path, in byte order.
@@ -486,9 +486,9 @@ impl<R: Region> Volume<R> {
         ensures { FileCall self.old (list path.now) (list_answer_of result) self.new }
     {
         self.make_room();
-        let told = do_list(alloc, &self.parts.region, &mut self.cache, path);
+        let reported = do_list(alloc, &self.parts.region, &mut self.cache, path);
         self.parts.region.end_call();
-        told
+        reported
     }
 
     /// Upgrades the format to version 2, whose limits are larger, with the same files and directories. In version 2 it
@@ -554,9 +554,9 @@ impl<R: Region> Volume<R> {
         ensures unread { OnErr result (into.new ≡ into.old) }
     {
         self.make_room();
-        let told = do_snap_read(&self.parts.region, path, offset, into);
+        let reported = do_snap_read(&self.parts.region, path, offset, into);
         self.parts.region.end_call();
-        told
+        reported
     }
 
     /// Returns what [`Volume::stat`] returned when the snapshot was made.
@@ -572,9 +572,9 @@ impl<R: Region> Volume<R> {
         ensures { FileCall self.old (snap_stat path.now) (stat_answer_of result) self.new }
     {
         self.make_room();
-        let told = do_snap_stat(&self.parts.region, path);
+        let reported = do_snap_stat(&self.parts.region, path);
         self.parts.region.end_call();
-        told
+        reported
     }
 
     /// Returns the names that [`Volume::list`] returned when the snapshot was made.
@@ -591,9 +591,9 @@ impl<R: Region> Volume<R> {
         ensures { FileCall self.old (snap_list path.now) (list_answer_of result) self.new }
     {
         self.make_room();
-        let told = do_snap_list(alloc, &self.parts.region, path);
+        let reported = do_snap_list(alloc, &self.parts.region, path);
         self.parts.region.end_call();
-        told
+        reported
     }
 
     /// Makes a call, and sets the reply to its result. A read may ask for at most 65,536 bytes.
@@ -647,7 +647,7 @@ impl<R: Region> Volume<R> {
     }
 
     /// Reads at most `len` bytes into the first bytes of `buffer`.
-    fn read_front(
+    fn read_prefix(
         &mut self,
         path: &[u8],
         offset: u64,
@@ -666,8 +666,8 @@ impl<R: Region> Volume<R> {
         requires { len ≤ max_read }
         ensures { FileCall self.old (read path.now offset len) reply.new.answer self.new }
     {
-        let told = self.read_front(path, offset, len, reply.buffer());
-        report_read(reply, told);
+        let reported = self.read_prefix(path, offset, len, reply.buffer());
+        report_read(reply, reported);
     }
 
     /// Lists the names in a directory of the snapshot in a reply. The memory of the reply's last listing is freed
@@ -680,7 +680,7 @@ impl<R: Region> Volume<R> {
     }
 
     /// Reads at most `len` bytes of the snapshot into the first bytes of `buffer`.
-    fn snap_read_front(
+    fn snap_read_prefix(
         &mut self,
         path: &[u8],
         offset: u64,
@@ -699,8 +699,8 @@ impl<R: Region> Volume<R> {
         requires { len ≤ max_read }
         ensures { FileCall self.old (snap_read path.now offset len) reply.new.answer self.new }
     {
-        let told = self.snap_read_front(path, offset, len, reply.buffer());
-        report_read(reply, told);
+        let reported = self.snap_read_prefix(path, offset, len, reply.buffer());
+        report_read(reply, reported);
     }
 
     /// Makes a volume of a region with an empty log, if its image passes a scan.

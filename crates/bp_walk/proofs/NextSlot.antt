@@ -135,7 +135,7 @@ module _ {image : Image} {at root size : ℕ} {holes : Bool} {d k b s : ℕ} {ol
   repeats_here present in_range gone =
       repeats d (512 * k + s) (512 * b + s) _ come.child refl present gone fresh_row in_range (inl (in_row b s (512 * b + s) come.low refl))
 
-  -- a fault below the child, told of the walk below the node
+  -- a fault below the child, stated of the walk below the node
   module _ (c : ℕ) (child_named : node image root (suc d) (512 * k + s) ≡ c) (c_low : c < length now) (c_in : has now c ≡ true) where
     before : (x : ℕ) → has now x ≡ true → has old x ≡ true
     before x still = go (known (has old x))

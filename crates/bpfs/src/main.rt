@@ -12,7 +12,7 @@ ghost use Rattle.std.specs.Prelude.{◌≡◌, IfOk, map, string_bytes};
 mod reasons;
 mod streams;
 
-use crate::reasons::{Reason, report_reason, report_untold, report_usage};
+use crate::reasons::{Reason, report_reason, report_unreported, report_usage};
 use crate::streams::{leads_to, output_file, take_streams};
 use bp_command::{Program, WordsFault, read_words};
 use bp_io::{DiskFiles, StdSink, StdSource};
@@ -131,7 +131,7 @@ fn report_end<E: Eprint>(
         Status::LongInput => report_reason(runtime, Reason::LongInput),
         Status::Memory => report_reason(runtime, Reason::Memory),
         Status::Missing | Status::Refused | Status::Deep if output.is_some() => {
-            report_untold(runtime, status, known_name(alloc, texts));
+            report_unreported(runtime, status, known_name(alloc, texts));
         }
         Status::Done | Status::Missing | Status::Refused | Status::Deep => {}
     }

@@ -63,7 +63,7 @@ pub(crate) fn report_reason<E: Eprint>(runtime: &E, reason: Reason<'_>) {
 }
 
 /// Prints why the program ended so, if its one line says that and standard output did not take the line.
-pub(crate) fn report_untold<E: Eprint>(runtime: &E, status: Status, name: &str) {
+pub(crate) fn report_unreported<E: Eprint>(runtime: &E, status: Status, name: &str) {
     match status {
         Status::Missing => report_reason(runtime, Reason::Missing(name)),
         Status::Refused => report_reason(runtime, Reason::Refused(name)),

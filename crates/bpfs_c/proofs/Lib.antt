@@ -1,5 +1,5 @@
 pub mod Handles
 mod Keeping
-mod Telling
+mod Report
 mod PatchLaws
 mod WordLaws

@@ -7,7 +7,7 @@ use Rattle.bp_plain.specs.Calls.Answer.{done, bytes, file_of, dir_of, names, lin
 use Rattle.bp_plain.specs.Calls.Refusal.{no_space}
 use Rattle.bp_plain.specs.Refusals.{refusal_number}
 use Rattle.bp_plain.specs.Seen.{refusal_of}
-use Rattle.bpfs_c.specs.declared.asking.Found.{Found}
+use Rattle.bpfs_c.specs.declared.queries.Found.{Found}
 use Rattle.bpfs_c.specs.declared.codes.Lack.{Lack}
 
 -- For `no_space` the caller's `Lack` gets the needed and the free blocks; for any other refusal it keeps its
@@ -29,9 +29,9 @@ IsEndedBy (refused why) code = code ≡ refusal_number why
 IsEndedBy answer code = ⊥
 
 -- On success the number is 0 and the caller's variable gets the count; else the number is that of the error.
-abbrev pub TellsCount : Result ℕ FsError → ℕ → ℕ → ℕ → Type 0
-TellsCount (Ok count) old code new = (code ≡ 0) × (new ≡ count)
-TellsCount (Err error) old code new = (code ≡ refusal_number (refusal_of error)) × (new ≡ old)
+abbrev pub ReportsCount : Result ℕ FsError → ℕ → ℕ → ℕ → Type 0
+ReportsCount (Ok count) old code new = (code ≡ 0) × (new ≡ count)
+ReportsCount (Err error) old code new = (code ≡ refusal_number (refusal_of error)) × (new ≡ old)
 
 -- A read that succeeded wrote its bytes to the first elements of the caller's array and their number to `count`.
 -- Elements after them keep their values; after a refusal all do.
@@ -44,17 +44,17 @@ IsRead (refused why) into count code new_into new_count =
 IsRead answer into count code new_into new_count = ⊥
 
 -- The size and the kind of the file or directory at a path, as written to the caller's `Found`.
-abbrev pub TellsFound : Answer → Found → ℕ → Found → Type 0
-TellsFound (file_of size) old code new = (code ≡ 0) × (new ≡ record { size = size; is_dir = false })
-TellsFound (dir_of count) old code new = (code ≡ 0) × (new ≡ record { size = count; is_dir = true })
-TellsFound (refused why) old code new = (code ≡ refusal_number why) × (new ≡ old)
-TellsFound answer old code new = ⊥
+abbrev pub ReportsFound : Answer → Found → ℕ → Found → Type 0
+ReportsFound (file_of size) old code new = (code ≡ 0) × (new ≡ record { size = size; is_dir = false })
+ReportsFound (dir_of count) old code new = (code ≡ 0) × (new ≡ record { size = count; is_dir = true })
+ReportsFound (refused why) old code new = (code ≡ refusal_number why) × (new ≡ old)
+ReportsFound answer old code new = ⊥
 
 -- The number of links of a file, as written to the caller's variable.
-abbrev pub TellsLinks : Answer → ℕ → ℕ → ℕ → Type 0
-TellsLinks (links_of count) old code new = (code ≡ 0) × (new ≡ count)
-TellsLinks (refused why) old code new = (code ≡ refusal_number why) × (new ≡ old)
-TellsLinks answer old code new = ⊥
+abbrev pub ReportsLinks : Answer → ℕ → ℕ → ℕ → Type 0
+ReportsLinks (links_of count) old code new = (code ≡ 0) × (new ≡ count)
+ReportsLinks (refused why) old code new = (code ≡ refusal_number why) × (new ≡ old)
+ReportsLinks answer old code new = ⊥
 
 -- The number of entries of a listed directory, as written to the caller's variable.
 abbrev pub IsListed : Answer → ℕ → ℕ → ℕ → Type 0

@@ -3,7 +3,7 @@ use Rattle.std.specs.Prelude.{◌≡◌, ◌+◌, ◌-◌, ◌%◌, ◌^◌, ℕ
 use Rattle.pm_epochs.specs.declared.event.Event.{Event}
 use Rattle.pm_epochs.specs.declared.event.Event.TheVariants.{Barrier, CallEnd, Store}
 use Rattle.pm_region.specs.Memory.{drained}
-use Rattle.bpfs_c.specs.declared.logging.Logged.{Logged}
+use Rattle.bpfs_c.specs.declared.log.Logged.{Logged}
 use Rattle.bpfs_c.specs.declared.mounted.Mounted.{Mounted}
 
 abbrev pub seen_event : Event → Logged
@@ -20,7 +20,7 @@ held_events (Some held) = held.volume.events
 -- log has and the array has room for. The other elements keep their values.
 pub record HasEvents (events : List Event) (first : ℕ) (old : List Logged) (count : ℕ) (new : List Logged) : Type 0 where
   pub many : count ≡ min (length events - first) (length old)
-  pub front : take count new ≡ map seen_event (take count (drop first events))
+  pub prefix : take count new ≡ map seen_event (take count (drop first events))
   pub rest : drop count new ≡ drop count old
 
 -- The number of events that drains have removed since the mount, modulo 2^64; 0 for a closed handle.

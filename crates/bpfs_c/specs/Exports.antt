@@ -2,10 +2,10 @@
 -- caller's variables, the returned number, and their new contents.
 use Rattle.std.specs.Prelude.{◌≡◌, ℕ, Bool, List, Option}
 use Rattle.bp_plain.specs.Calls.{Call}
-use Rattle.bpfs_c.specs.Codes.{IsEndedAs, IsRead, TellsFound}
-use Rattle.bpfs_c.specs.Listings.{TellsName, entry_at}
+use Rattle.bpfs_c.specs.Codes.{IsEndedAs, IsRead, ReportsFound}
+use Rattle.bpfs_c.specs.Listings.{ReportsName, entry_at}
 use Rattle.bpfs_c.specs.Serves.{Exported, Looked}
-use Rattle.bpfs_c.specs.declared.asking.Found.{Found}
+use Rattle.bpfs_c.specs.declared.queries.Found.{Found}
 use Rattle.bpfs_c.specs.declared.codes.Lack.{Lack}
 use Rattle.bpfs_c.specs.declared.mounted.Mounted.{Mounted}
 
@@ -23,12 +23,12 @@ ExportsRead held call into count code new_into new_count new_held =
 -- A call that looks up a path, and writes its size and whether it is a directory to the caller's `Found`.
 abbrev pub ExportsFound : Option Mounted → Call → Found → ℕ → Found → Option Mounted → Type 0
 ExportsFound held call found code new_found new_held =
-    Exported held call (λ answer. TellsFound answer found code new_found) (new_found ≡ found) code new_held
+    Exported held call (λ answer. ReportsFound answer found code new_found) (new_found ≡ found) code new_held
 
 -- A look at one entry of the listing that the handle keeps, by its index: the name, its length in bytes, and whether
 -- the entry is a directory's.
 abbrev pub LooksAtName : Option Mounted → ℕ → List ℕ → ℕ → Bool → ℕ → List ℕ → ℕ → Bool → Option Mounted → Type 0
 LooksAtName held index name count is_dir code new_name new_count new_is_dir new_held =
     Looked held
-    (λ mounted. TellsName (entry_at mounted.listing index) name count is_dir code new_name new_count new_is_dir)
+    (λ mounted. ReportsName (entry_at mounted.listing index) name count is_dir code new_name new_count new_is_dir)
     ((new_name ≡ name) × (new_count ≡ count) × (new_is_dir ≡ is_dir)) code new_held

@@ -21,10 +21,10 @@ entry_at (Some listing) index = slice_get listing index
 
 -- The entry is written to the caller's variables, where there is one and the array has room for its name. Else the
 -- number is 38, and the variables keep their contents.
-abbrev pub TellsName : Option (Kind × List ℕ) → List ℕ → ℕ → Bool → ℕ → List ℕ → ℕ → Bool → Type 0
-TellsName None name count is_dir code new_name new_count new_is_dir =
+abbrev pub ReportsName : Option (Kind × List ℕ) → List ℕ → ℕ → Bool → ℕ → List ℕ → ℕ → Bool → Type 0
+ReportsName None name count is_dir code new_name new_count new_is_dir =
     (code ≡ 38) × (new_name ≡ name) × (new_count ≡ count) × (new_is_dir ≡ is_dir)
-TellsName (Some entry) name count is_dir code new_name new_count new_is_dir =
+ReportsName (Some entry) name count is_dir code new_name new_count new_is_dir =
     ((length entry.1 ≤ length name) × (code ≡ 0) × (take new_count new_name ≡ entry.1)
     × (new_count ≡ length entry.1) × (drop new_count new_name ≡ drop new_count name)
     × (new_is_dir ≡ is_dir_kind entry.0))

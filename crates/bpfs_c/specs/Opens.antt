@@ -10,7 +10,7 @@ use Rattle.bp_scan.specs.declared.fault.MountFault.{MountFault}
 use Rattle.bp_scan.specs.declared.fault.MountFault.TheVariants.{NotFormatted, BadSize, Damaged, Memory as Lacking}
 use Rattle.pm_region.specs.Memory.{Memory}
 use Rattle.bpfs_c.specs.declared.mounted.Mounted.{Mounted}
-use Rattle.bpfs_c.specs.declared.opening.Fault.{Fault}
+use Rattle.bpfs_c.specs.declared.mount.Fault.{Fault}
 
 -- The number of a mount fault, and the fields of `Fault` that are written with it. The other fields keep their
 -- values.
@@ -73,6 +73,6 @@ pub data Opens (words : List ℕ) (old : Option Mounted) (fault : Fault) (code :
       Opens words old fault code new new_fault
 
 -- The number that `bpfs_close` returns: 32 if the handle held no volume, else 0.
-abbrev pub TellsWhetherHeld : Option Mounted → ℕ → Type 0
-TellsWhetherHeld None code = code ≡ 32
-TellsWhetherHeld (Some held) code = code ≡ 0
+abbrev pub ReportsWhetherHeld : Option Mounted → ℕ → Type 0
+ReportsWhetherHeld None code = code ≡ 32
+ReportsWhetherHeld (Some held) code = code ≡ 0

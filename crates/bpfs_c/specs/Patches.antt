@@ -6,7 +6,7 @@ use Rattle.bp_plain.specs.Calls.{Call}
 use Rattle.bp_plain.specs.Calls.Call.{batch}
 use Rattle.bp_plain.specs.Seen.{LiesIn, piece_in}
 use Rattle.bp_plain.specs.declared.calls.Piece.{Piece}
-use Rattle.bpfs_c.specs.declared.batching.Patch.{Patch}
+use Rattle.bpfs_c.specs.declared.batch.Patch.{Patch}
 
 abbrev pub piece_of : Patch → Piece
 piece_of patch = record {

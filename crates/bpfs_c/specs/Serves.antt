@@ -18,24 +18,24 @@ IsCall does act call =
     → FileCall old call (unit_answer ending) new
 
 -- The call was made on the volume of the handle, and the caller's variables have its answer.
-pub record Serves (old : Mounted) (call : Call) (Told : Answer → Type 0) (new : Option Mounted) : Type 0 where
+pub record Serves (old : Mounted) (call : Call) (Reported : Answer → Type 0) (new : Option Mounted) : Type 0 where
   pub answer : Answer
   pub volume : Memory
   pub is_call : FileCall old.volume call answer volume
   pub held : new ≡ Some (record old { volume = volume; listing = listing_after answer old.listing })
-  pub told : Told answer
+  pub reported : Reported answer
 
 -- The effect of an export that makes a call. If the handle holds no volume (32), or the log has room for fewer events
 -- than a call may need (34), it does nothing, and the caller's variables keep their contents. So no event is ever
 -- dropped. Otherwise it makes the call.
-pub data Exported (old : Option Mounted) (call : Call) (Told : Answer → Type 0) (Same : Type 0) (code : ℕ) (new : Option Mounted) : Type 0 where
-  closed : old ≡ None → code ≡ 32 → new ≡ None → Same → Exported old call Told Same code new
+pub data Exported (old : Option Mounted) (call : Call) (Reported : Answer → Type 0) (Same : Type 0) (code : ℕ) (new : Option Mounted) : Type 0 where
+  closed : old ≡ None → code ≡ 32 → new ≡ None → Same → Exported old call Reported Same code new
   full : (held : Mounted) → old ≡ Some held → room_in held.volume < call_room → code ≡ 34 → new ≡ old → Same →
-      Exported old call Told Same code new
-  served : (held : Mounted) → old ≡ Some held → call_room ≤ room_in held.volume → Serves held call Told new →
-      Exported old call Told Same code new
+      Exported old call Reported Same code new
+  served : (held : Mounted) → old ≡ Some held → call_room ≤ room_in held.volume → Serves held call Reported new →
+      Exported old call Reported Same code new
 
 -- The effect of an export that only looks at the volume or the listing of a handle: the handle is unchanged.
-pub data Looked (old : Option Mounted) (Told : Mounted → Type 0) (Same : Type 0) (code : ℕ) (new : Option Mounted) : Type 0 where
-  closed : old ≡ None → code ≡ 32 → new ≡ None → Same → Looked old Told Same code new
-  looked : (held : Mounted) → old ≡ Some held → new ≡ Some held → Told held → Looked old Told Same code new
+pub data Looked (old : Option Mounted) (Reported : Mounted → Type 0) (Same : Type 0) (code : ℕ) (new : Option Mounted) : Type 0 where
+  closed : old ≡ None → code ≡ 32 → new ≡ None → Same → Looked old Reported Same code new
+  looked : (held : Mounted) → old ≡ Some held → new ≡ Some held → Reported held → Looked old Reported Same code new

@@ -2,17 +2,17 @@
 //! caller carries the events of its log to the storage of its words.
 #![tactic(auto)]
 
-pub mod asking;
-pub mod batching;
+pub mod batch;
 pub mod calls;
 pub mod codes;
-pub mod formatting;
+pub mod format_events;
 pub mod handle;
 pub mod listing;
-pub mod logging;
+pub mod log;
+pub mod mount;
 pub mod mounted;
-pub mod opening;
-pub mod running;
+pub mod queries;
+pub mod runs;
 pub mod snapshot;
 pub mod space;
-pub mod tagging;
+pub mod tag;

@@ -5,7 +5,7 @@ ghost use Rattle.bp_plain.specs.Calls.Call.{list};
 ghost use Rattle.bp_volume.specs.Seen.{list_answer_of};
 ghost use Rattle.bpfs_c.specs.Codes.{IsListed};
 ghost use Rattle.bpfs_c.specs.Exports.{LooksAtName};
-ghost use Rattle.bpfs_c.specs.Listings.{TellsName, entry_at, listing_after};
+ghost use Rattle.bpfs_c.specs.Listings.{ReportsName, entry_at, listing_after};
 ghost use Rattle.bpfs_c.specs.Serves.{Exported};
 
 use crate::codes::{CLOSED, LOG_FULL, OK, OUT_OF_RANGE, number_of};
@@ -21,7 +21,7 @@ pub(crate) fn keep(
     ending: Result<Listing, FsError>,
     count: &mut usize,
 ) -> u32
-    ensures told { IsListed (list_answer_of ending) count.old result count.new }
+    ensures reported { IsListed (list_answer_of ending) count.old result count.new }
     ensures kept { kept.new ≡ listing_after (list_answer_of ending) kept.old }
 {
     match ending {
@@ -66,7 +66,7 @@ fn copy_name(
     length: &mut usize,
     is_dir: &mut bool,
 ) -> u32
-    ensures { TellsName (entry_at listing.now index) name.old length.old is_dir.old result name.new length.new
+    ensures { ReportsName (entry_at listing.now index) name.old length.old is_dir.old result name.new length.new
         is_dir.new }
 {
     let Some(listing) = listing else {

@@ -7,11 +7,11 @@ ghost use Rattle.bpfs_c.specs.Codes.{IsEndedBy, IsListed};
 ghost use Rattle.bpfs_c.specs.Exports.{ExportsFound, ExportsRead};
 ghost use Rattle.bpfs_c.specs.Serves.{Exported};
 
-use crate::asking::{Found, report_count, report_found};
 use crate::codes::{CLOSED, LOG_FULL, OK, number_of};
 use crate::handle::Handle;
 use crate::listing::keep;
 use crate::mounted::has_room;
+use crate::queries::{Found, report_count, report_found};
 use bp_plain::FsError;
 use std::alloc::Global;
 

@@ -28,7 +28,7 @@ drop_set f [] i y = refl
 drop_set f (x ∷ xs) zero y = refl
 drop_set f (x ∷ xs) (suc i) y = drop_set f xs i y
 
--- the words are told by the test alone
+-- the words are stated by the test alone
 words_same : (core epoch place : ℕ) (one two : List (Option Owner)) → length one ≡ length two → ((k : ℕ) → is_under core epoch (get_or one k None) ≡ is_under core epoch (get_or two k None)) → words_under core epoch one place ≡ words_under core epoch two place
 words_same core epoch place [] [] size same = refl
 words_same core epoch place [] (owner ∷ two) size same = absurd (omega arith)
@@ -51,7 +51,7 @@ module _ (cores : ℕ) (words : ℕ) (log : List Entry) (epochs : List ℕ) (cap
   abbrev owned : List ℕ → ℕ → Option Owner
   owned since word = owner_since log epochs (get_or since word 0)
 
-  -- the words that a test tells have gone back, in this order
+  -- the words that a test reports have gone back, in this order
   record Went (since : List ℕ) (goes : ℕ → Bool) (order : List ℕ) : Type 0 where
     since2 : List ℕ
     size : length since2 ≡ length since

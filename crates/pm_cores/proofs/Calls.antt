@@ -24,7 +24,7 @@ under_at by owner (Some (Some other)) is = elim (cases_Bool (is_up_to by other.c
       (same, sym (ap (λ (o : Owner). is_up_to by o.core o.epoch) one) ∙ miss)
 ]
 
--- a word that is dirty behind a settle was so before, under an owner that did not go
+-- a word that is dirty after a settle was so before, under an owner that did not go
 pub settled_under : (caches : Caches) (by : Owner) (other : ℕ) (owner : Owner) → IsDirtyUnder (settled caches by) other owner → IsDirtyUnder caches other owner × (owner_is_up_to by (Some owner) ≡ false)
 unfolding settled
 settled_under caches by other owner under =

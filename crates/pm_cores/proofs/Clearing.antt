@@ -5,7 +5,7 @@ use Rattle.pm_cores.specs.declared.entry.Entry.{Entry}
 use Rattle.pm_cores.specs.Log.{epoch_at}
 use Rattle.pm_cores.specs.Inside.{waits_at, Waits, AreSound}
 
--- What is left where the words that a test tells are written back: with a word go those of its core to which stores of earlier epochs wait.
+-- What is left where the words that a test reports are written back: with a word go those of its core to which stores of earlier epochs wait.
 pub record IsCleared (words : ℕ) (since : List ℕ) (log : List Entry) (epochs since2 : List ℕ) (gone : ℕ → Bool) : Type 0 where
   pub sound : AreSound words since log epochs
   pub since_size : length since2 ≡ length since

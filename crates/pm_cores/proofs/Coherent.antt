@@ -75,6 +75,6 @@ module _ (cores : ℕ) (words : ℕ) (since : List ℕ) (log : List Entry) (epoc
     ];
     follows = λ earlier later it back. elim (back_or earlier it.core it.word it.first) [
       | inl is ↦ is
-      | inr waits ↦ absurd (it.differ (sound.alone earlier it.core it.word it.use_place it.its_core waits it.behind it.used))
+      | inr waits ↦ absurd (it.differ (sound.alone earlier it.core it.word it.use_place it.its_core waits it.following it.used))
     ];
   }

@@ -15,7 +15,7 @@ pub mod Vectors
 pub mod Cleaning
 pub mod Coherent
 pub mod Over
-pub mod Telling
+pub mod Report
 pub mod Backing
 pub mod Flags
 pub mod Replays

@@ -4,11 +4,11 @@ use Rattle.pm_cores.specs.declared.entry.Entry.{Entry}
 use Rattle.pm_cores.specs.declared.entry.Entry.TheVariants.{Load, Store, Barrier}
 use Rattle.pm_cores.specs.Log.{core_barriers, epoch_at, last_value}
 
-pub core_barriers-append : (core : ℕ) (front rest : List Entry) → core_barriers core (front ++ rest) ≡ core_barriers core front + core_barriers core rest
+pub core_barriers-append : (core : ℕ) (prefix rest : List Entry) → core_barriers core (prefix ++ rest) ≡ core_barriers core prefix + core_barriers core rest
 core_barriers-append core [] rest = omega arith
-core_barriers-append core (Load other word ∷ front) rest = core_barriers-append core front rest
-core_barriers-append core (Store other word value ∷ front) rest = core_barriers-append core front rest
-core_barriers-append core (Barrier other ∷ front) rest = let e = core_barriers-append core front rest in omega arith
+core_barriers-append core (Load other word ∷ prefix) rest = core_barriers-append core prefix rest
+core_barriers-append core (Store other word value ∷ prefix) rest = core_barriers-append core prefix rest
+core_barriers-append core (Barrier other ∷ prefix) rest = let e = core_barriers-append core prefix rest in omega arith
 
 pub epoch_at-pushed : (log : List Entry) (entry : Entry) (core place : ℕ) → place ≤ length log → epoch_at (log ++ entry ∷ []) core place ≡ epoch_at log core place
 epoch_at-pushed [] entry core zero low = refl
@@ -45,11 +45,11 @@ epoch_at-most (Load other word ∷ log) core (suc i) = epoch_at-most log core i
 epoch_at-most (Store other word value ∷ log) core (suc i) = epoch_at-most log core i
 epoch_at-most (Barrier other ∷ log) core (suc i) = let less = epoch_at-most log core i in omega arith
 
-pub last_value-append : (now : ℕ) (front rest : List Entry) (word : ℕ) → last_value now (front ++ rest) word ≡ last_value (last_value now front word) rest word
+pub last_value-append : (now : ℕ) (prefix rest : List Entry) (word : ℕ) → last_value now (prefix ++ rest) word ≡ last_value (last_value now prefix word) rest word
 last_value-append now [] rest word = refl
-last_value-append now (Load core place ∷ front) rest word = last_value-append now front rest word
-last_value-append now (Store core place value ∷ front) rest word = last_value-append (cond (eqb place word) value now) front rest word
-last_value-append now (Barrier core ∷ front) rest word = last_value-append now front rest word
+last_value-append now (Load core place ∷ prefix) rest word = last_value-append now prefix rest word
+last_value-append now (Store core place value ∷ prefix) rest word = last_value-append (cond (eqb place word) value now) prefix rest word
+last_value-append now (Barrier core ∷ prefix) rest word = last_value-append now prefix rest word
 
 -- an entry that is no store
 abbrev pub IsNoStore : Entry → Type 0

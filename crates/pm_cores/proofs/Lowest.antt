@@ -101,5 +101,5 @@ module _ (words : ℕ) (since : List ℕ) (log : List Entry) (epochs : List ℕ)
       let its_epoch = its.epoch in
       so_far.lowest word its.first its.since_is (elim (cases_lt its.first place) [
         | inl early ↦ early
-        | inr behind ↦ let more = epoch_at-le log owner.core place its.first behind in absurd (omega arith)
+        | inr following ↦ let more = epoch_at-le log owner.core place its.first following in absurd (omega arith)
       ]) by

@@ -16,7 +16,7 @@ use Rattle.pm_cores.specs.Order.{IsCoherent}
 use Rattle.pm_cores.proofs.Lists.{get_within}
 use Rattle.pm_cores.proofs.Views.{get_map_range}
 
--- ## One word behind the stores that are back
+-- ## One word after the stores that are back
 
 abbrev pub word_back : ℕ → List Entry → List Bool → ℕ → ℕ
 word_back now [] back word = now
@@ -227,21 +227,21 @@ none_back (Store core at value ∷ log) (true ∷ back) now word size none = eli
 
 pub some_back : (log : List Entry) (back : List Bool) (now word first : ℕ) → length back ≡ length log → ((place core : ℕ) → IsStore log place core word → place < first → slice_get back place ≡ Some true) →
     ((place core : ℕ) → IsStore log place core word → first ≤ place → slice_get back place ≡ Some false) → word_back now log back word ≡ last_value now (take first log) word
-some_back [] back now word zero size before behind = refl
-some_back [] back now word (suc first) size before behind = refl
-some_back (entry ∷ log) back now word zero size before behind = none_back (entry ∷ log) back now word size (λ place core store. behind place core store (omega arith))
-some_back (entry ∷ log) [] now word (suc first) size before behind = absurd (omega arith)
-some_back (Load core at ∷ log) (flag ∷ back) now word (suc first) size before behind =
-    some_back log back now word first (omega arith) (λ place its store low. before (suc place) its (record { value = store.value; is = store.is }) (omega arith)) (λ place its store high. behind (suc place) its (record { value = store.value; is = store.is }) (omega arith))
-some_back (Barrier core ∷ log) (flag ∷ back) now word (suc first) size before behind =
-    some_back log back now word first (omega arith) (λ place its store low. before (suc place) its (record { value = store.value; is = store.is }) (omega arith)) (λ place its store high. behind (suc place) its (record { value = store.value; is = store.is }) (omega arith))
-some_back (Store core at value ∷ log) (true ∷ back) now word (suc first) size before behind =
-    some_back log back (cond (eqb at word) value now) word first (omega arith) (λ place its store low. before (suc place) its (record { value = store.value; is = store.is }) (omega arith)) (λ place its store high. behind (suc place) its (record { value = store.value; is = store.is }) (omega arith))
-some_back (Store core at value ∷ log) (false ∷ back) now word (suc first) size before behind = elim (eqb_tells at word) [
+some_back [] back now word zero size before following = refl
+some_back [] back now word (suc first) size before following = refl
+some_back (entry ∷ log) back now word zero size before following = none_back (entry ∷ log) back now word size (λ place core store. following place core store (omega arith))
+some_back (entry ∷ log) [] now word (suc first) size before following = absurd (omega arith)
+some_back (Load core at ∷ log) (flag ∷ back) now word (suc first) size before following =
+    some_back log back now word first (omega arith) (λ place its store low. before (suc place) its (record { value = store.value; is = store.is }) (omega arith)) (λ place its store high. following (suc place) its (record { value = store.value; is = store.is }) (omega arith))
+some_back (Barrier core ∷ log) (flag ∷ back) now word (suc first) size before following =
+    some_back log back now word first (omega arith) (λ place its store low. before (suc place) its (record { value = store.value; is = store.is }) (omega arith)) (λ place its store high. following (suc place) its (record { value = store.value; is = store.is }) (omega arith))
+some_back (Store core at value ∷ log) (true ∷ back) now word (suc first) size before following =
+    some_back log back (cond (eqb at word) value now) word first (omega arith) (λ place its store low. before (suc place) its (record { value = store.value; is = store.is }) (omega arith)) (λ place its store high. following (suc place) its (record { value = store.value; is = store.is }) (omega arith))
+some_back (Store core at value ∷ log) (false ∷ back) now word (suc first) size before following = elim (eqb_tells at word) [
   | inl same ↦
       let flag : Some false ≡ Some true = before 0 core (record { value = value; is = ap (λ n. Some (Store core n value)) same.1 }) (omega arith) in
       cc
   | inr differ ↦
-      some_back log back now word first (omega arith) (λ place its store low. before (suc place) its (record { value = store.value; is = store.is }) (omega arith)) (λ place its store high. behind (suc place) its (record { value = store.value; is = store.is }) (omega arith))
+      some_back log back now word first (omega arith) (λ place its store low. before (suc place) its (record { value = store.value; is = store.is }) (omega arith)) (λ place its store high. following (suc place) its (record { value = store.value; is = store.is }) (omega arith))
       ∙ ap (λ b. last_value (cond b value now) (take first log) word) (sym differ.0)
 ]

@@ -45,7 +45,7 @@ epoch_without_call_ends zero (Fence ∷ events) = refl
 epoch_without_call_ends (suc epoch) (Fence ∷ events) = epoch_without_call_ends epoch events
 epoch_without_call_ends epoch (CallEnd ∷ events) = epoch_without_call_ends epoch events
 
--- ## The mask, from the front
+-- ## The mask, from the prefix
 
 abbrev mask_seen : ℕ → ℕ → List Entry → List Bool → List Bool
 mask_seen epoch seen [] back = []
@@ -54,63 +54,63 @@ mask_seen epoch seen (Load core word ∷ log) (flag ∷ back) = mask_seen epoch 
 mask_seen epoch seen (Store core word value ∷ log) (flag ∷ back) = cond (eqb core 0 && eqb seen epoch) (flag ∷ []) [] ++ mask_seen epoch seen log back
 mask_seen epoch seen (Barrier core ∷ log) (flag ∷ back) = mask_seen epoch (seen + cond (eqb core 0) 1 0) log back
 
-get_seam : {A : Type 0} (front : List A) (x : A) (rest : List A) → slice_get (front ++ x ∷ rest) (length front) ≡ Some x
+get_seam : {A : Type 0} (prefix : List A) (x : A) (rest : List A) → slice_get (prefix ++ x ∷ rest) (length prefix) ≡ Some x
 get_seam [] x rest = refl
-get_seam (y ∷ front) x rest = get_seam front x rest
+get_seam (y ∷ prefix) x rest = get_seam prefix x rest
 
-flag_seam : (front : List Bool) (x : Bool) (rest : List Bool) → get_or (front ++ x ∷ rest) (length front) false ≡ x
+flag_seam : (prefix : List Bool) (x : Bool) (rest : List Bool) → get_or (prefix ++ x ∷ rest) (length prefix) false ≡ x
 flag_seam [] x rest = refl
-flag_seam (y ∷ front) x rest = flag_seam front x rest
+flag_seam (y ∷ prefix) x rest = flag_seam prefix x rest
 
-take_seam : {A : Type 0} (front rest : List A) → take (length front) (front ++ rest) ≡ front
+take_seam : {A : Type 0} (prefix rest : List A) → take (length prefix) (prefix ++ rest) ≡ prefix
 take_seam [] [] = refl
 take_seam [] (x ∷ rest) = refl
-take_seam (y ∷ front) rest = ap (λ xs. y ∷ xs) (take_seam front rest)
+take_seam (y ∷ prefix) rest = ap (λ xs. y ∷ xs) (take_seam prefix rest)
 
-mask_by_front : (epoch : ℕ) (front rest : List Entry) (fronts rests : List Bool) → length fronts ≡ length front → length rests ≡ length rest →
-    mask_to 0 epoch (front ++ rest) (fronts ++ rests) (length (front ++ rest)) ≡ mask_to 0 epoch (front ++ rest) (fronts ++ rests) (length front) ++ mask_seen epoch (core_barriers 0 front) rest rests
-mask_by_front epoch front [] fronts rests same sizes =
-    let size : length (front ++ []) ≡ length front = ap length (append-nil front) in
-    ap (mask_to 0 epoch (front ++ []) (fronts ++ rests)) size ∙ sym (append-nil (mask_to 0 epoch (front ++ []) (fronts ++ rests) (length front)))
-mask_by_front epoch front (entry ∷ rest) fronts [] same sizes = absurd (omega arith)
-mask_by_front epoch front (entry ∷ rest) fronts (flag ∷ rests) same sizes =
-    let log : List Entry = front ++ entry ∷ rest in
-    let back : List Bool = fronts ++ flag ∷ rests in
-    let again : List Entry = (front ++ entry ∷ []) ++ rest in
-    let flags : List Bool = (fronts ++ flag ∷ []) ++ rests in
-    let log_is : (front ++ entry ∷ []) ++ rest ≡ front ++ entry ∷ rest = append_assoc front (entry ∷ []) rest in
-    let back_is : (fronts ++ flag ∷ []) ++ rests ≡ fronts ++ flag ∷ rests = append_assoc fronts (flag ∷ []) rests in
-    let longer : length (front ++ entry ∷ []) ≡ suc (length front) = omega (arith, length-append front (entry ∷ [])) in
-    let longers : length (fronts ++ flag ∷ []) ≡ length (front ++ entry ∷ []) = omega (arith, length-append front (entry ∷ []), length-append fronts (flag ∷ [])) in
-    let later = mask_by_front epoch (front ++ entry ∷ []) rest (fronts ++ flag ∷ []) rests longers (omega arith) in
-    let seen = mask_seen epoch (core_barriers 0 (front ++ entry ∷ [])) rest rests in
-    let later_is : mask_to 0 epoch log back (length log) ≡ mask_to 0 epoch log back (suc (length front)) ++ seen =
-    subst (λ (l : List Entry). mask_to 0 epoch l back (length l) ≡ mask_to 0 epoch l back (suc (length front)) ++ seen) log_is
-    (subst (λ (b : List Bool). mask_to 0 epoch again b (length again) ≡ mask_to 0 epoch again b (suc (length front)) ++ seen) back_is
+mask_by_prefix : (epoch : ℕ) (prefix rest : List Entry) (prefixes rests : List Bool) → length prefixes ≡ length prefix → length rests ≡ length rest →
+    mask_to 0 epoch (prefix ++ rest) (prefixes ++ rests) (length (prefix ++ rest)) ≡ mask_to 0 epoch (prefix ++ rest) (prefixes ++ rests) (length prefix) ++ mask_seen epoch (core_barriers 0 prefix) rest rests
+mask_by_prefix epoch prefix [] prefixes rests same sizes =
+    let size : length (prefix ++ []) ≡ length prefix = ap length (append-nil prefix) in
+    ap (mask_to 0 epoch (prefix ++ []) (prefixes ++ rests)) size ∙ sym (append-nil (mask_to 0 epoch (prefix ++ []) (prefixes ++ rests) (length prefix)))
+mask_by_prefix epoch prefix (entry ∷ rest) prefixes [] same sizes = absurd (omega arith)
+mask_by_prefix epoch prefix (entry ∷ rest) prefixes (flag ∷ rests) same sizes =
+    let log : List Entry = prefix ++ entry ∷ rest in
+    let back : List Bool = prefixes ++ flag ∷ rests in
+    let again : List Entry = (prefix ++ entry ∷ []) ++ rest in
+    let flags : List Bool = (prefixes ++ flag ∷ []) ++ rests in
+    let log_is : (prefix ++ entry ∷ []) ++ rest ≡ prefix ++ entry ∷ rest = append_assoc prefix (entry ∷ []) rest in
+    let back_is : (prefixes ++ flag ∷ []) ++ rests ≡ prefixes ++ flag ∷ rests = append_assoc prefixes (flag ∷ []) rests in
+    let longer : length (prefix ++ entry ∷ []) ≡ suc (length prefix) = omega (arith, length-append prefix (entry ∷ [])) in
+    let longers : length (prefixes ++ flag ∷ []) ≡ length (prefix ++ entry ∷ []) = omega (arith, length-append prefix (entry ∷ []), length-append prefixes (flag ∷ [])) in
+    let later = mask_by_prefix epoch (prefix ++ entry ∷ []) rest (prefixes ++ flag ∷ []) rests longers (omega arith) in
+    let seen = mask_seen epoch (core_barriers 0 (prefix ++ entry ∷ [])) rest rests in
+    let later_is : mask_to 0 epoch log back (length log) ≡ mask_to 0 epoch log back (suc (length prefix)) ++ seen =
+    subst (λ (l : List Entry). mask_to 0 epoch l back (length l) ≡ mask_to 0 epoch l back (suc (length prefix)) ++ seen) log_is
+    (subst (λ (b : List Bool). mask_to 0 epoch again b (length again) ≡ mask_to 0 epoch again b (suc (length prefix)) ++ seen) back_is
     (subst (λ n. mask_to 0 epoch again flags (length again) ≡ mask_to 0 epoch again flags n ++ seen) longer later)) in
-    let here : flag_in 0 epoch log back (length front) (slice_get log (length front)) ≡ flag_in 0 epoch log back (length front) (Some entry) = ap (flag_in 0 epoch log back (length front)) (get_seam front entry rest) in
-    let flag_is : get_or back (length front) false ≡ flag = ap (λ n. get_or back n false) (sym same) ∙ flag_seam fronts flag rests in
-    later_is ∙ ap (λ (bs : List Bool). (mask_to 0 epoch log back (length front) ++ bs) ++ seen) here
-    ∙ append_assoc (mask_to 0 epoch log back (length front)) (flag_in 0 epoch log back (length front) (Some entry)) seen
-    ∙ ap (λ (bs : List Bool). mask_to 0 epoch log back (length front) ++ bs) (one entry flag_is)
+    let here : flag_in 0 epoch log back (length prefix) (slice_get log (length prefix)) ≡ flag_in 0 epoch log back (length prefix) (Some entry) = ap (flag_in 0 epoch log back (length prefix)) (get_seam prefix entry rest) in
+    let flag_is : get_or back (length prefix) false ≡ flag = ap (λ n. get_or back n false) (sym same) ∙ flag_seam prefixes flag rests in
+    later_is ∙ ap (λ (bs : List Bool). (mask_to 0 epoch log back (length prefix) ++ bs) ++ seen) here
+    ∙ append_assoc (mask_to 0 epoch log back (length prefix)) (flag_in 0 epoch log back (length prefix) (Some entry)) seen
+    ∙ ap (λ (bs : List Bool). mask_to 0 epoch log back (length prefix) ++ bs) (one entry flag_is)
   where
-    one : (it : Entry) → get_or (fronts ++ flag ∷ rests) (length front) false ≡ flag →
-        flag_in 0 epoch (front ++ entry ∷ rest) (fronts ++ flag ∷ rests) (length front) (Some it) ++ mask_seen epoch (core_barriers 0 (front ++ it ∷ [])) rest rests ≡ mask_seen epoch (core_barriers 0 front) (it ∷ rest) (flag ∷ rests)
-    one (Load core word) flag_is = ap (λ n. mask_seen epoch n rest rests) (core_barriers-append 0 front (Load core word ∷ []) ∙ omega arith)
-    one (Barrier core) flag_is = ap (λ n. mask_seen epoch n rest rests) (core_barriers-append 0 front (Barrier core ∷ []) ∙ omega arith)
+    one : (it : Entry) → get_or (prefixes ++ flag ∷ rests) (length prefix) false ≡ flag →
+        flag_in 0 epoch (prefix ++ entry ∷ rest) (prefixes ++ flag ∷ rests) (length prefix) (Some it) ++ mask_seen epoch (core_barriers 0 (prefix ++ it ∷ [])) rest rests ≡ mask_seen epoch (core_barriers 0 prefix) (it ∷ rest) (flag ∷ rests)
+    one (Load core word) flag_is = ap (λ n. mask_seen epoch n rest rests) (core_barriers-append 0 prefix (Load core word ∷ []) ∙ omega arith)
+    one (Barrier core) flag_is = ap (λ n. mask_seen epoch n rest rests) (core_barriers-append 0 prefix (Barrier core ∷ []) ∙ omega arith)
     one (Store core word value) flag_is =
-        let seen_is : core_barriers 0 (front ++ Store core word value ∷ []) ≡ core_barriers 0 front = core_barriers-append 0 front (Store core word value ∷ []) ∙ omega arith in
-        ap (λ n. flag_in 0 epoch (front ++ entry ∷ rest) (fronts ++ flag ∷ rests) (length front) (Some (Store core word value)) ++ mask_seen epoch n rest rests) seen_is
-        ∙ ap (λ (bs : List Bool). bs ++ mask_seen epoch (core_barriers 0 front) rest rests) (store_flag core)
+        let seen_is : core_barriers 0 (prefix ++ Store core word value ∷ []) ≡ core_barriers 0 prefix = core_barriers-append 0 prefix (Store core word value ∷ []) ∙ omega arith in
+        ap (λ n. flag_in 0 epoch (prefix ++ entry ∷ rest) (prefixes ++ flag ∷ rests) (length prefix) (Some (Store core word value)) ++ mask_seen epoch n rest rests) seen_is
+        ∙ ap (λ (bs : List Bool). bs ++ mask_seen epoch (core_barriers 0 prefix) rest rests) (store_flag core)
       where
-        store_flag : (core : ℕ) → cond (eqb core 0 && eqb (epoch_at (front ++ entry ∷ rest) core (length front)) epoch) (get_or (fronts ++ flag ∷ rests) (length front) false ∷ []) [] ≡ cond (eqb core 0 && eqb (core_barriers 0 front) epoch) (flag ∷ []) []
+        store_flag : (core : ℕ) → cond (eqb core 0 && eqb (epoch_at (prefix ++ entry ∷ rest) core (length prefix)) epoch) (get_or (prefixes ++ flag ∷ rests) (length prefix) false ∷ []) [] ≡ cond (eqb core 0 && eqb (core_barriers 0 prefix) epoch) (flag ∷ []) []
         store_flag core = elim (cases_eq core 0) [
-          | inl same_core ↦ rw (flag_is, same_core, take_seam front (entry ∷ rest)) refl
+          | inl same_core ↦ rw (flag_is, same_core, take_seam prefix (entry ∷ rest)) refl
           | inr differ ↦ rw (ne_eqb core 0 differ) refl
         ]
 
 pub mask_is_seen : (epoch : ℕ) (log : List Entry) (back : List Bool) → length back ≡ length log → mask_to 0 epoch log back (length log) ≡ mask_seen epoch 0 log back
-mask_is_seen epoch log back same = mask_by_front epoch [] log [] back refl same
+mask_is_seen epoch log back same = mask_by_prefix epoch [] log [] back refl same
 
 -- ## The stores that are kept
 
@@ -119,7 +119,7 @@ module _ (epoch : ℕ) where
     size : length back ≡ length log
     alone : (place core word : ℕ) → IsStore log place core word → core ≡ 0
     before : (place word : ℕ) → IsStore log place 0 word → epoch_at log 0 place < left → slice_get back place ≡ Some true
-    behind : (place word : ℕ) → IsStore log place 0 word → left < epoch_at log 0 place → slice_get back place ≡ Some false
+    following : (place word : ℕ) → IsStore log place 0 word → left < epoch_at log 0 place → slice_get back place ≡ Some false
 
   none_back : (log : List Entry) (back : List Bool) (words : List ℕ) → length back ≡ length log
       → ((place core word : ℕ) → IsStore log place core word → slice_get back place ≡ Some false) → words_back words log back ≡ words
@@ -132,7 +132,7 @@ module _ (epoch : ℕ) where
       let flag : Some true ≡ Some false = none 0 core word (record { value = value; is = refl }) in
       cc
 
-  -- what is behind an entry that takes some epochs
+  -- what is after an entry that takes some epochs
   later_fits : (left next some : ℕ) (entry : Entry) (log : List Entry) (flag : Bool) (back : List Bool)
       → ((es : List Entry) → core_barriers 0 (entry ∷ es) ≡ some + core_barriers 0 es) → some + next ≡ left
       → Fits left (entry ∷ log) (flag ∷ back) → Fits next log back
@@ -140,7 +140,7 @@ module _ (epoch : ℕ) where
     size = omega (arith, fits.size);
     alone = λ place its at store. fits.alone (suc place) its at (record { value = store.value; is = store.is });
     before = λ place at store low. fits.before (suc place) at (record { value = store.value; is = store.is }) (omega (arith, takes (take place log)));
-    behind = λ place at store high. fits.behind (suc place) at (record { value = store.value; is = store.is }) (omega (arith, takes (take place log)));
+    following = λ place at store high. fits.following (suc place) at (record { value = store.value; is = store.is }) (omega (arith, takes (take place log)));
   }
 
   barrier_fits : (left next core : ℕ) (log : List Entry) (flag : Bool) (back : List Bool) → cond (eqb core 0) 1 0 + next ≡ left → Fits left (Barrier core ∷ log) (flag ∷ back) → Fits next log back
@@ -169,7 +169,7 @@ module _ (epoch : ℕ) where
           (λ place its at store.
           let first = fits.alone (suc place) its at (record { value = store.value; is = store.is }) in
           let here : IsStore (Barrier core ∷ log) (suc place) 0 at = record { value = store.value; is = store.is ∙ ap (λ n. Some (Store n at store.value)) first } in
-          fits.behind (suc place) at here (rw own (omega arith)))
+          fits.following (suc place) at here (rw own (omega arith)))
       fence (suc left) sum fits own rest = rest left (omega arith) (barrier_fits (suc left) left core log flag back (rw own (omega arith)) fits)
   kept left seen (Store core word value ∷ log) (flag ∷ back) words sum fits =
       let first : core ≡ 0 = fits.alone 0 core word (record { value = value; is = refl }) in
@@ -271,9 +271,9 @@ module _ (caches : Caches) (coherent : IsCoherent caches) where
       let own = first_epoch_own 0 (core_barriers 0 caches.log) caches.owners word (record { core = 0; epoch = epoch_at caches.log 0 place }) under refl in
       absurd (omega arith)
 
-  behind_is : (place word : ℕ) → IsStore caches.log place 0 word → dirty_epoch 0 caches < epoch_at caches.log 0 place → (flag : Bool) → get_or caches.back place false ≡ flag → slice_get caches.back place ≡ Some false
-  behind_is place word store high false is = flag_of place 0 word store ∙ ap (λ (b : Bool). Some b) is
-  behind_is place word store high true is = elim (attained 0 (core_barriers 0 caches.log) caches.owners) [
+  after_is : (place word : ℕ) → IsStore caches.log place 0 word → dirty_epoch 0 caches < epoch_at caches.log 0 place → (flag : Bool) → get_or caches.back place false ≡ flag → slice_get caches.back place ≡ Some false
+  after_is place word store high false is = flag_of place 0 word store ∙ ap (λ (b : Bool). Some b) is
+  after_is place word store high true is = elim (attained 0 (core_barriers 0 caches.log) caches.owners) [
     | inl same ↦ let most = epoch_at-most caches.log 0 place in absurd (omega arith)
     | inr at ↦
         let its = coherent.dirty at.word at.owner at.under in
@@ -292,7 +292,7 @@ module _ (caches : Caches) (coherent : IsCoherent caches) where
       size = coherent.flags;
       alone = played.alone;
       before = λ place word store low. before_is place word store low (get_or caches.back place false) refl;
-      behind = λ place word store high. behind_is place word store high (get_or caches.back place false) refl;
+      following = λ place word store high. after_is place word store high (get_or caches.back place false) refl;
     }
 
     pub choice_right : IsRight events (cut_at caches moment)

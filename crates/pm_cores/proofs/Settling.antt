@@ -215,7 +215,7 @@ module _ (words : ℕ) (since : List ℕ) (log : List Entry) (epochs : List ℕ)
       let most = its.epoch in
       elim (cases_lt its.first place) [
         | inl early ↦ omega arith
-        | inr behind ↦ let more = epoch_at-le log owner.core place its.first behind in absurd (omega arith)
+        | inr following ↦ let more = epoch_at-le log owner.core place its.first following in absurd (omega arith)
       ]
 
   -- what goes with an owner takes all of its core's earlier epochs along

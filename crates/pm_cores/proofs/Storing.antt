@@ -12,7 +12,7 @@ use Rattle.pm_cores.proofs.Logs.{epoch_at-pushed, epoch_at-end, epoch_at-most}
 use Rattle.pm_cores.proofs.Waiting.{waits_true, waits_from}
 use Rattle.pm_cores.proofs.Pushing.{counted_pushed}
 
--- the words that wait behind a store: its word waits from then on, where it was clean
+-- the words that wait after a store: its word waits from then on, where it was clean
 pub record IsSince (log : List Entry) (word : ℕ) (since since2 : List ℕ) : Type 0 where
   pub size : length since2 ≡ length since
   pub here : get_or since word 0 ≡ 0 → get_or since2 word 0 ≡ suc (length log)

@@ -34,7 +34,7 @@ module _ (inside : Inside) (holds : HoldsCaches inside) where
 
   -- the number of the last store to a word
   pub last_read : (word got : ℕ) → word < inside.words → got ≡ get_or inside.lasts.items word got → got ≡ get_or inside.lasts.items word 0
-  last_read word got low is = get_or_read inside.lasts.items word got (omega (arith, low, holds.told.as_many_lasts)) is 0
+  last_read word got low is = get_or_read inside.lasts.items word got (omega (arith, low, holds.recorded.as_many_lasts)) is 0
 
   -- the epoch of a core
   pub epoch_read : (core got : ℕ) → core < inside.counts.len → got ≡ get_or inside.counts.items core got → got ≡ core_barriers core inside.log.items
@@ -51,9 +51,9 @@ module _ (inside : Inside) (holds : HoldsCaches inside) where
 
   -- .. also among those of the last stores
   pub stored_in_lasts : (place core word : ℕ) → IsStore inside.log.items place core word → word < length inside.lasts.items
-  stored_in_lasts place core word store = omega (arith, holds.sound.words place core word store, holds.told.as_many_lasts)
+  stored_in_lasts place core word store = omega (arith, holds.sound.words place core word store, holds.recorded.as_many_lasts)
 
-  -- a number that is not 0 tells a store
+  -- a number that is not 0 reports a store
   pub waiting_read : (word got : ℕ) → got ≡ get_or inside.since.items word 0 → got ≢ 0 → IsWaiting inside word (got - 1)
   waiting_read word got read some =
       let first_is : got ≡ suc (got - 1) = omega (arith, some) in
@@ -61,8 +61,8 @@ module _ (inside : Inside) (holds : HoldsCaches inside) where
       let in_log = get_within inside.log.items (got - 1) (Store store.0 word store.1.value) store.1.is in
       record {
         is = sym read ∙ first_is;
-        in_befores = omega (arith, in_log, holds.told.as_many_befores);
-        early = omega (arith, in_log, holds.told.within (got - 1) store.0 word store.1);
+        in_befores = omega (arith, in_log, holds.recorded.as_many_befores);
+        early = omega (arith, in_log, holds.recorded.within (got - 1) store.0 word store.1);
       }
 
   -- where the search for a core's first store that waits ends, for the owner of a word

@@ -171,12 +171,12 @@ flags_pushed since since2 log entry flag same last =
     let new : ℕ → Bool = λ place. entry_is_back since2 place (slice_get (log ++ entry ∷ []) place) in
     let old : ℕ → Bool = λ place. entry_is_back since place (slice_get log place) in
     let size : length (log ++ entry ∷ []) ≡ length log + 1 = omega (arith, length-append log (entry ∷ [])) in
-    let front : map new (range_with_len 0 (length log)) ≡ map old (range_with_len 0 (length log)) =
+    let prefix : map new (range_with_len 0 (length log)) ≡ map old (range_with_len 0 (length log)) =
     map_range_same new old (length log) (λ place low. ap (entry_is_back since2 place) (get_before log entry place low) ∙ same place low) in
     let here : new (length log) ≡ flag = ap (entry_is_back since2 (length log)) (get_pushed_new log entry) ∙ last in
     ap (λ n. map new (range_with_len 0 n)) size
     ∙ map-range_with_len_more new 0 (length log) (length log) (omega arith)
-    ∙ ap (λ (bs : List Bool). bs ++ new (length log) ∷ []) front
+    ∙ ap (λ (bs : List Bool). bs ++ new (length log) ∷ []) prefix
     ∙ ap (λ b. flags_of since log ++ b ∷ []) here
 
 not_back : (since : List ℕ) (place : ℕ) (entry : Entry) → IsNoStore entry → entry_is_back since place (Some entry) ≡ false

@@ -6,13 +6,13 @@ use Rattle.std.proofs.lemmas.List.{length-append}
 use Rattle.pm_cores.specs.declared.cores.Cores.TheInside.{Inside}
 use Rattle.pm_cores.specs.declared.entry.Entry.{Entry}
 use Rattle.pm_cores.specs.declared.entry.Entry.TheVariants.{Load}
-use Rattle.pm_cores.specs.Inside.{AreSound, AreTold, HoldsCaches, IsLow, Waits}
+use Rattle.pm_cores.specs.Inside.{AreSound, AreRecorded, HoldsCaches, IsLow, Waits}
 use Rattle.pm_cores.specs.Log.{core_barriers, core_of, line_at}
 use Rattle.pm_cores.proofs.Clearing.{IsCleared, cleared_sound, still}
 use Rattle.pm_cores.proofs.Lists.{set_either}
 use Rattle.pm_cores.proofs.Logs.{IsNoStore, core_barriers-append}
 use Rattle.pm_cores.proofs.Pushing.{known_pushed, low_pushed, pushed_sound}
-use Rattle.pm_cores.proofs.Telling.{pushed_told}
+use Rattle.pm_cores.proofs.Report.{pushed_recorded}
 
 -- a core's low: none of its stores before it waits
 pub record IsCoreLow (inside : Inside) (core low : ℕ) : Type 0 where
@@ -34,7 +34,7 @@ module _ (inside : Inside) (holds : HoldsCaches inside) where
       HoldsCaches (record inside { since = since; lows = lows })
   with_waiting since lows sound many low = record {
     sound = sound;
-    told = holds.told;
+    recorded = holds.recorded;
     lows = λ core known. (low core known).is_low;
     low_heights = λ core known. (low core known).high;
     counts = holds.counts;
@@ -62,7 +62,7 @@ module _ (inside : Inside) (holds : HoldsCaches inside) where
         | inr differ ↦ rw differ.1 (core_low its its_known)
       ])
 
-  -- words go back: what is told of the others stays
+  -- words go back: what is stated of the others stays
   pub with_since : (since : Vec ℕ) (gone : ℕ → Bool) → IsCleared inside.words inside.since.items inside.log.items inside.epochs.items since.items gone →
       HoldsCaches (record inside { since = since })
   with_since since gone back =
@@ -76,16 +76,16 @@ module _ (inside : Inside) (holds : HoldsCaches inside) (entry : Entry) (epoch b
     (grown : IsGrown inside entry epoch before log epochs befores) where
   -- the log grew, and the rest is right of it
   pub with_entry : (since lasts counts : Vec ℕ) → AreSound inside.words since.items (inside.log.items ++ entry ∷ []) (inside.epochs.items ++ epoch ∷ []) →
-      AreTold inside.words lasts.items (inside.log.items ++ entry ∷ []) (inside.befores.items ++ before ∷ []) →
+      AreRecorded inside.words lasts.items (inside.log.items ++ entry ∷ []) (inside.befores.items ++ before ∷ []) →
       ((core low : ℕ) → IsCoreLow inside core low → IsLow since.items (inside.log.items ++ entry ∷ []) core low) → counts.len ≡ inside.counts.len →
       ((core : ℕ) → core < inside.counts.len → get_or counts.items core 0 ≡ core_barriers core (inside.log.items ++ entry ∷ [])) →
       HoldsCaches (record inside { since = since; lasts = lasts; log = log; epochs = epochs; befores = befores; counts = counts })
-  with_entry since lasts counts sound told lows many counted =
+  with_entry since lasts counts sound recorded lows many counted =
       let longer = length-append inside.log.items (entry ∷ []) in
       let known : (core : ℕ) → core < counts.len → core < inside.counts.len = λ core low. omega (arith, low, many) in
       record {
         sound = rw (grown.log.0, grown.epochs.0) sound;
-        told = rw (grown.log.0, grown.befores.0) told;
+        recorded = rw (grown.log.0, grown.befores.0) recorded;
         lows = λ core low. rw grown.log.0 (lows core (get_or inside.lows.items core 0) (core_low inside holds core (known core low)));
         low_heights = λ core low. rw grown.log.0 (omega (arith, holds.low_heights core (known core low), longer));
         counts = λ core low. rw grown.log.0 (counted core (known core low));
@@ -114,5 +114,5 @@ module _ (inside : Inside) (holds : HoldsCaches inside) (entry : Entry) (epoch b
   with_other_entry none ready epoch_is no_before counts =
       with_entry inside.since inside.lasts counts
       (pushed_sound _ _ _ _ entry epoch holds.sound epoch_is none ready)
-      (rw no_before (pushed_told _ _ _ _ holds.told entry none))
+      (rw no_before (pushed_recorded _ _ _ _ holds.recorded entry none))
       (λ core low at. low_pushed _ _ _ _ entry epoch holds.sound epoch_is none ready core low at.is_low)

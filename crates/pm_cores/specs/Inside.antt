@@ -96,19 +96,19 @@ stored_by (Some (Load core word)) now = now
 stored_by (Some (Store core word value)) now = value
 stored_by (Some (Barrier core)) now = now
 
-abbrev pub told_by : List Entry → ℕ → ℕ → ℕ
-told_by log zero now = now
-told_by log (suc place) now = stored_by (slice_get log place) now
+abbrev pub recorded_by : List Entry → ℕ → ℕ → ℕ
+recorded_by log zero now = now
+recorded_by log (suc place) now = stored_by (slice_get log place) now
 
 -- Of each word the last store is recorded, and of each store the one before it to the same word.
-pub record AreTold (words : ℕ) (lasts : List ℕ) (log : List Entry) (befores : List ℕ) : Type 0 where
+pub record AreRecorded (words : ℕ) (lasts : List ℕ) (log : List Entry) (befores : List ℕ) : Type 0 where
   pub as_many_lasts : length lasts ≡ words
   pub as_many_befores : length befores ≡ length log
   pub store : (word last : ℕ) → slice_index lasts word ≡ suc last → (core : ℕ) × IsStore log last core word
-  pub last : (word now : ℕ) → last_value now log word ≡ told_by log (slice_index lasts word) now
+  pub last : (word now : ℕ) → last_value now log word ≡ recorded_by log (slice_index lasts word) now
   pub within : (place core word : ℕ) → IsStore log place core word → slice_index befores place ≤ place
   pub before : (place core word now : ℕ) → IsStore log place core word →
-      last_value now (take place log) word ≡ told_by log (slice_index befores place) now
+      last_value now (take place log) word ≡ recorded_by log (slice_index befores place) now
 
 -- None of a core's stores before its low position waits.
 abbrev pub IsLow : List ℕ → List Entry → ℕ → ℕ → Type 0
@@ -116,7 +116,7 @@ IsLow since log core low = (place word : ℕ) → Waits since log place core wor
 
 pub record HoldsCaches (inside : Inside) : Type 0 where
   pub sound : AreSound inside.words inside.since.items inside.log.items inside.epochs.items
-  pub told : AreTold inside.words inside.lasts.items inside.log.items inside.befores.items
+  pub recorded : AreRecorded inside.words inside.lasts.items inside.log.items inside.befores.items
   pub lows : (core : ℕ) → core < vec_len inside.counts →
       IsLow inside.since.items inside.log.items core (slice_index inside.lows.items core)
   pub low_heights : (core : ℕ) → core < vec_len inside.counts → slice_index inside.lows.items core ≤ length inside.log.items

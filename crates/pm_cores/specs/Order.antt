@@ -22,7 +22,7 @@ pub record ComesAfter (log : List Entry) (earlier later : ℕ) : Type 0 where
   pub differ : its_core ≢ core
   pub use_place : ℕ
   pub used : IsUse log use_place its_core (line_at word)
-  pub behind : earlier < use_place
+  pub following : earlier < use_place
   pub before : use_place ≤ later
 
 abbrev pub HasGoneBack : Caches → ℕ → Type 0

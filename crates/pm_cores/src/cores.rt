@@ -7,12 +7,12 @@ ghost use Rattle.pm_cores.specs.Log.{core_barriers, line_at};
 ghost use Rattle.pm_cores.specs.Caches.{Caches, caches_over, memory_over, value_at, owner_at as owner_in, line_owner as line_owner_in, settled, ready_to_load, ready_to_store, after_load, after_store, after_barrier, stored, with_back, logged, IsDirtyUnder, IsOpenToLoad, IsOpenToStore, MayLeave, IsNeeded};
 ghost use Rattle.pm_cores.specs.Order.{IsCoherent, words_up_to, BacksTo};
 ghost use Rattle.pm_cores.specs.Choice.{dirty_epoch, cut_at};
-ghost use Rattle.pm_cores.specs.Inside.{told_by};
+ghost use Rattle.pm_cores.specs.Inside.{recorded_by};
 
 use super::entry::{Entry, Owner};
 use super::search::{
-    clean_words, first_waiting, line_owner, lowest_word, owner_at, push_flags, settle_words,
-    word_told,
+    clean_words, first_waiting, line_owner, lowest_word, owner_at, push_flags, recorded_word,
+    settle_words,
 };
 use pm_epochs::Choice;
 use pm_region::Region;
@@ -129,7 +129,7 @@ impl Cores {
         requires region { self.now.words ≡ length (R.memory region.now).base }
         ensures { result ≡ slice_index (memory_over (R.memory region.now).base self.now) i }
     {
-        word_told(&self.log, self.last_back(i), region, i)
+        recorded_word(&self.log, self.last_back(i), region, i)
     }
 
     /// States the invariant of the caches, which holds after any sequence of calls.
@@ -158,7 +158,7 @@ impl Cores {
         ensures value { result ≡ value_at (R.memory region.now).base self.old i }
         ensures after { self.new ≡ after_load self.old core i }
     {
-        let value = word_told(&self.log, self.last_store(i), region, i);
+        let value = recorded_word(&self.log, self.last_store(i), region, i);
         self.open_to_load(core, i);
         self.push_load(core, i);
         value
@@ -293,7 +293,7 @@ impl Cores {
     fn last_store(&self, i: u64) -> u32
         requires { i < self.now.words }
         ensures within { result ≤ length self.now.log }
-        ensures told { (base : List ℕ) → told_by self.now.log result (slice_index base i) ≡ value_at base self.now i }
+        ensures recorded { (base : List ℕ) → recorded_by self.now.log result (slice_index base i) ≡ value_at base self.now i }
     {
         self.lasts[i as usize]
     }
@@ -303,8 +303,8 @@ impl Cores {
     fn last_back(&self, i: u64) -> u32
         requires { i < self.now.words }
         ensures within { result ≤ length self.now.log }
-        ensures told { (base : List ℕ) → i < length base →
-            told_by self.now.log result (slice_index base i) ≡ slice_index (memory_over base self.now) i }
+        ensures recorded { (base : List ℕ) → i < length base →
+            recorded_by self.now.log result (slice_index base i) ≡ slice_index (memory_over base self.now) i }
     {
         let since = self.since[i as usize];
         if since == 0 {

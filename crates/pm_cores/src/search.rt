@@ -6,7 +6,7 @@ ghost use Rattle.pm_cores.specs.declared.entry.Entry.TheVariants.{Store};
 ghost use Rattle.pm_cores.specs.Log.{line_at, IsStore};
 ghost use Rattle.pm_cores.specs.Caches.{first_owner};
 ghost use Rattle.pm_cores.specs.Choice.{mask_to};
-ghost use Rattle.pm_cores.specs.Inside.{waits_at, owner_since, owners_of, flag_if, flags_of, since_after, AreSound, AreCounted, IsLow, Waits, told_by};
+ghost use Rattle.pm_cores.specs.Inside.{waits_at, owner_since, owners_of, flag_if, flags_of, since_after, AreSound, AreCounted, IsLow, Waits, recorded_by};
 
 use super::entry::{Entry, Owner};
 use pm_epochs::Choice;
@@ -59,10 +59,10 @@ pub fn line_owner(since: &[u32], log: &[Entry], epochs: &[u32], word: u64) -> Op
 
 /// Returns a word by the number of entries of the log up to a store: the value of that store, or the region's word at
 /// its last drain if the number is 0.
-pub fn word_told<R: Region>(log: &[Entry], number: u32, region: &R, word: u64) -> u64
+pub fn recorded_word<R: Region>(log: &[Entry], number: u32, region: &R, word: u64) -> u64
     requires in_log { number ≤ length log.now }
     requires in_region { word < length (R.memory region.now).base }
-    ensures { result ≡ told_by log.now number (slice_index (R.memory region.now).base word) }
+    ensures { result ≡ recorded_by log.now number (slice_index (R.memory region.now).base word) }
 {
     if number == 0 {
         return region.base_word(word);

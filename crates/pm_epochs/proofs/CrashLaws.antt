@@ -85,12 +85,12 @@ up_to_call_end-append (Store word value ∷ first) rest (suc count) low = ap (λ
 up_to_call_end-append (Barrier ∷ first) rest (suc count) low = ap (λ es. Barrier ∷ es) (up_to_call_end-append first rest (suc count) low)
 up_to_call_end-append (CallEnd ∷ first) rest (suc count) low = ap (λ es. CallEnd ∷ es) (up_to_call_end-append first rest count (omega arith))
 
-pub up_to_call_end_behind : (first rest : List Event) (count more : ℕ) → count ≡ call_ends first + suc more → up_to_call_end count (first ++ rest) ≡ first ++ up_to_call_end (suc more) rest
-up_to_call_end_behind first rest zero more e = absurd (omega arith)
-up_to_call_end_behind [] rest (suc count) more e = ap (λ n. up_to_call_end n rest) (let k : suc count ≡ suc more = omega arith in k)
-up_to_call_end_behind (Store word value ∷ first) rest (suc count) more e = ap (λ es. Store word value ∷ es) (up_to_call_end_behind first rest (suc count) more e)
-up_to_call_end_behind (Barrier ∷ first) rest (suc count) more e = ap (λ es. Barrier ∷ es) (up_to_call_end_behind first rest (suc count) more e)
-up_to_call_end_behind (CallEnd ∷ first) rest (suc count) more e = ap (λ es. CallEnd ∷ es) (up_to_call_end_behind first rest count more (omega arith))
+pub up_to_call_end_after : (first rest : List Event) (count more : ℕ) → count ≡ call_ends first + suc more → up_to_call_end count (first ++ rest) ≡ first ++ up_to_call_end (suc more) rest
+up_to_call_end_after first rest zero more e = absurd (omega arith)
+up_to_call_end_after [] rest (suc count) more e = ap (λ n. up_to_call_end n rest) (let k : suc count ≡ suc more = omega arith in k)
+up_to_call_end_after (Store word value ∷ first) rest (suc count) more e = ap (λ es. Store word value ∷ es) (up_to_call_end_after first rest (suc count) more e)
+up_to_call_end_after (Barrier ∷ first) rest (suc count) more e = ap (λ es. Barrier ∷ es) (up_to_call_end_after first rest (suc count) more e)
+up_to_call_end_after (CallEnd ∷ first) rest (suc count) more e = ap (λ es. CallEnd ∷ es) (up_to_call_end_after first rest count more (omega arith))
 
 -- ## What is right at each right cut is right for any epochs and mask, and the other way round
 
@@ -133,26 +133,26 @@ module _ (Same : Likeness) (trans : IsTransitive Same) where
       ])
 
   -- the calls of a log that goes on from a whole one
-  after_behind : (base : List ℕ) (first rest : List Event) → CrashRight Same base first → (image : List ℕ) (count : ℕ) → Same image (after_calls (words_after base first) rest count) → Same image (after_calls base (first ++ rest) (call_ends first + count))
-  after_behind base first rest right image zero same =
+  calls_after : (base : List ℕ) (first rest : List Event) → CrashRight Same base first → (image : List ℕ) (count : ℕ) → Same image (after_calls (words_after base first) rest count) → Same image (after_calls base (first ++ rest) (call_ends first + count))
+  calls_after base first rest right image zero same =
       let none : call_ends first + 0 ≡ call_ends first = omega arith in
       rw (none, up_to_call_end-append first rest (call_ends first) (omega arith)) (trans _ _ _ same (crash_right_whole Same base first right))
-  after_behind base first rest right image (suc count) same =
-      rw (up_to_call_end_behind first rest (call_ends first + suc count) count refl, words_after-append base first (up_to_call_end (suc count) rest)) same
+  calls_after base first rest right image (suc count) same =
+      rw (up_to_call_end_after first rest (call_ends first + suc count) count refl, words_after-append base first (up_to_call_end (suc count) rest)) same
 
   -- a log that is right goes on with one that is right from where it ends
   pub crash_right-append : (base : List ℕ) (first rest : List Event) → IsClosed first → CrashRight Same base first → CrashRight Same (words_after base first) rest → CrashRight Same base (first ++ rest)
   crash_right-append base first rest closed right right_rest = crash_right_from Same base (first ++ rest) (λ epoch mask.
       elim (joined first rest epoch mask closed) [
         | inl p ↦ rw (p.kept, p.calls, words_after_whole base first (stores_of p.new_epoch p.new_mask rest))
-            (after_behind base first rest right _ _ (crash_right_at Same (words_after base first) rest right_rest p.new_epoch p.new_mask))
+            (calls_after base first rest right _ _ (crash_right_at Same (words_after base first) rest right_rest p.new_epoch p.new_mask))
         | inr s ↦ rw (s.kept, s.calls, up_to_call_end-append first rest (call_ends_of epoch mask first) (call_ends_of-le first epoch mask))
             (crash_right_at Same base first right epoch mask)
       ])
 
 -- ## The commit
 
--- what is kept of a commit's store, behind its first barrier, and of the marker that ends the call
+-- what is kept of a commit's store, after its first barrier, and of the marker that ends the call
 commit_or_not : (epoch : ℕ) (mask : List Bool) (word value : ℕ) →
     ((stores_of epoch mask (Store word value ∷ Barrier ∷ CallEnd ∷ []) ≡ []) × (call_ends_of epoch mask (Store word value ∷ Barrier ∷ CallEnd ∷ []) ≡ 0))
     ⊎ ((stores_of epoch mask (Store word value ∷ Barrier ∷ CallEnd ∷ []) ≡ Store word value ∷ []) × (call_ends_of epoch mask (Store word value ∷ Barrier ∷ CallEnd ∷ []) ≡ 1))
@@ -185,7 +185,7 @@ module _ (Same : Likeness) (base : List ℕ) (events : List Event) (word value :
   after_one : call_ends events ≡ 0 → after_calls base (events ++ commit word value ++ CallEnd ∷ []) 1 ≡ words_after base (events ++ commit word value)
   after_one none =
       let one : 1 ≡ call_ends (events ++ commit word value) + 1 = omega (arith, call_ends-append events (commit word value)) in
-      rw (up_to_call_end_behind (events ++ commit word value) (CallEnd ∷ []) 1 0 one) (words_after-append base (events ++ commit word value) (CallEnd ∷ []))
+      rw (up_to_call_end_after (events ++ commit word value) (CallEnd ∷ []) 1 0 one) (words_after-append base (events ++ commit word value) (CallEnd ∷ []))
 
   abbrev call : List Event
   call = events ++ commit word value ++ CallEnd ∷ []
@@ -200,13 +200,13 @@ module _ (Same : Likeness) (base : List ℕ) (events : List Event) (word value :
   pub crash_right_commit : call_ends events ≡ 0 → IsQuiet Same base events → Same (words_after base (events ++ commit word value)) (words_after base (events ++ commit word value)) → CrashRight Same base (events ++ commit word value ++ CallEnd ∷ [])
   crash_right_commit none quiet same = crash_right_from Same base (events ++ commit word value ++ CallEnd ∷ []) (λ epoch mask.
       let first = events ++ Barrier ∷ [] in
-      let behind = Store word value ∷ Barrier ∷ CallEnd ∷ [] in
-      let parts : events ++ commit word value ++ CallEnd ∷ [] ≡ first ++ behind = simp append_assoc in
+      let following = Store word value ∷ Barrier ∷ CallEnd ∷ [] in
+      let parts : events ++ commit word value ++ CallEnd ∷ [] ≡ first ++ following = simp append_assoc in
       let no_call_end = no_call_ends none in
-      elim (joined first behind epoch mask (IsClosed-barrier events [] tt)) [
+      elim (joined first following epoch mask (IsClosed-barrier events [] tt)) [
         | inl p ↦
-            let calls : call_ends_of epoch mask (events ++ commit word value ++ CallEnd ∷ []) ≡ call_ends_of p.new_epoch p.new_mask behind = rw parts (omega (arith, p.calls, no_call_end)) in
-            let kept : (es : List Event) → stores_of p.new_epoch p.new_mask behind ≡ es → stores_of epoch mask (events ++ commit word value ++ CallEnd ∷ []) ≡ stores first ++ es =
+            let calls : call_ends_of epoch mask (events ++ commit word value ++ CallEnd ∷ []) ≡ call_ends_of p.new_epoch p.new_mask following = rw parts (omega (arith, p.calls, no_call_end)) in
+            let kept : (es : List Event) → stores_of p.new_epoch p.new_mask following ≡ es → stores_of epoch mask (events ++ commit word value ++ CallEnd ∷ []) ≡ stores first ++ es =
             λ es e. ap (stores_of epoch mask) parts ∙ p.kept ∙ ap (λ rest. stores first ++ rest) e in
             elim (commit_or_not p.new_epoch p.new_mask word value) [
               | inl c ↦ outcome epoch mask (stores first ++ []) 0 (kept [] c.0) (calls ∙ c.1)
@@ -216,7 +216,7 @@ module _ (Same : Likeness) (base : List ℕ) (events : List Event) (word value :
             ]
         | inr s ↦
             let low = call_ends_of-le first epoch mask in
-            let calls : call_ends_of epoch mask (first ++ behind) ≡ 0 = omega (arith, s.calls) in
+            let calls : call_ends_of epoch mask (first ++ following) ≡ 0 = omega (arith, s.calls) in
             outcome epoch mask (stores_of epoch mask events) 0
             (ap (stores_of epoch mask) parts ∙ s.kept ∙ stores_of-barrier events epoch mask)
             (ap (call_ends_of epoch mask) parts ∙ calls)
@@ -234,13 +234,13 @@ store_or_not (suc epoch) mask word value = inr refl
 pub quiet-commit : (Same : Likeness) (base : List ℕ) (events : List Event) (word value : ℕ) → IsQuiet Same base events → Same (words_after base (events ++ commit word value)) base → IsQuiet Same base (events ++ commit word value)
 quiet-commit Same base events word value quiet same = quiet_from Same base (events ++ commit word value) (λ epoch mask.
     let first = events ++ Barrier ∷ [] in
-    let behind = Store word value ∷ Barrier ∷ [] in
-    let parts : events ++ commit word value ≡ first ++ behind = simp append_assoc in
-    let at : (kept : List Event) → stores_of epoch mask (first ++ behind) ≡ kept → Same (words_after base kept) base → Same (words_after base (stores_of epoch mask (events ++ commit word value))) base =
+    let following = Store word value ∷ Barrier ∷ [] in
+    let parts : events ++ commit word value ≡ first ++ following = simp append_assoc in
+    let at : (kept : List Event) → stores_of epoch mask (first ++ following) ≡ kept → Same (words_after base kept) base → Same (words_after base (stores_of epoch mask (events ++ commit word value))) base =
     λ kept is like. rw (parts, is) like in
-    elim (joined first behind epoch mask (IsClosed-barrier events [] tt)) [
+    elim (joined first following epoch mask (IsClosed-barrier events [] tt)) [
       | inl p ↦
-          let kept : (es : List Event) → stores_of p.new_epoch p.new_mask behind ≡ es → stores_of epoch mask (first ++ behind) ≡ stores first ++ es =
+          let kept : (es : List Event) → stores_of p.new_epoch p.new_mask following ≡ es → stores_of epoch mask (first ++ following) ≡ stores first ++ es =
           λ es e. p.kept ∙ ap (λ rest. stores first ++ rest) e in
           elim (store_or_not p.new_epoch p.new_mask word value) [
             | inl none ↦ at (stores first ++ []) (kept [] none)
@@ -298,15 +298,15 @@ IsClosed-commit prepared word value =
     let tail : IsClosed (Store word value ∷ Barrier ∷ CallEnd ∷ []) = (omega arith, tt) in
     rw append_assoc (IsClosed-barrier prepared (Store word value ∷ Barrier ∷ CallEnd ∷ []) tail)
 
--- a replay of a front of a log is a replay of the log
-pub replay_of_front : (base : List ℕ) (front rest : List Event) (image : List ℕ) → IsReplay base front image → IsReplay base (front ++ rest) image
-replay_of_front base front rest image found =
+-- a replay of a prefix of a log is a replay of the log
+pub replay_of_prefix : (base : List ℕ) (prefix rest : List Event) (image : List ℕ) → IsReplay base prefix image → IsReplay base (prefix ++ rest) image
+replay_of_prefix base prefix rest image found =
     let moment = found.right.moment in
-    let same : take found.cut.moment (front ++ rest) ≡ take found.cut.moment front = rw take-append-le in
+    let same : take found.cut.moment (prefix ++ rest) ≡ take found.cut.moment prefix = rw take-append-le in
     record {
       cut = found.cut;
       right = record {
-        moment = omega (arith, moment, length-append front rest);
+        moment = omega (arith, moment, length-append prefix rest);
         epoch = rw same found.right.epoch;
         mask = rw same found.right.mask;
       };

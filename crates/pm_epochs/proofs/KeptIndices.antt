@@ -9,7 +9,7 @@ use Rattle.pm_epochs.specs.declared.event.Event.TheVariants.{Store, Barrier, Cal
 use Rattle.pm_epochs.specs.Log.{epoch_stores}
 use Rattle.pm_epochs.specs.Replay.{PowerCut, stores_of, kept_stores, is_store_at, epoch_of, place_in_epoch, is_back, is_kept, kept_indices, events_at}
 
--- the events at the indices that a test picks, counted from the list's front
+-- the events at the indices that a test picks, counted from the list's prefix
 picked : (ℕ → Bool) → List Event → List Event
 picked test [] = []
 picked test (event ∷ events) = cond (test 0) (event ∷ picked (λ i. test (suc i)) events) (picked (λ i. test (suc i)) events)
@@ -59,22 +59,22 @@ picked_before test (suc moment) (event ∷ events) =
     ∙ picked_before (λ i. test (suc i)) moment events in
     rw (here, rest) refl
 
--- ---- one event more at the front
+-- ---- one event more at the start
 
-behind_store_in_mask : (keep : Bool) (mask : List Bool) (epoch : ℕ) (events : List Event) (word value : ℕ) → is_back 0 (keep ∷ mask) epoch (epoch_stores epoch (Store word value ∷ events)) ≡ is_back 0 mask epoch (epoch_stores epoch events)
-behind_store_in_mask keep mask zero events word value = refl
-behind_store_in_mask keep mask (suc epoch) events word value = rw eqb-suc-zero refl
+after_store_in_mask : (keep : Bool) (mask : List Bool) (epoch : ℕ) (events : List Event) (word value : ℕ) → is_back 0 (keep ∷ mask) epoch (epoch_stores epoch (Store word value ∷ events)) ≡ is_back 0 mask epoch (epoch_stores epoch events)
+after_store_in_mask keep mask zero events word value = refl
+after_store_in_mask keep mask (suc epoch) events word value = rw eqb-suc-zero refl
 
-behind_early_store : (cut_epoch : ℕ) (mask : List Bool) (epoch : ℕ) (events : List Event) (word value : ℕ) → is_back (suc cut_epoch) mask epoch (epoch_stores epoch (Store word value ∷ events)) ≡ is_back (suc cut_epoch) mask epoch (epoch_stores epoch events)
-behind_early_store cut_epoch mask zero events word value = rw (leb-suc-suc, leb-zero) refl
-behind_early_store cut_epoch mask (suc epoch) events word value = refl
+after_early_store : (cut_epoch : ℕ) (mask : List Bool) (epoch : ℕ) (events : List Event) (word value : ℕ) → is_back (suc cut_epoch) mask epoch (epoch_stores epoch (Store word value ∷ events)) ≡ is_back (suc cut_epoch) mask epoch (epoch_stores epoch events)
+after_early_store cut_epoch mask zero events word value = rw (leb-suc-suc, leb-zero) refl
+after_early_store cut_epoch mask (suc epoch) events word value = refl
 
-behind_barrier : (cut_epoch : ℕ) (mask : List Bool) (epoch place : ℕ) → is_back (suc cut_epoch) mask (suc epoch) place ≡ is_back cut_epoch mask epoch place
-behind_barrier cut_epoch mask epoch place = rw (leb-suc-suc, eqb-suc-suc) refl
+after_barrier : (cut_epoch : ℕ) (mask : List Bool) (epoch place : ℕ) → is_back (suc cut_epoch) mask (suc epoch) place ≡ is_back cut_epoch mask epoch place
+after_barrier cut_epoch mask epoch place = rw (leb-suc-suc, eqb-suc-suc) refl
 
-behind_call_end : (cut_epoch : ℕ) (mask : List Bool) (epoch : ℕ) (events : List Event) → is_back cut_epoch mask epoch (epoch_stores epoch (CallEnd ∷ events)) ≡ is_back cut_epoch mask epoch (epoch_stores epoch events)
-behind_call_end cut_epoch mask zero events = refl
-behind_call_end cut_epoch mask (suc epoch) events = refl
+after_call_end : (cut_epoch : ℕ) (mask : List Bool) (epoch : ℕ) (events : List Event) → is_back cut_epoch mask epoch (epoch_stores epoch (CallEnd ∷ events)) ≡ is_back cut_epoch mask epoch (epoch_stores epoch events)
+after_call_end cut_epoch mask zero events = refl
+after_call_end cut_epoch mask (suc epoch) events = refl
 
 none_past : (mask : List Bool) (epoch place : ℕ) → is_back 0 mask (suc epoch) place ≡ false
 none_past mask epoch place = rw (leb-suc-zero, eqb-suc-zero) refl
@@ -97,15 +97,15 @@ none_stored : (events : List Event) (i : ℕ) → is_stored 0 [] events i ≡ fa
 unfolding is_stored
 none_stored events i = and_false (is_store_at events i) (is_back 0 [] (epoch_of events i) (place_in_epoch events i)) (none_in_mask (epoch_of events i) (place_in_epoch events i))
 
-none_behind_barrier : (mask : List Bool) (events : List Event) (i : ℕ) → is_stored 0 mask (Barrier ∷ events) i ≡ false
+none_after_barrier : (mask : List Bool) (events : List Event) (i : ℕ) → is_stored 0 mask (Barrier ∷ events) i ≡ false
 unfolding is_stored
-none_behind_barrier mask events zero = refl
-none_behind_barrier mask events (suc i) = and_false (is_store_at events i) (is_back 0 mask (suc (epoch_of events i)) (place_in_epoch events i)) (none_past mask (epoch_of events i) (place_in_epoch events i))
+none_after_barrier mask events zero = refl
+none_after_barrier mask events (suc i) = and_false (is_store_at events i) (is_back 0 mask (suc (epoch_of events i)) (place_in_epoch events i)) (none_past mask (epoch_of events i) (place_in_epoch events i))
 
--- the events picked behind the first one
-picked_behind : (epoch next : ℕ) (mask left : List Bool) (event : Event) (events : List Event) → ((i : ℕ) → is_back epoch mask (epoch_of (event ∷ events) (suc i)) (place_in_epoch (event ∷ events) (suc i)) ≡ is_back next left (epoch_of events i) (place_in_epoch events i)) → picked (is_stored next left events) events ≡ picked (λ i. is_stored epoch mask (event ∷ events) (suc i)) events
+-- the events picked after the first one
+picked_after : (epoch next : ℕ) (mask left : List Bool) (event : Event) (events : List Event) → ((i : ℕ) → is_back epoch mask (epoch_of (event ∷ events) (suc i)) (place_in_epoch (event ∷ events) (suc i)) ≡ is_back next left (epoch_of events i) (place_in_epoch events i)) → picked (is_stored next left events) events ≡ picked (λ i. is_stored epoch mask (event ∷ events) (suc i)) events
 unfolding is_stored
-picked_behind epoch next mask left event events same =
+picked_after epoch next mask left event events same =
     picked-same (is_stored next left events) (λ i. is_stored epoch mask (event ∷ events) (suc i)) events
     (λ i low. ap (λ b. is_store_at events i && b) (sym (same i)))
 
@@ -115,25 +115,25 @@ stores_picked epoch mask [] = refl
 stores_picked zero [] (Store word value ∷ events) = sym (picked-none (is_stored 0 [] (Store word value ∷ events)) (Store word value ∷ events) (none_stored (Store word value ∷ events)))
 stores_picked zero (true ∷ mask) (Store word value ∷ events) =
     ap (λ es. Store word value ∷ es) (stores_picked zero mask events
-    ∙ picked_behind 0 0 (true ∷ mask) mask (Store word value) events (λ i. behind_store_in_mask true mask (epoch_of events i) (take i events) word value))
+    ∙ picked_after 0 0 (true ∷ mask) mask (Store word value) events (λ i. after_store_in_mask true mask (epoch_of events i) (take i events) word value))
 stores_picked zero (false ∷ mask) (Store word value ∷ events) =
     stores_picked zero mask events
-    ∙ picked_behind 0 0 (false ∷ mask) mask (Store word value) events (λ i. behind_store_in_mask false mask (epoch_of events i) (take i events) word value)
+    ∙ picked_after 0 0 (false ∷ mask) mask (Store word value) events (λ i. after_store_in_mask false mask (epoch_of events i) (take i events) word value)
 stores_picked (suc epoch) mask (Store word value ∷ events) =
     rw (leb-suc-suc, leb-zero) (ap (λ es. Store word value ∷ es) (stores_picked (suc epoch) mask events
-    ∙ picked_behind (suc epoch) (suc epoch) mask mask (Store word value) events (λ i. behind_early_store epoch mask (epoch_of events i) (take i events) word value)))
-stores_picked zero mask (Barrier ∷ events) = sym (picked-none (is_stored 0 mask (Barrier ∷ events)) (Barrier ∷ events) (none_behind_barrier mask events))
+    ∙ picked_after (suc epoch) (suc epoch) mask mask (Store word value) events (λ i. after_early_store epoch mask (epoch_of events i) (take i events) word value)))
+stores_picked zero mask (Barrier ∷ events) = sym (picked-none (is_stored 0 mask (Barrier ∷ events)) (Barrier ∷ events) (none_after_barrier mask events))
 stores_picked (suc epoch) mask (Barrier ∷ events) =
     stores_picked epoch mask events
-    ∙ picked_behind (suc epoch) epoch mask mask Barrier events (λ i. behind_barrier epoch mask (epoch_of events i) (place_in_epoch events i))
+    ∙ picked_after (suc epoch) epoch mask mask Barrier events (λ i. after_barrier epoch mask (epoch_of events i) (place_in_epoch events i))
 stores_picked epoch mask (CallEnd ∷ events) =
     stores_picked epoch mask events
-    ∙ picked_behind epoch epoch mask mask CallEnd events (λ i. behind_call_end epoch mask (epoch_of events i) (take i events))
+    ∙ picked_after epoch epoch mask mask CallEnd events (λ i. after_call_end epoch mask (epoch_of events i) (take i events))
 
--- a front has the tests of the whole log
-stored_in_front : (epoch : ℕ) (mask : List Bool) (moment : ℕ) (events : List Event) (i : ℕ) → i < length (take moment events) → is_stored epoch mask (take moment events) i ≡ is_stored epoch mask events i
+-- a prefix has the tests of the whole log
+stored_in_prefix : (epoch : ℕ) (mask : List Bool) (moment : ℕ) (events : List Event) (i : ℕ) → i < length (take moment events) → is_stored epoch mask (take moment events) i ≡ is_stored epoch mask events i
 unfolding is_stored
-stored_in_front epoch mask moment events i low =
+stored_in_prefix epoch mask moment events i low =
     let short : i < moment = omega (arith, length-take moment events) in
     let before : take i (take moment events) ≡ take i events = take-take i moment events (omega arith) in
     rw (before, get_or-take moment events i CallEnd short) refl
@@ -144,9 +144,9 @@ none_more i = omega arith
 pub kept_at_indices : (events : List Event) (cut : PowerCut) → kept_stores events cut ≡ events_at events (kept_indices events cut)
 unfolding is_stored
 kept_at_indices events cut =
-    let front = take cut.moment events in
-    stores_picked cut.epoch cut.mask front
-    ∙ picked-same (is_stored cut.epoch cut.mask front) (is_stored cut.epoch cut.mask events) front (stored_in_front cut.epoch cut.mask cut.moment events)
+    let prefix = take cut.moment events in
+    stores_picked cut.epoch cut.mask prefix
+    ∙ picked-same (is_stored cut.epoch cut.mask prefix) (is_stored cut.epoch cut.mask events) prefix (stored_in_prefix cut.epoch cut.mask cut.moment events)
     ∙ sym (picked_before (is_stored cut.epoch cut.mask events) cut.moment events)
     ∙ sym (picked-same (λ i. is_kept events cut (0 + i)) (is_kept events cut) events (λ i low. ap (is_kept events cut) (none_more i)))
     ∙ sym (picked_at (slice_get events) (is_kept events cut) 0 events (λ i low. ap (slice_get events) (none_more i)))

@@ -78,22 +78,22 @@ pub StoresTo-append : (Inside : ℕ → Type 0) (first rest : List Event) → St
 StoresTo-append Inside [] rest found = inr found
 StoresTo-append Inside (Store word value ∷ first) rest found = elim found [
   | inl here ↦ inl (inl here)
-  | inr behind ↦ elim (StoresTo-append Inside first rest behind) [ inl front ↦ inl (inr front) | inr back ↦ inr back ]
+  | inr following ↦ elim (StoresTo-append Inside first rest following) [ inl prefix ↦ inl (inr prefix) | inr back ↦ inr back ]
 ]
 StoresTo-append Inside (Barrier ∷ first) rest found = StoresTo-append Inside first rest found
 StoresTo-append Inside (CallEnd ∷ first) rest found = StoresTo-append Inside first rest found
 
-pub StoresTo-front : (Inside : ℕ → Type 0) (first rest : List Event) → StoresTo Inside first → StoresTo Inside (first ++ rest)
-StoresTo-front Inside [] rest found = elim found [ ]
-StoresTo-front Inside (Store word value ∷ first) rest found = elim found [ inl here ↦ inl here | inr behind ↦ inr (StoresTo-front Inside first rest behind) ]
-StoresTo-front Inside (Barrier ∷ first) rest found = StoresTo-front Inside first rest found
-StoresTo-front Inside (CallEnd ∷ first) rest found = StoresTo-front Inside first rest found
+pub StoresTo-prefix : (Inside : ℕ → Type 0) (first rest : List Event) → StoresTo Inside first → StoresTo Inside (first ++ rest)
+StoresTo-prefix Inside [] rest found = elim found [ ]
+StoresTo-prefix Inside (Store word value ∷ first) rest found = elim found [ inl here ↦ inl here | inr following ↦ inr (StoresTo-prefix Inside first rest following) ]
+StoresTo-prefix Inside (Barrier ∷ first) rest found = StoresTo-prefix Inside first rest found
+StoresTo-prefix Inside (CallEnd ∷ first) rest found = StoresTo-prefix Inside first rest found
 
-pub StoresTo-behind : (Inside : ℕ → Type 0) (first rest : List Event) → StoresTo Inside rest → StoresTo Inside (first ++ rest)
-StoresTo-behind Inside [] rest found = found
-StoresTo-behind Inside (Store word value ∷ first) rest found = inr (StoresTo-behind Inside first rest found)
-StoresTo-behind Inside (Barrier ∷ first) rest found = StoresTo-behind Inside first rest found
-StoresTo-behind Inside (CallEnd ∷ first) rest found = StoresTo-behind Inside first rest found
+pub StoresTo-after : (Inside : ℕ → Type 0) (first rest : List Event) → StoresTo Inside rest → StoresTo Inside (first ++ rest)
+StoresTo-after Inside [] rest found = found
+StoresTo-after Inside (Store word value ∷ first) rest found = inr (StoresTo-after Inside first rest found)
+StoresTo-after Inside (Barrier ∷ first) rest found = StoresTo-after Inside first rest found
+StoresTo-after Inside (CallEnd ∷ first) rest found = StoresTo-after Inside first rest found
 
 -- each store of a log goes to a word to which it has a store
 pub StoresMay-IsStoredIn : (events : List Event) → StoresMay (AnyAt (IsStoredIn events)) events

@@ -85,7 +85,7 @@ pub fn call_without_store<L: Likeness>()
 {}
 
 /// States that what a crash may leave in the middle of a call, it may also leave at the end of the call.
-pub fn replays_of_a_front()
-    ensures { (base : List ℕ) (front rest : List Event) (image : List ℕ) → IsReplay base front image →
-        IsReplay base (front ++ rest) image }
+pub fn replays_of_a_prefix()
+    ensures { (base : List ℕ) (prefix rest : List Event) (image : List ℕ) → IsReplay base prefix image →
+        IsReplay base (prefix ++ rest) image }
 {}

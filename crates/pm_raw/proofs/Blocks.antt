@@ -1,7 +1,7 @@
 -- What the walks of the raw memory share. Assumes `Logic`.
 --     empty        a block's fields without bytes, as the machine holds them
 --     nowhere      nothing lies at null
---     emptied      a row of items, and the room behind them, is room for all: the items are forgotten
+--     emptied      a row of items, and the room after them, is room for all: the items are forgotten
 --     made_base, made_empty      the address of a block, and a value without bytes, are made of nothing
 --     side_by_side      three values make a tuple
 use mathlib.Core.Path.{◌≡◌, refl}
@@ -54,14 +54,14 @@ module _ (E : El) {M : Type 1} {𝓤 : Ura M} (𝓛 : Logic 𝓤) where
       qed 𝓛 (‵ (row (R E) full_share [] b o) ∷ ‵ (froom (ty_array (elτ E) rest) b (o + 0 * sz E)) ∷ []) ∵
       drop ! $ rewrite ! 0 (λ (n : ℕ). ‵ (froom (ty_array (elτ E) rest) b n)) here refl $ rewrite ! 0 (λ (n : ℕ). ‵ (froom (ty_array (elτ E) n) b o)) all refl $ done !
   emptied (item ∷ items) rest b o =
-      let behind : o + suc (length items) * sz E ≡ (o + sz E) + length items * sz E = next o (length items) (sz E) in
+      let suffix : o + suc (length items) * sz E ≡ (o + sz E) + length items * sz E = next o (length items) (sz E) in
       let all : suc (length items + rest) ≡ suc (length items) + rest = omega arith in
       qed 𝓛 ((‵ (part_at (R E) full_share item b o) ⊛ ‵ (row (R E) full_share items b (o + sz E))) ∷ ‵ (froom (ty_array (elτ E) rest) b (o + suc (length items) * sz E)) ∷ []) ∵
       split ! $
       use1 𝓛 (some (λ (v : Val). given (Good E v) (‵ (fat full_share (elτ E) b o v) ⊛ ‵ (el_own E item (v ∷ []))))) (el_out E 𝓛 full_share item b o) $
       pick ! (λ v. learn ! (λ _. split ! $ keep ! (0 ∷ 2 ∷ 3 ∷ []) $
       use1 𝓛 (‵ (froom (elτ E) b o)) (𝓛.laws.at_room (elτ E) b o v) $ move ! (2 ∷ []) $
-      rewrite ! 0 (λ (n : ℕ). ‵ (froom (ty_array (elτ E) rest) b n)) behind refl $ move ! (2 ∷ 0 ∷ []) $
+      rewrite ! 0 (λ (n : ℕ). ‵ (froom (ty_array (elτ E) rest) b n)) suffix refl $ move ! (2 ∷ 0 ∷ []) $
       use2 𝓛 (‵ (froom (ty_array (elτ E) (length items + rest)) b (o + sz E))) (emptied items rest b (o + sz E)) $ move ! (1 ∷ []) $
       use2 𝓛 (‵ (froom (ty_array (elτ E) (suc (length items + rest))) b o)) (𝓛.laws.room_cons (elτ E) (length items + rest) b o) $
       rewrite ! 0 (λ (n : ℕ). ‵ (froom (ty_array (elτ E) n) b o)) all refl $ done !))

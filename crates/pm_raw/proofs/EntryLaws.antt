@@ -67,7 +67,7 @@ row_signal word [] is one = absurd (omega arith)
 row_signal word (value ∷ []) is one = ap (λ w. event_of w value ∷ []) is
 row_signal word (value ∷ more ∷ values) is one = absurd (omega arith)
 
--- events behind a log
+-- events after a log
 pub log-pushed : (words values new_words new_values more_words more_values : List ℕ) → length values ≡ length words → new_words ≡ words ++ more_words → new_values ≡ values ++ more_values → events_of new_words new_values ≡ events_of words values ++ events_of more_words more_values
 log-pushed words values new_words new_values more_words more_values same words_are values_are =
     ap (λ ws. events_of ws new_values) words_are ∙ ap (events_of (words ++ more_words)) values_are

@@ -6,7 +6,7 @@ use Rattle.pm_epochs.specs.declared.event.Event.TheVariants.{Store, Barrier, Cal
 use Rattle.pm_epochs.specs.Log.{barriers, call_ends, words_after}
 use Rattle.pm_epochs.specs.Replay.{call_ends_of, stores_of}
 use Rattle.pm_region.specs.Epochs.{epoch_start}
-use Rattle.pm_region.proofs.EpochLaws.{epoch_start-front}
+use Rattle.pm_region.proofs.EpochLaws.{epoch_start-prefix}
 
 -- the stores of earlier epochs are all kept, and those from there on by the mask
 pub kept-from : (words : List ℕ) (epoch : ℕ) (mask : List Bool) (events : List Event) →
@@ -22,7 +22,7 @@ pub kept-cut : (base : List ℕ) (log : List Event) (moment epoch start : ℕ) (
     words_after (words_after base (take start log)) (stores_of 0 mask (drop start (take moment log))) ≡ words_after base (stores_of epoch mask (take moment log))
 kept-cut base log moment epoch start mask low begins begun =
     let taken = take moment log in
-    let same = begins ∙ sym (epoch_start-front moment epoch log begun) in
+    let same = begins ∙ sym (epoch_start-prefix moment epoch log begun) in
     ap (λ es. words_after (words_after base es) (stores_of 0 mask (drop start taken))) (sym (take-take start moment log low))
     ∙ ap (λ n. words_after (words_after base (take n taken)) (stores_of 0 mask (drop n taken))) same
     ∙ sym (kept-from base epoch mask taken)

@@ -1,4 +1,4 @@
--- Logs that are the same but for the values of their stores, as a log and its undo log.
+-- Logs that are the same except for the values of their stores, as a log and its undo log.
 use Rattle.std.proofs.Common.{◌≡◌, ℕ, zero, suc, ◌+◌, Bool, true, false, List, [], ◌∷◌, length, take, drop, get_or, Some, refl, sym, ◌∙◌, ap, arith, subst}
 use Rattle.std.specs.Prelude.{◌↔◌, option_map, slice_get}
 use Rattle.pm_epochs.specs.declared.event.Event.{Event}
@@ -86,11 +86,11 @@ take-erased zero events = refl
 take-erased (suc n) [] = refl
 take-erased (suc n) (event ∷ events) = ap (λ es. erased_event event ∷ es) (take-erased n events)
 
--- two logs that are the same but for the values of their stores
+-- two logs that are the same except for the values of their stores
 module _ (events others : List Event) (same : erased events ≡ erased others) where
   -- what is a function of the kinds alone
-  pub by-kinds : {A : Type 0} (told : List Event → A) → ((es : List Event) → told (erased es) ≡ told es) → told events ≡ told others
-  by-kinds told kinds = sym (kinds events) ∙ ap told same ∙ kinds others
+  pub by-kinds : {A : Type 0} (reported : List Event → A) → ((es : List Event) → reported (erased es) ≡ reported es) → reported events ≡ reported others
+  by-kinds reported kinds = sym (kinds events) ∙ ap reported same ∙ kinds others
 
   pub length-kinds : length events ≡ length others
   length-kinds = by-kinds length length-erased
@@ -116,13 +116,13 @@ module _ (events others : List Event) (same : erased events ≡ erased others) w
   pub take-kinds : (n : ℕ) → erased (take n events) ≡ erased (take n others)
   take-kinds n = take-erased n events ∙ ap (take n) same ∙ sym (take-erased n others)
 
-pub barriers-front-kinds : (n : ℕ) (events others : List Event) → erased events ≡ erased others → barriers (take n events) ≡ barriers (take n others)
-barriers-front-kinds n events others same = barriers-kinds (take n events) (take n others) (take-kinds events others same n)
+pub barriers-prefix-kinds : (n : ℕ) (events others : List Event) → erased events ≡ erased others → barriers (take n events) ≡ barriers (take n others)
+barriers-prefix-kinds n events others same = barriers-kinds (take n events) (take n others) (take-kinds events others same n)
 
 pub right-kinds : (events others : List Event) (cut : PowerCut) → erased events ≡ erased others → IsRight events cut → IsRight others cut
 right-kinds events others cut same right = record {
   moment = omega (arith, right.moment, length-kinds events others same);
-  epoch = omega (arith, right.epoch, barriers-front-kinds cut.moment events others same);
+  epoch = omega (arith, right.epoch, barriers-prefix-kinds cut.moment events others same);
   mask = omega (arith, right.mask, stores-kinds (take cut.moment events) (take cut.moment others) (take-kinds events others same cut.moment) cut.epoch);
 }
 
@@ -138,14 +138,14 @@ within-erased count (Store word value ∷ events) within = (within.0, within-era
 within-erased count (Barrier ∷ events) within = within-erased count events within
 within-erased count (CallEnd ∷ events) within = within-erased count events within
 
-within-told : (count : ℕ) (events : List Event) → AreWithin count (erased events) → AreWithin count events
-within-told count [] within = tt
-within-told count (Store word value ∷ events) within = (within.0, within-told count events within.1)
-within-told count (Barrier ∷ events) within = within-told count events within
-within-told count (CallEnd ∷ events) within = within-told count events within
+within-reported : (count : ℕ) (events : List Event) → AreWithin count (erased events) → AreWithin count events
+within-reported count [] within = tt
+within-reported count (Store word value ∷ events) within = (within.0, within-reported count events within.1)
+within-reported count (Barrier ∷ events) within = within-reported count events within
+within-reported count (CallEnd ∷ events) within = within-reported count events within
 
 pub within-kinds : (count : ℕ) (events others : List Event) → erased events ≡ erased others → AreWithin count events → AreWithin count others
-within-kinds count events others same within = within-told count others (subst (AreWithin count) same (within-erased count events within))
+within-kinds count events others same within = within-reported count others (subst (AreWithin count) same (within-erased count events within))
 
 follows-erased : (event next : Event) → Follows event next → Follows (erased_event event) (erased_event next)
 follows-erased (Store word value) (Store place other) follows = follows
@@ -154,16 +154,16 @@ follows-erased (Store word value) CallEnd follows = follows
 follows-erased Barrier next follows = follows
 follows-erased CallEnd next follows = follows
 
-follows-told : (event next : Event) → Follows (erased_event event) (erased_event next) → Follows event next
-follows-told (Store word value) (Store place other) follows = follows
-follows-told (Store word value) Barrier follows = follows
-follows-told (Store word value) CallEnd follows = follows
-follows-told Barrier next follows = follows
-follows-told CallEnd next follows = follows
+follows-reported : (event next : Event) → Follows (erased_event event) (erased_event next) → Follows event next
+follows-reported (Store word value) (Store place other) follows = follows
+follows-reported (Store word value) Barrier follows = follows
+follows-reported (Store word value) CallEnd follows = follows
+follows-reported Barrier next follows = follows
+follows-reported CallEnd next follows = follows
 
 follows-kinds : (event next other after : Event) → erased_event event ≡ erased_event other → erased_event next ≡ erased_event after → Follows event next → Follows other after
 follows-kinds event next other after event_is next_is follows =
-    follows-told other after (subst (λ e. Follows e (erased_event after)) event_is (subst (Follows (erased_event event)) next_is (follows-erased event next follows)))
+    follows-reported other after (subst (λ e. Follows e (erased_event after)) event_is (subst (Follows (erased_event event)) next_is (follows-erased event next follows)))
 
 -- what stands in the one log where an event stands in the other
 at-kinds : (events others : List Event) → erased events ≡ erased others → (i : ℕ) (other : Event) → slice_get others i ≡ Some other → (event : Event) × ((slice_get events i ≡ Some event) × (erased_event event ≡ erased_event other))
@@ -181,7 +181,7 @@ row-kinds events others first count same row i other after more here there =
     let next = at-kinds events others same (first + i + 1) after there in
     follows-kinds event.0 next.0 other after event.1.1 next.1.1 (row i event.0 next.0 more event.1.0 next.1.0)
 
--- an event is told by its kind and its value
+-- an event is stated by its kind and its value
 kind-of : (events : List Event) (i : ℕ) (kind : EventKind) → option_map event_kind (slice_get events i) ≡ Some kind → (event : Event) × ((slice_get events i ≡ Some event) × (event_kind event ≡ kind))
 kind-of [] i kind is = absurd cc
 kind-of (event ∷ events) zero kind is = (event, (refl, cc))
@@ -192,7 +192,7 @@ whole (Store word value) = refl
 whole Barrier = refl
 whole CallEnd = refl
 
-pub kind-told : (events : List Event) (i : ℕ) (kind : EventKind) → option_map event_kind (slice_get events i) ≡ Some kind → slice_get events i ≡ Some (event_of kind (value_at events i))
-kind-told events i kind is =
+pub kind-reported : (events : List Event) (i : ℕ) (kind : EventKind) → option_map event_kind (slice_get events i) ≡ Some kind → slice_get events i ≡ Some (event_of kind (value_at events i))
+kind-reported events i kind is =
     let found = kind-of events i kind is in
     kind_get events i found.0 kind found.1.0 (whole found.0 ∙ ap (λ k. event_of k (event_value found.0)) found.1.1)

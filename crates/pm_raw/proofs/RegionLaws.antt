@@ -1,4 +1,4 @@
--- Memories that are told by the words now and an undo log.
+-- Memories that are stated by the words now and an undo log.
 use Rattle.std.proofs.Common.{◌≡◌, ℕ, zero, suc, ◌+◌, ◌≤◌, List, [], ◌∷◌, ◌++◌, length, take, drop, set, refl, sym, ◌∙◌, ap, arith}
 use Rattle.std.specs.List.{range_with_len}
 use Rattle.std.proofs.lemmas.List.{append_assoc, drop-set-lt, length-append, length-drop, length-set, length-take-le, take-append-drop, take_more_set}
@@ -25,10 +25,10 @@ with_values-stores words [] first fits = with_values-none words first
 with_values-stores words (value ∷ values) first fits =
     let next = set words first value in
     let place : first + length (value ∷ values) ≡ (first + 1) + length values = omega arith in
-    let behind = drop ((first + 1) + length values) in
+    let suffix = drop ((first + 1) + length values) in
     ap (λ n. take first words ++ ((value ∷ values) ++ drop n words)) place
-    ∙ sym (append_assoc (take first words) (value ∷ []) (values ++ behind words))
-    ∙ ap (λ front. front ++ (values ++ behind words)) (sym (take_more_set words first value (omega arith)))
+    ∙ sym (append_assoc (take first words) (value ∷ []) (values ++ suffix words))
+    ∙ ap (λ prefix. prefix ++ (values ++ suffix words)) (sym (take_more_set words first value (omega arith)))
     ∙ ap (λ ws. take (first + 1) next ++ (values ++ ws)) (sym (drop-set-lt ((first + 1) + length values) words first value (omega arith)))
     ∙ with_values-stores next values (first + 1) (omega (arith, length-set words first value))
 
@@ -42,7 +42,7 @@ memory_from now undos capacity drains = memory_of (base_from now undos) (events_
 pub count-events : (now words saved : List ℕ) → length saved ≡ length words → length (events_from now (events_of words saved)) ≡ length words
 count-events now words saved counted = length-events now (events_of words saved) ∙ length_events words saved counted
 
--- events are done, and stand behind the undo log with what they replaced
+-- events are done, and stand after the undo log with what they replaced
 pub memory-pushed : (old : Memory) (now next : List ℕ) (undos new_undos more : List Event) (capacity new_capacity drains : ℕ) → memory_from now undos capacity drains ≡ old
     → next ≡ words_after now more → new_undos ≡ undos ++ undo_of now more → AreWithin (length now) more → new_capacity ≡ capacity → memory_from next new_undos new_capacity drains ≡ record old { events = old.events ++ more }
 memory-pushed old now next undos new_undos more capacity new_capacity drains is next_is undos_are within capacity_is =
@@ -51,7 +51,7 @@ memory-pushed old now next undos new_undos more capacity new_capacity drains is 
     ∙ ap (λ n. memory_of (base_from now undos) (events_from now undos ++ more) n drains) capacity_is
     ∙ ap (λ (m : Memory). record m { events = m.events ++ more }) is
 
--- ## What a consistent region tells
+-- ## What a consistent region reports
 
 -- how many words, events and places a memory has, by the parts of its region
 pub record HasSizes (region : Inside) (memory : Memory) : Type 0 where
@@ -60,7 +60,7 @@ pub record HasSizes (region : Inside) (memory : Memory) : Type 0 where
   pub capacity : memory.capacity ≡ region.entries.room
   pub undos : length (undos_of region) ≡ length region.entries.words
 
--- a consistent region tells them
+-- a consistent region reports them
 pub sizes : (region : Inside) (memory : Memory) → IsConsistent region → raw_memory region ≡ memory → HasSizes region memory
 sizes region memory step is = record {
   base = sym (ap (λ (m : Memory). length m.base) is) ∙ length-base region.current (undos_of region);
@@ -69,7 +69,7 @@ sizes region memory step is = record {
   undos = length_events region.entries.words region.entries.saved step.counted;
 }
 
--- the next region has events with these words and saved values behind those of the first one
+-- the next region has events with these words and saved values after those of the first one
 pub record IsPushed (region next : Inside) (words saved : List ℕ) : Type 0 where
   pub words_are : next.entries.words ≡ region.entries.words ++ words
   pub saved_are : next.entries.saved ≡ region.entries.saved ++ saved
@@ -80,7 +80,7 @@ pub record IsPushed (region next : Inside) (words saved : List ℕ) : Type 0 whe
   pub within : AreWithin (length region.current) (events_of words saved)
 
 module _ (region next : Inside) (words saved : List ℕ) (step : IsConsistent region) (pushed : IsPushed region next words saved) where
-  -- the undos of these events stand behind the others
+  -- the undos of these events stand after the others
   pub undos-pushed : undos_of next ≡ undos_of region ++ events_of words saved
   undos-pushed = log-pushed region.entries.words region.entries.saved _ _ words saved step.counted pushed.words_are pushed.saved_are
 
@@ -127,7 +127,7 @@ module _ (region next : Inside) (first : ℕ) (run : List ℕ) (step : IsConsist
       ap (λ n. events_of (range_with_len first n) olds) (sym length-olds)
       ∙ events_of-run first olds (omega (arith, stored.inside, step.few, length-olds))
 
-  -- so the run is pushed behind the other events
+  -- so the run is pushed after the other events
   run-pushed : IsPushed region next (range_with_len first (length run)) olds
   run-pushed =
       let many = length-range_with_len first (length run) in
@@ -142,7 +142,7 @@ module _ (region next : Inside) (first : ℕ) (run : List ℕ) (step : IsConsist
             (within-run (length region.current) first olds (omega (arith, stored.inside, length-olds)));
       }
 
-  -- and its undos stand behind theirs
+  -- and its undos stand after theirs
   undos-stored : undos_of next ≡ undos_of region ++ stores_from first olds
   undos-stored = undos-pushed region next (range_with_len first (length run)) olds step run-pushed ∙ ap (λ es. undos_of region ++ es) undos-run
 
@@ -189,7 +189,7 @@ consistent-emptied region next size step same cleared size_is barriers call_ends
       small = omega (arith, room, step.small);
     }
 
--- an undo log has the events of the memory but for the values of stores
+-- an undo log has the events of the memory except for the values of stores
 pub erased-log : (region : Inside) (memory : Memory) (log : List Event) → raw_memory region ≡ memory → log ≡ undos_of region
     → erased log ≡ erased memory.events
 erased-log region memory log is log_is =

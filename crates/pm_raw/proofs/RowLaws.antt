@@ -54,7 +54,7 @@ row-before words first len end some fits inside low row signal stores =
       stores = λ less. omega (arith, many, stores less);
     }
 
--- so many entries from one on, whose words are in a row
+-- as many entries from one on, whose words are in a row
 module _ (words saved : List ℕ) (counted : length saved ≡ length words) (from n first : ℕ) (fits : from + n ≤ length words) (row : take n (drop from words) ≡ range_with_len first n) where
   abbrev undos : List Event
   undos = events_of words saved
@@ -89,16 +89,16 @@ module _ (words saved : List ℕ) (counted : length saved ≡ length words) (fro
   pub row-patched : (news : List ℕ) → length news ≡ n → first + n ≤ no_word
       → events_of words (take from saved ++ (news ++ drop n (drop from saved))) ≡ take from (events_of words saved) ++ (stores_from first news ++ drop (from + n) (events_of words saved))
   row-patched news many low =
-      let front = take from words in
+      let prefix = take from words in
       let rest = drop n (drop from words) in
-      let old_front = take from saved in
+      let old_prefix = take from saved in
       let old_rest = drop n (drop from saved) in
-      let long_front : length old_front ≡ length front = length-take-le from saved (omega (arith, counted, fits)) ∙ sym (length-take-le from words (omega (arith, fits))) in
+      let long_prefix : length old_prefix ≡ length prefix = length-take-le from saved (omega (arith, counted, fits)) ∙ sym (length-take-le from words (omega (arith, fits))) in
       let long_row : length (take n (drop from words)) ≡ n = length-take-le n (drop from words) (omega (arith, length-drop from words, fits)) in
-      let whole : words ≡ front ++ (take n (drop from words) ++ rest) =
-      sym (ap (λ ws. front ++ ws) (take-append-drop n (drop from words)) ∙ take-append-drop from words) in
-      ap (λ ws. events_of ws (old_front ++ (news ++ old_rest))) whole
-      ∙ events_of-append front (take n (drop from words) ++ rest) old_front (news ++ old_rest) long_front
+      let whole : words ≡ prefix ++ (take n (drop from words) ++ rest) =
+      sym (ap (λ ws. prefix ++ ws) (take-append-drop n (drop from words)) ∙ take-append-drop from words) in
+      ap (λ ws. events_of ws (old_prefix ++ (news ++ old_rest))) whole
+      ∙ events_of-append prefix (take n (drop from words) ++ rest) old_prefix (news ++ old_rest) long_prefix
       ∙ ap (λ es. es ++ events_of (take n (drop from words) ++ rest) (news ++ old_rest)) (events_of-take from words saved)
       ∙ ap (λ es. take from undos ++ es) (
       events_of-append (take n (drop from words)) rest news old_rest (many ∙ sym long_row)
@@ -109,7 +109,7 @@ module _ (words saved : List ℕ) (counted : length saved ≡ length words) (fro
       ∙ ap (drop n) (events_of-drop from words saved counted)
       ∙ drop-drop n from undos))
 
--- a log is what stands before a row, the row and what stands behind it
+-- a log is what stands before a row, the row and what stands after it
 pub row-split : (from n end : ℕ) (events : List Event) → from + n ≡ end → take from events ++ (take n (drop from events) ++ drop end events) ≡ events
 row-split from n end events is =
     ap (λ k. take from events ++ (take n (drop from events) ++ drop k events)) (sym is)
@@ -151,8 +151,8 @@ module _ (now words : List ℕ) (undos log : List Event) (end : ℕ) (fits : end
     abbrev row : List Event
     row = take n (drop from undos)
 
-    front-same : take from log ≡ take from undos
-    front-same =
+    prefix-same : take from log ≡ take from undos
+    prefix-same =
         ap (take from) log_is
         ∙ take-append-le from (take end undos) rest (omega (arith, length-take-le end undos fits, low))
         ∙ take-take from end undos low
@@ -184,7 +184,7 @@ module _ (now words : List ℕ) (undos log : List Event) (end : ℕ) (fits : end
     pub log-unwound : (next : List Event) → next ≡ take from log ++ (events_from words (take (end - from) (drop from log)) ++ drop end log) → next ≡ take from undos ++ events_from now (drop from undos)
     log-unwound next next_is =
         next_is
-        ∙ ap (λ es. es ++ (events_from words (take n (drop from log)) ++ drop end log)) front-same
+        ∙ ap (λ es. es ++ (events_from words (take n (drop from log)) ++ drop end log)) prefix-same
         ∙ ap (λ es. take from undos ++ (events_from words es ++ drop end log)) row-same
         ∙ ap (λ es. take from undos ++ (events_from words row ++ es)) rest-same
         ∙ ap (λ ws. take from undos ++ (events_from ws row ++ rest)) words_are

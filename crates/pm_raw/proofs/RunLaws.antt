@@ -1,11 +1,11 @@
--- What the runs that code holds tell of one event.
+-- What the runs that code holds describe one event.
 use Rattle.std.proofs.Common.{◌≡◌, ℕ, ◌+◌, ◌-◌, ◌^◌, ◌<◌, ◌≤◌, List, length, get_or, sym, ◌∙◌, ap, arith}
 use Rattle.pm_raw.specs.RunWords.{AreRuns, Worded, words_from}
 use Rattle.pm_raw.specs.RunsRoom.{HasRuns, worded_of}
 use Rattle.pm_raw.specs.declared.runs.Runs.TheInside.{Inside}
 use Rattle.pm_raw.proofs.WordLaws.{length-words_from, runs-same, word-low, word-read, words-same}
 
--- the run of an event is found in these slices, and they tell these words
+-- the run of an event is found in these slices, and they report these words
 pub record IsFound (words firsts starts : List ℕ) (count event run : ℕ) : Type 0 where
   pub are : AreRuns firsts starts 0 count
   pub all : words_from firsts starts 0 count ≡ words
@@ -19,7 +19,7 @@ module _ (runs : Inside) (seen : Worded) (step : HasRuns runs) (is : worded_of r
   pub length-seen : length seen.words ≡ runs.count
   length-seen = sym (ap (λ (w : Worded). length w.words) is) ∙ length-words_from runs.firsts.items runs.starts.items 0 runs.count
 
-  -- slices of the two vectors tell the same, and the word of an event by its run
+  -- slices of the two vectors report the same, and the word of an event by its run
   pub found : (firsts starts : List ℕ) (event run : ℕ) → firsts ≡ runs.firsts.items → starts ≡ runs.starts.items → event < length seen.words
       → run < length starts → get_or starts run 0 ≤ event → (run + 1 < length starts → event < get_or starts (run + 1) 0)
       → IsFound seen.words firsts starts runs.count event run

@@ -24,11 +24,11 @@ length-spelled_words (suc k) bytes = ap suc (length-spelled_words k (drop 8 byte
 abbrev pub AreSmall : List ℕ → Type 0
 AreSmall bytes = (i : ℕ) → get_or bytes i 0 < 256
 
-small_front : (n : ℕ) (bytes : List ℕ) → AreSmall bytes → AreSmall (take n bytes)
-small_front zero bytes small i = lit< tt
-small_front (suc n) [] small i = lit< tt
-small_front (suc n) (b ∷ bytes) small zero = small 0
-small_front (suc n) (b ∷ bytes) small (suc i) = small_front n bytes (λ k. small (suc k)) i
+small_prefix : (n : ℕ) (bytes : List ℕ) → AreSmall bytes → AreSmall (take n bytes)
+small_prefix zero bytes small i = lit< tt
+small_prefix (suc n) [] small i = lit< tt
+small_prefix (suc n) (b ∷ bytes) small zero = small 0
+small_prefix (suc n) (b ∷ bytes) small (suc i) = small_prefix n bytes (λ k. small (suc k)) i
 
 small_rest : (n : ℕ) (bytes : List ℕ) → AreSmall bytes → AreSmall (drop n bytes)
 small_rest n bytes small i = rw (get_or-drop n bytes i 0) (small (n + i))
@@ -39,7 +39,7 @@ bytes_of_spelled zero bytes low small = refl
 bytes_of_spelled (suc k) bytes low small =
     let place : 8 * suc k ≡ 8 + 8 * k = omega arith in
     let eight : length (take 8 bytes) ≡ 8 = omega (arith, length-take 8 bytes) in
-    let first = bytes_word_of (take 8 bytes) eight (small_front 8 bytes small) in
+    let first = bytes_word_of (take 8 bytes) eight (small_prefix 8 bytes small) in
     let rest = bytes_of_spelled k (drop 8 bytes) (omega (arith, length-drop 8 bytes)) (small_rest 8 bytes small) in
     rw (place, take-add 8 (8 * k) bytes) (ap (λ l. l ++ flat_map word_bytes (spelled_words k (drop 8 bytes))) first ∙ ap (λ l. take 8 bytes ++ l) rest)
 

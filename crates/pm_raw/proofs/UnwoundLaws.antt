@@ -1,4 +1,4 @@
--- Logs that are told by the words now and an undo log.
+-- Logs that are stated by the words now and an undo log.
 use Rattle.std.proofs.Common.{◌≡◌, ℕ, zero, suc, ◌+◌, ◌-◌, ◌<◌, ◌≤◌, inl, inr, List, [], ◌∷◌, ◌++◌, length, take, drop, get_or, set, refl, sym, ◌∙◌, ap, arith}
 use Rattle.std.proofs.lemmas.Bool.Decides.{eqb_tells}
 use Rattle.std.proofs.lemmas.List.{drop_more, drop-set-lt, get_or-set_same, get_or-set_other, length-set, set-get_or, set-set}
@@ -40,22 +40,22 @@ events-append now (CallEnd ∷ first) rest = ap (λ es. CallEnd ∷ es) (events-
 redone : (words : List ℕ) (word saved : ℕ) → set (set words word saved) word (get_or words word 0) ≡ words
 redone words word saved = set-set words word saved (get_or words word 0) ∙ set-get_or words word 0
 
--- the words behind the first events are what is left where the others are undone
-pub words-front : (n : ℕ) (now : List ℕ) (undos : List Event) → words_after (base_from now undos) (take n (events_from now undos)) ≡ base_from now (drop n undos)
-words-front zero now undos = refl
-words-front (suc n) now [] = refl
-words-front (suc n) now (Store word saved ∷ undos) =
-    let behind = base_from now undos in
-    ap (λ ws. words_after ws (take n (events_from now undos))) (redone behind word saved) ∙ words-front n now undos
-words-front (suc n) now (Barrier ∷ undos) = words-front n now undos
-words-front (suc n) now (CallEnd ∷ undos) = words-front n now undos
+-- the words after the first events are what is left where the others are undone
+pub words-prefix : (n : ℕ) (now : List ℕ) (undos : List Event) → words_after (base_from now undos) (take n (events_from now undos)) ≡ base_from now (drop n undos)
+words-prefix zero now undos = refl
+words-prefix (suc n) now [] = refl
+words-prefix (suc n) now (Store word saved ∷ undos) =
+    let suffix = base_from now undos in
+    ap (λ ws. words_after ws (take n (events_from now undos))) (redone suffix word saved) ∙ words-prefix n now undos
+words-prefix (suc n) now (Barrier ∷ undos) = words-prefix n now undos
+words-prefix (suc n) now (CallEnd ∷ undos) = words-prefix n now undos
 
--- the words behind all events are those now
+-- the words after all events are those now
 pub words-now : (now : List ℕ) (undos : List Event) → words_after (base_from now undos) (events_from now undos) ≡ now
 words-now now [] = refl
 words-now now (Store word saved ∷ undos) =
-    let behind = base_from now undos in
-    ap (λ ws. words_after ws (events_from now undos)) (redone behind word saved) ∙ words-now now undos
+    let suffix = base_from now undos in
+    ap (λ ws. words_after ws (events_from now undos)) (redone suffix word saved) ∙ words-now now undos
 words-now now (Barrier ∷ undos) = words-now now undos
 words-now now (CallEnd ∷ undos) = words-now now undos
 
@@ -98,7 +98,7 @@ undo-run words (value ∷ values) first fits =
     ∙ ap (λ ws. stores_from (first + 1) (take (length values) ws)) (drop-set-lt (first + 1) words first value (omega arith)))
     ∙ sym (ap (λ ws. stores_from first (take (suc (length values)) ws)) (drop_more words first 0 (omega arith)))
 
--- events are done, and stand behind the undo log with what they replaced
+-- events are done, and stand after the undo log with what they replaced
 module _ (now next : List ℕ) (undos new_undos more : List Event) (next_is : next ≡ words_after now more) (undos_are : new_undos ≡ undos ++ undo_of now more) where
   pub base-pushed : base_from next new_undos ≡ base_from now undos
   base-pushed =
@@ -132,17 +132,17 @@ pub base-found : (now : List ℕ) (first : ℕ) (saved : List ℕ) (rest : List 
     → get_or (base_from now (stores_from first saved ++ rest)) word 0 ≡ get_or saved (word - first) 0
 base-found now first [] rest word low above under = absurd (omega arith)
 base-found now first (old ∷ saved) rest word low above under =
-    let behind = base_from now (stores_from (first + 1) saved ++ rest) in
-    let long : length behind ≡ length now = length-base now (stores_from (first + 1) saved ++ rest) in
+    let suffix = base_from now (stores_from (first + 1) saved ++ rest) in
+    let long : length suffix ≡ length now = length-base now (stores_from (first + 1) saved ++ rest) in
     elim (eqb_tells first word) [
       | inl same ↦
-          let front : word - first ≡ 0 = omega (arith, same.1) in
-          ap (λ place. get_or (set behind place old) word 0) same.1
-          ∙ get_or-set_same behind word old 0 (omega (arith, long))
-          ∙ sym (ap (λ i. get_or (old ∷ saved) i 0) front)
+          let prefix : word - first ≡ 0 = omega (arith, same.1) in
+          ap (λ place. get_or (set suffix place old) word 0) same.1
+          ∙ get_or-set_same suffix word old 0 (omega (arith, long))
+          ∙ sym (ap (λ i. get_or (old ∷ saved) i 0) prefix)
       | inr differ ↦
           let further : word - first ≡ suc (word - (first + 1)) = omega (arith, differ.1) in
-          get_or-set_other behind first word old 0 (λ e. differ.1 (sym e))
+          get_or-set_other suffix first word old 0 (λ e. differ.1 (sym e))
           ∙ base-found now (first + 1) saved rest word low (omega (arith, differ.1)) (omega arith)
           ∙ sym (ap (λ i. get_or (old ∷ saved) i 0) further)
     ]

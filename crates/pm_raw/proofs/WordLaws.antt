@@ -130,12 +130,12 @@ module _ (firsts starts : List ℕ) (at end : ℕ) (runs : AreRuns firsts starts
       let next : suc k ≡ k + 1 = omega arith in
       run_word_at-found k firsts starts i runs.same low (λ j below. begun_by k j i below low begun) (λ more. rw next (later (omega arith)))
 
-  pub words-behind : (k next n : ℕ) → k < length starts → get_or starts k 0 ≤ next → words_from (drop k firsts) (drop k starts) next n ≡ words_from firsts starts next n
-  words-behind k next n low begun =
+  pub words-suffix : (k next n : ℕ) → k < length starts → get_or starts k 0 ≤ next → words_from (drop k firsts) (drop k starts) next n ≡ words_from firsts starts next n
+  words-suffix k next n low begun =
       words_from-same (drop k firsts) (drop k starts) firsts starts next n (λ i above under. sym (run_word_at-drop k firsts starts i runs.same low (λ j below. begun_by k j i below low (omega arith))))
 
-  pub runs-behind : (k next : ℕ) → at ≤ next → next ≤ end → k < length starts → get_or starts k 0 ≤ next → (k + 1 < length starts → next < get_or starts (k + 1) 0) → AreRuns (drop k firsts) (drop k starts) next end
-  runs-behind k next above under low begun last =
+  pub runs-suffix : (k next : ℕ) → at ≤ next → next ≤ end → k < length starts → get_or starts k 0 ≤ next → (k + 1 < length starts → next < get_or starts (k + 1) 0) → AreRuns (drop k firsts) (drop k starts) next end
+  runs-suffix k next above under low begun last =
       let many = length-drop k starts in
       record {
         same = length-drop k firsts ∙ ap (λ n. n - k) runs.same ∙ sym many;
@@ -147,12 +147,12 @@ module _ (firsts starts : List ℕ) (at end : ℕ) (runs : AreRuns firsts starts
         fits = λ i low_i high_i. omega (arith, run_word_at-drop k firsts starts i runs.same low (λ j below. begun_by k j i below low (omega arith)), runs.fits i (omega arith) high_i);
       }
 
-  pub words-front : (k n : ℕ) → (0 < n → 0 < k) → (0 < n → k < length starts → at + n ≤ get_or starts k 0) → words_from (take k firsts) (take k starts) at n ≡ words_from firsts starts at n
-  words-front k n some later =
+  pub words-prefix : (k n : ℕ) → (0 < n → 0 < k) → (0 < n → k < length starts → at + n ≤ get_or starts k 0) → words_from (take k firsts) (take k starts) at n ≡ words_from firsts starts at n
+  words-prefix k n some later =
       words_from-same (take k firsts) (take k starts) firsts starts at n (λ i above under. run_word_at-take k firsts starts i (some (omega arith)) (λ more. omega (arith, later (omega arith) more)))
 
-  pub runs-front : (k last : ℕ) → at ≤ last → last ≤ end → k ≤ length starts → (at < last → 0 < k) → ((i : ℕ) → i < k → get_or starts i 0 < last) → (at < last → k < length starts → last ≤ get_or starts k 0) → AreRuns (take k firsts) (take k starts) at last
-  runs-front k last above under within some taken later =
+  pub runs-prefix : (k last : ℕ) → at ≤ last → last ≤ end → k ≤ length starts → (at < last → 0 < k) → ((i : ℕ) → i < k → get_or starts i 0 < last) → (at < last → k < length starts → last ≤ get_or starts k 0) → AreRuns (take k firsts) (take k starts) at last
+  runs-prefix k last above under within some taken later =
       let many = length-take-le k starts within in
       record {
         same = length-take-le k firsts (omega (arith, runs.same)) ∙ sym many;
@@ -177,7 +177,7 @@ module _ (firsts starts : List ℕ) (count : ℕ) (runs : AreRuns firsts starts 
   pub word-low : get_or firsts run 0 + (i - get_or starts run 0) < 2 ^ 41
   word-low = omega (arith, word_in firsts starts 0 count runs run i inside begun last, runs.fits i (omega arith) low)
 
--- ## Words behind others
+-- ## Words after others
 
 module _ (firsts starts : List ℕ) (count first n : ℕ) (runs : AreRuns firsts starts 0 count) (fits : first + n ≤ 2 ^ 41) where
   -- a run more
@@ -287,7 +287,7 @@ module _ (firsts starts : List ℕ) (count first n : ℕ) (runs : AreRuns firsts
       ];
     }
 
--- ---- how far a run goes on behind one of its events
+-- ---- how far a run goes on after one of its events
 
 pub record IsRowEnd (starts : List ℕ) (count run i end : ℕ) : Type 0 where
   pub past : i < end

@@ -31,9 +31,9 @@ is_call_end Barrier = false
 is_call_end CallEnd = true
 
 -- The start of an epoch in a log with barriers at these positions: after the barrier before it.
-abbrev pub start_behind : List ℕ → ℕ → ℕ
-start_behind places zero = 0
-start_behind places (suc epoch) = suc (slice_index places epoch)
+abbrev pub start_after : List ℕ → ℕ → ℕ
+start_after places zero = 0
+start_after places (suc epoch) = suc (slice_index places epoch)
 
 -- The number of these numbers that are less than the bound.
 abbrev pub count_below : ℕ → List ℕ → ℕ

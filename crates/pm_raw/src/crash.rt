@@ -6,7 +6,7 @@ ghost use Rattle.pm_epochs.specs.Replay.{IsRight, kept_calls as kept_calls_of, c
 ghost use Rattle.pm_region.specs.Epochs.{epoch_start};
 ghost use Rattle.pm_region.specs.Memory.{stores_from};
 ghost use Rattle.pm_raw.specs.Pieces.{all_kept, keeps};
-ghost use Rattle.pm_raw.specs.Places.{is_barrier, is_call_end, places_where, start_behind};
+ghost use Rattle.pm_raw.specs.Places.{is_barrier, is_call_end, places_where, start_after};
 
 use super::log::{Log, Piece};
 use super::places::Places;
@@ -79,8 +79,8 @@ fn calls_of(log: Log<'_>, mask: &[bool]) -> usize
 /// Returns the index of an epoch's first event, in a log with these barriers.
 pub fn start_of_epoch(barrier_places: &Places, epoch: usize) -> usize
     requires begun { epoch ≤ length barrier_places.now.items }
-    requires small { start_behind barrier_places.now.items epoch < 2 ^ 64 }
-    ensures { result ≡ start_behind barrier_places.now.items epoch }
+    requires small { start_after barrier_places.now.items epoch < 2 ^ 64 }
+    ensures { result ≡ start_after barrier_places.now.items epoch }
 {
     if epoch == 0 {
         0
@@ -106,7 +106,7 @@ pub fn start_of(log: &Log<'_>, barrier_places: &Places, choice: &Choice) -> Resu
         return Err(BadChoice);
     }
     let start = start_of_epoch(barrier_places, epoch);
-    if choice.mask().len() > first_stores(log.front(moment).behind(start)) {
+    if choice.mask().len() > first_stores(log.prefix(moment).suffix(start)) {
         return Err(BadChoice);
     }
     Ok(start)
@@ -122,7 +122,7 @@ pub fn kept_calls(log: &Log<'_>, call_end_places: &Places, start: usize, choice:
     ensures of { result.n ≡ call_ends log.now }
 {
     Kept {
-        c: call_end_places.before(start) + calls_of(log.behind(start), choice.mask()),
+        c: call_end_places.before(start) + calls_of(log.suffix(start), choice.mask()),
         n: call_end_places.len(),
     }
 }

@@ -138,7 +138,7 @@ impl<'a> Log<'a> {
     }
 
     /// Returns the first `wanted` events.
-    pub fn front(&self, wanted: usize) -> Log<'a>
+    pub fn prefix(&self, wanted: usize) -> Log<'a>
         requires { wanted ≤ length self.now }
         ensures { result ≡ take wanted self.now }
     {
@@ -160,7 +160,7 @@ impl<'a> Log<'a> {
     }
 
     /// Returns the events after the first `first` ones.
-    pub fn behind(&self, first: usize) -> Log<'a>
+    pub fn suffix(&self, first: usize) -> Log<'a>
         requires { first ≤ length self.now }
         ensures { result ≡ drop first self.now }
     {

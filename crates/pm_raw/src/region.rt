@@ -191,7 +191,7 @@ impl Region for RawRegion {
     fn word_at(&self, moment: usize, word: u64) -> u64 {
         word_before(
             self.current.as_slice(),
-            self.entries.log().behind(moment),
+            self.entries.log().suffix(moment),
             word,
         )
     }
@@ -217,7 +217,7 @@ impl Region for RawRegion {
         let log = self.entries.log();
         apply_first(
             self.current.as_mut_slice(),
-            log.front(choice.moment()).behind(start),
+            log.prefix(choice.moment()).suffix(start),
             choice.mask(),
         );
         self.entries.clear();

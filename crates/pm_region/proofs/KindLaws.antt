@@ -1,4 +1,4 @@
--- What the kind of an event of a log tells of it, and where a log of kinds has its values.
+-- What the kind of an event of a log describes it, and where a log of kinds has its values.
 use Rattle.std.proofs.Common.{◌≡◌, ℕ, zero, suc, ◌+◌, ◌<◌, Some, List, [], ◌∷◌, length, take, set, get_or, sym, ◌∙◌, ap, subst, arith, add-one, get_or-set_same}
 use Rattle.std.specs.List.{slice_get}
 use Rattle.std.proofs.lemmas.List.{length-set}
@@ -42,11 +42,11 @@ stored base (Store place other ∷ events) (suc i) word value is low = stored (s
 stored base (Barrier ∷ events) (suc i) word value is low = stored base events i word value is low
 stored base (CallEnd ∷ events) (suc i) word value is low = stored base events i word value is low
 
--- behind a store its word has its value
+-- after a store its word has its value
 pub word_stored : (base : List ℕ) (events : List Event) (i word value : ℕ) → slice_get events i ≡ Some (Store word value) → word < length base → get_or (words_after base (take (i + 1) events)) word 0 ≡ value
 word_stored base events i word value is low = rw add-one (stored base events i word value is low)
 
--- so the event is told by its kind and that word
+-- so the event is stated by its kind and that word
 pub stored_event : (base : List ℕ) (events : List Event) (i word value : ℕ) → AreWithin (length base) events → slice_get events i ≡ Some (Store word (value_at events i)) → value ≡ get_or (words_after base (take (i + 1) events)) word 0 → slice_get events i ≡ Some (Store word value)
 stored_event base events i word value within is read =
     let low = within_at (length base) events i word (value_at events i) within is in

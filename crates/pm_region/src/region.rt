@@ -41,7 +41,7 @@ pub trait Region {
     /// Returns the `count` words from `first` on, as the processor sees them. They are past the first `HEAD_WORDS`
     /// words, which are read by `load`.
     fn load_words(&self, first: u64, count: usize) -> &[u64]
-        requires behind_head { HEAD_WORDS ≤ first }
+        requires after_head { HEAD_WORDS ≤ first }
         requires in_range { first + count ≤ length (memory self.now).base }
         ensures { result.now ≡ slice_range (current_words (memory self.now)) first (first + count) };
 

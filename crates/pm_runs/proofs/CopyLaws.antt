@@ -15,21 +15,21 @@ module _ (words : List ℕ) (first : ℕ) where
   -- one more value
   with_values-more : (values : List ℕ) (value : ℕ) → first + length values < length words → set (with_values words first values) (first + length values) value ≡ with_values words first (values ++ value ∷ [])
   with_values-more values value low =
-      let front = take first words in
+      let prefix = take first words in
       let place = first + length values in
-      let before = front ++ values in
-      let long : length before ≡ place = omega (arith, length-append front values, length-take-le first words (omega arith)) in
+      let before = prefix ++ values in
+      let long : length before ≡ place = omega (arith, length-append prefix values, length-take-le first words (omega arith)) in
       let none : place - place ≡ 0 = omega arith in
       let next : first + length (values ++ value ∷ []) ≡ place + 1 = omega (arith, length-append values (value ∷ [])) in
-      ap (λ ws. set ws place value) (sym (append_assoc front values (drop place words)))
+      ap (λ ws. set ws place value) (sym (append_assoc prefix values (drop place words)))
       ∙ set-append_right before (drop place words) place place value long (omega arith)
       ∙ ap (λ k. before ++ set (drop place words) k value) none
       ∙ ap (λ ws. before ++ set ws 0 value) (drop_more words place 0 low)
-      ∙ append_assoc front values (value ∷ drop (place + 1) words)
-      ∙ ap (λ ws. front ++ ws) (sym (append_assoc values (value ∷ []) (drop (place + 1) words)))
-      ∙ ap (λ k. front ++ ((values ++ value ∷ []) ++ drop k words)) (sym next)
+      ∙ append_assoc prefix values (value ∷ drop (place + 1) words)
+      ∙ ap (λ ws. prefix ++ ws) (sym (append_assoc values (value ∷ []) (drop (place + 1) words)))
+      ∙ ap (λ k. prefix ++ ((values ++ value ∷ []) ++ drop k words)) (sym next)
 
--- the stores of some events, and of those behind them
+-- the stores of some events, and of those after them
 within-append : (count : ℕ) (xs ys : List Event) → AreWithin count (xs ++ ys) → AreWithin count xs × AreWithin count ys
 within-append count [] ys within = (tt, within)
 within-append count (Store word value ∷ xs) ys within =
@@ -44,27 +44,27 @@ within-run count word (value ∷ values) within zero low = omega (arith, within.
 within-run count word (value ∷ values) within (suc i) low = omega (arith, within-run count (word + 1) values within.1 i (omega arith))
 
 module _ (words : List ℕ) (word : ℕ) (values : List ℕ) (low : (i : ℕ) → i < length values → word + i < length words) where
-  copied-front : (i : ℕ) → i ≤ length values → words_after words (stores_from word (take i values)) ≡ with_values words word (take i values)
-  copied-front zero fits = sym (with_values-none words word)
-  copied-front (suc i) fits =
+  copied-prefix : (i : ℕ) → i ≤ length values → words_after words (stores_from word (take i values)) ≡ with_values words word (take i values)
+  copied-prefix zero fits = sym (with_values-none words word)
+  copied-prefix (suc i) fits =
       let value = get_or values i 0 in
-      let front = take i values in
-      let long : length front ≡ i = length-take-le i values (omega arith) in
-      let more : take (suc i) values ≡ front ++ value ∷ [] = subst (λ n. take n values ≡ front ++ value ∷ []) (add-one i) (take_more values i 0 (omega arith)) in
-      let place : word + length front ≡ word + i = omega (arith, long) in
-      let stores : stores_from word (take (suc i) values) ≡ stores_from word front ++ Store (word + i) value ∷ [] =
-      subst (λ n. stores_from word (take n values) ≡ stores_from word front ++ Store (word + i) value ∷ []) (add-one i) (stores_from-more word values i (omega arith)) in
+      let prefix = take i values in
+      let long : length prefix ≡ i = length-take-le i values (omega arith) in
+      let more : take (suc i) values ≡ prefix ++ value ∷ [] = subst (λ n. take n values ≡ prefix ++ value ∷ []) (add-one i) (take_more values i 0 (omega arith)) in
+      let place : word + length prefix ≡ word + i = omega (arith, long) in
+      let stores : stores_from word (take (suc i) values) ≡ stores_from word prefix ++ Store (word + i) value ∷ [] =
+      subst (λ n. stores_from word (take n values) ≡ stores_from word prefix ++ Store (word + i) value ∷ []) (add-one i) (stores_from-more word values i (omega arith)) in
       ap (words_after words) stores
-      ∙ words_after-append words (stores_from word front) (Store (word + i) value ∷ [])
-      ∙ ap (λ ws. set ws (word + i) value) (copied-front i (omega arith))
-      ∙ ap (λ k. set (with_values words word front) k value) (sym place)
-      ∙ with_values-more words word front value (omega (arith, long, low i (omega arith)))
+      ∙ words_after-append words (stores_from word prefix) (Store (word + i) value ∷ [])
+      ∙ ap (λ ws. set ws (word + i) value) (copied-prefix i (omega arith))
+      ∙ ap (λ k. set (with_values words word prefix) k value) (sym place)
+      ∙ with_values-more words word prefix value (omega (arith, long, low i (omega arith)))
       ∙ ap (with_values words word) (sym more)
 
   copied-stores : words_after words (stores_from word values) ≡ with_values words word values
   copied-stores =
       let all : take (length values) values ≡ values = take_all (length values) values (omega arith) in
-      subst (λ vs. words_after words (stores_from word vs) ≡ with_values words word vs) all (copied-front (length values) (omega arith))
+      subst (λ vs. words_after words (stores_from word vs) ≡ with_values words word vs) all (copied-prefix (length values) (omega arith))
 
 pub copied-runs : (words : List ℕ) (runs : List (Run × List ℕ)) → AreWithin (length words) (runs_events runs) → copied words runs ≡ words_after words (runs_events runs)
 copied-runs words [] within = refl

@@ -8,7 +8,7 @@ use Rattle.pm_epochs.specs.declared.event.Event.{Event}
 use Rattle.pm_epochs.specs.declared.event.Event.TheVariants.{Store, Barrier, CallEnd}
 use Rattle.pm_epochs.specs.Kind.{event_value, value_at}
 use Rattle.pm_region.specs.Memory.{AreInRow, Follows, stores_from}
-use Rattle.pm_runs.specs.Runs.{TellsRun}
+use Rattle.pm_runs.specs.Runs.{ReportsRun}
 use Rattle.pm_runs.specs.declared.pieces.Run.TheVariants as run
 
 -- ## One event more
@@ -20,14 +20,14 @@ events-more events first i event low is =
     take_more (drop first events) i event (omega (arith, length-drop first events))
     ∙ ap (λ e. take i (drop first events) ++ e ∷ []) (get_or-drop first events i event ∙ sym is)
 
--- the values behind it are as they were
+-- the values after it are as they were
 pub rest-more : {X : Type 0} (old values : List X) (i : ℕ) (value : X) → drop i values ≡ drop i old → drop (i + 1) (set values i value) ≡ drop (i + 1) old
 rest-more old values i value same =
     drop-set-lt (i + 1) values i value (omega arith) ∙ sym (drop-drop 1 i values) ∙ ap (drop 1) same ∙ drop-drop 1 i old
 
 -- ## Stores in a row
 
--- of so many first events each but the first is a store to the word behind that of the one before it
+-- of as many first events each but the first is a store to the word after that of the one before it
 abbrev AreNext : List Event → ℕ → Type 0
 AreNext events count = (i : ℕ) (event next : Event) → suc i < count → slice_get events i ≡ Some event → slice_get events (suc i) ≡ Some next → Follows event next
 
@@ -46,17 +46,17 @@ row-drop events first count row i event next low at after =
     (sym (get-drop events first i) ∙ at)
     (ap (slice_get events) place ∙ sym (get-drop events first (suc i)) ∙ after)
 
--- those behind a store
-stores-behind : (word value count : ℕ) (events : List Event) → count ≤ length events → AreNext (Store word value ∷ events) (suc count) → take count events ≡ stores_from (word + 1) (take count (map event_value events))
-stores-behind word value zero events fits row = refl
-stores-behind word value (suc count) [] fits row = absurd (omega arith)
-stores-behind word value (suc count) (Store next other ∷ events) fits row =
+-- those after a store
+stores-following : (word value count : ℕ) (events : List Event) → count ≤ length events → AreNext (Store word value ∷ events) (suc count) → take count events ≡ stores_from (word + 1) (take count (map event_value events))
+stores-following word value zero events fits row = refl
+stores-following word value (suc count) [] fits row = absurd (omega arith)
+stores-following word value (suc count) (Store next other ∷ events) fits row =
     let follows : next ≡ word + 1 = row 0 (Store word value) (Store next other) (omega arith) refl refl in
-    let rest = stores-behind next other count events (omega arith) (λ i event after low here there. row (suc i) event after (omega arith) here there) in
+    let rest = stores-following next other count events (omega arith) (λ i event after low here there. row (suc i) event after (omega arith) here there) in
     ap (λ w. Store w other ∷ take count events) follows
     ∙ ap (λ es. Store (word + 1) other ∷ es) (rest ∙ ap (λ w. stores_from (w + 1) (take count (map event_value events))) follows)
-stores-behind word value (suc count) (Barrier ∷ events) fits row = absurd (row 0 (Store word value) Barrier (omega arith) refl refl)
-stores-behind word value (suc count) (CallEnd ∷ events) fits row = absurd (row 0 (Store word value) CallEnd (omega arith) refl refl)
+stores-following word value (suc count) (Barrier ∷ events) fits row = absurd (row 0 (Store word value) Barrier (omega arith) refl refl)
+stores-following word value (suc count) (CallEnd ∷ events) fits row = absurd (row 0 (Store word value) CallEnd (omega arith) refl refl)
 
 stores-first : (word value count : ℕ) (events : List Event) → slice_get events 0 ≡ Some (Store word value) → count ≤ length events → AreNext events count → take count events ≡ stores_from word (take count (map event_value events))
 stores-first word value zero events is fits row = refl
@@ -64,11 +64,11 @@ stores-first word value (suc count) [] is fits row = absurd (omega arith)
 stores-first word value (suc count) (Store place other ∷ events) is fits row =
     let same : place ≡ word = cc in
     ap (λ w. Store w other ∷ take count events) same
-    ∙ ap (λ es. Store word other ∷ es) (stores-behind place other count events (omega arith) row ∙ ap (λ w. stores_from (w + 1) (take count (map event_value events))) same)
+    ∙ ap (λ es. Store word other ∷ es) (stores-following place other count events (omega arith) row ∙ ap (λ w. stores_from (w + 1) (take count (map event_value events))) same)
 stores-first word value (suc count) (Barrier ∷ events) is fits row = cc
 stores-first word value (suc count) (CallEnd ∷ events) is fits row = cc
 
--- so many events from one on are the stores of their values to words in a row
+-- as many events from one on are the stores of their values to words in a row
 pub row-stores : (events : List Event) (first count word value : ℕ) → slice_get events first ≡ Some (Store word value) → first + count ≤ length events → AreInRow events first count
     → take count (drop first events) ≡ stores_from word (take count (drop first (map event_value events)))
 row-stores events first count word value is fits row =
@@ -77,31 +77,31 @@ row-stores events first count word value is fits row =
     ∙ ap (λ vs. stores_from word (take count vs)) (sym (drop-map event_value first events))
 
 -- fewer of them are in a row too
-pub row-front : (events : List Event) (first len count : ℕ) → count ≤ len → AreInRow events first len → AreInRow events first count
-row-front events first len count fits row i event next low at after = row i event next (omega arith) at after
+pub row-prefix : (events : List Event) (first len count : ℕ) → count ≤ len → AreInRow events first len → AreInRow events first count
+row-prefix events first len count fits row i event next low at after = row i event next (omega arith) at after
 
--- a run of a log, whose values are copied in front of these
-pub told-row : (events : List Event) (first len count word : ℕ) (old values new : List ℕ) → slice_get events first ≡ Some (Store word (value_at events first)) → 0 < len → first + len ≤ length events → AreInRow events first len
-    → values ≡ take len (drop first (map event_value events)) → count ≡ min (length values) (length old) → new ≡ take count values ++ drop count old → TellsRun events first old (run.Stores word count) new
-told-row events first len count word old values new is some fits row values_are count_is copied =
+-- a run of a log, whose values are copied before these
+pub reported-row : (events : List Event) (first len count word : ℕ) (old values new : List ℕ) → slice_get events first ≡ Some (Store word (value_at events first)) → 0 < len → first + len ≤ length events → AreInRow events first len
+    → values ≡ take len (drop first (map event_value events)) → count ≡ min (length values) (length old) → new ≡ take count values ++ drop count old → ReportsRun events first old (run.Stores word count) new
+reported-row events first len count word old values new is some fits row values_are count_is copied =
     let brought = drop first (map event_value events) in
     let long : length values ≡ len = ap length values_are ∙ length-take-le len brought (omega (arith, length-drop first (map event_value events), length-map events event_value)) in
     let few : count ≤ len = omega (arith, count_is, long) in
-    let front : length (take count values) ≡ count = length-take-le count values (omega (arith, long, few)) in
-    let seam : take count new ≡ take count values = ap (take count) copied ∙ ap (λ n. take n (take count values ++ drop count old)) (sym front) ∙ take-append_seam (take count values) (drop count old) in
+    let prefix : length (take count values) ≡ count = length-take-le count values (omega (arith, long, few)) in
+    let seam : take count new ≡ take count values = ap (take count) copied ∙ ap (λ n. take n (take count values ++ drop count old)) (sym prefix) ∙ take-append_seam (take count values) (drop count old) in
     let of_log : take count values ≡ take count brought = ap (take count) values_are ∙ take-take count len brought few in
     record {
-      told = row-stores events first count word (value_at events first) is (omega (arith, fits, few)) (row-front events first len count few row) ∙ ap (stores_from word) (sym (seam ∙ of_log));
+      reported = row-stores events first count word (value_at events first) is (omega (arith, fits, few)) (row-prefix events first len count few row) ∙ ap (stores_from word) (sym (seam ∙ of_log));
       within = omega (arith, fits, few);
       begun = λ room. omega (arith, count_is, long, some, room);
       kind = is;
       fits = omega (arith, count_is);
-      rest = ap (drop count) copied ∙ drop-append-drop count old (take count values) count (omega (arith, front)) front;
+      rest = ap (drop count) copied ∙ drop-append-drop count old (take count values) count (omega (arith, prefix)) prefix;
     }
 
 -- an event that is no store
-pub told-one : (events : List Event) (first : ℕ) (event : Event) → slice_get events first ≡ Some event → take 1 (drop first events) ≡ event ∷ []
-told-one [] zero event is = cc
-told-one [] (suc first) event is = cc
-told-one (other ∷ events) zero event is = let same : other ≡ event = cc in ap (λ e. e ∷ []) same
-told-one (other ∷ events) (suc first) event is = told-one events first event is
+pub reported-one : (events : List Event) (first : ℕ) (event : Event) → slice_get events first ≡ Some event → take 1 (drop first events) ≡ event ∷ []
+reported-one [] zero event is = cc
+reported-one [] (suc first) event is = cc
+reported-one (other ∷ events) zero event is = let same : other ≡ event = cc in ap (λ e. e ∷ []) same
+reported-one (other ∷ events) (suc first) event is = reported-one events first event is

@@ -10,12 +10,12 @@ pub values_of-stores : (word : ℕ) (values : List ℕ) → map event_value (sto
 values_of-stores word [] = refl
 values_of-stores word (value ∷ values) = ap (λ vs. value ∷ vs) (values_of-stores (word + 1) values)
 
--- events behind others, and their values behind those of the others
+-- events after others, and their values after those of the others
 pub values-more : (events after more : List Event) (values next added : List ℕ) → values ≡ map event_value events → after ≡ events ++ more → next ≡ values ++ added → added ≡ map event_value more
     → next ≡ map event_value after
-values-more events after more values next added told after_is next_is added_is =
+values-more events after more values next added reported after_is next_is added_is =
     next_is
-    ∙ ap (λ vs. vs ++ added) told
+    ∙ ap (λ vs. vs ++ added) reported
     ∙ ap (λ vs. map event_value events ++ vs) added_is
     ∙ sym (map-append event_value events more)
     ∙ ap (map event_value) (sym after_is)

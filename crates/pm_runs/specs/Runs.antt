@@ -36,8 +36,8 @@ first_kind run.CallEnd = kinds.CallEnd
 -- The run has exactly the events of a log from one on, as many as its length: at least one if there is room for a
 -- value. So a barrier and a marker are returned in any room, and of stores at least the first word. No other value has
 -- changed.
-pub record TellsRun (events : List Event) (first : ℕ) (old : List ℕ) (run : Run) (new : List ℕ) : Type 0 where
-  pub told : take (run_length run) (drop first events) ≡ run_events run new
+pub record ReportsRun (events : List Event) (first : ℕ) (old : List ℕ) (run : Run) (new : List ℕ) : Type 0 where
+  pub reported : take (run_length run) (drop first events) ≡ run_events run new
   pub within : first + run_length run ≤ length events
   pub begun : 0 < length old → 0 < run_length run
   pub kind : slice_get events first ≡ Some (event_of (first_kind run) (value_at events first))
@@ -47,7 +47,7 @@ pub record TellsRun (events : List Event) (first : ℕ) (old : List ℕ) (run : 
 -- The events of runs, in order.
 abbrev pub runs_events : List (Run × List ℕ) → List Event
 runs_events [] = []
-runs_events (told ∷ runs) = run_events told.0 told.1 ++ runs_events runs
+runs_events (reported ∷ runs) = run_events reported.0 reported.1 ++ runs_events runs
 
 -- The words after the stores of runs, in order.
 abbrev pub words_after_runs : List ℕ → List (Run × List ℕ) → List ℕ
@@ -62,4 +62,4 @@ copied_run words run.CallEnd values = words
 -- The words with the values of runs copied to their places, one run after the other.
 abbrev pub copied : List ℕ → List (Run × List ℕ) → List ℕ
 copied words [] = words
-copied words (told ∷ runs) = copied (copied_run words told.0 told.1) runs
+copied words (reported ∷ runs) = copied (copied_run words reported.0 reported.1) runs

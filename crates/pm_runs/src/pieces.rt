@@ -1,7 +1,7 @@
 //! Pieces of a log.
 
 ghost use Rattle.std.specs.Prelude.{◌≡◌, ◌<◌, ◌++◌, drop, length, min, take};
-ghost use Rattle.pm_runs.specs.Runs.{TellsRun};
+ghost use Rattle.pm_runs.specs.Runs.{ReportsRun};
 
 use super::redo::RedoRegion;
 use pm_epochs::EventKind;
@@ -24,7 +24,7 @@ pub enum Run {
 }
 
 /// Copies the first of these values over the first of `into`, as many as there is room for, and returns their number.
-fn copy_front(values: &[u64], into: &mut [u64]) -> usize
+fn copy_prefix(values: &[u64], into: &mut [u64]) -> usize
     ensures count { result ≡ min (length values.now) (length into.old) }
     ensures copied { into.new ≡ take result values.now ++ drop result into.old }
 {
@@ -38,13 +38,13 @@ fn copy_front(values: &[u64], into: &mut [u64]) -> usize
 /// `values` has places. It ends at a barrier, a marker, or a store to another word than the next one.
 pub fn run_at(region: &RedoRegion, first: usize, values: &mut [u64]) -> Run
     requires { first < length region.now.events }
-    ensures { TellsRun region.now.events first values.old result values.new }
+    ensures { ReportsRun region.now.events first values.old result values.new }
 {
     let Row { kind, len } = region.row(first);
     match kind {
         EventKind::Store(word) => Run::Stores {
             word,
-            count: copy_front(&region.values()[first..first + len], values),
+            count: copy_prefix(&region.values()[first..first + len], values),
         },
         EventKind::Barrier => Run::Barrier,
         EventKind::CallEnd => Run::CallEnd,

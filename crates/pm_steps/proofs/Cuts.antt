@@ -8,16 +8,16 @@ use Rattle.pm_epochs.specs.Replay.{IsRight, stores_of, kept_stores, call_ends_of
 use Rattle.pm_epochs.proofs.Cuts.{stores_of_none, kept_stores_right}
 use Rattle.pm_epochs.specs.Crash.{Likeness, CrashRight}
 use Rattle.pm_steps.specs.Machine.{MachineState, MachineStep, machine_over, StepsTo, is_some_store, IsInOrder, open_epoch, epoch_flags, waiting_call_ends, cut_of}
-use Rattle.pm_steps.proofs.FirstLaws.{ComesFirst-behind}
+use Rattle.pm_steps.proofs.FirstLaws.{ComesFirst-after}
 use Rattle.pm_steps.proofs.Order.{store_is, IsReached, reached}
 
--- ## The order of the events behind one
+-- ## The order of the events after one
 
 IsInOrder-tail : (event : Event) (events : List Event) (flag : Bool) (back : List Bool) → IsInOrder (event ∷ events) (flag ∷ back) → IsInOrder events back
 IsInOrder-tail event events flag back order = record {
   few = omega (arith, order.few);
   stores = λ i is. order.stores (suc i) is;
-  first = λ earlier later is comes. order.first (suc earlier) (suc later) is (ComesFirst-behind event events earlier later comes);
+  first = λ earlier later is comes. order.first (suc earlier) (suc later) is (ComesFirst-after event events earlier later comes);
 }
 
 -- ## The first epoch
@@ -44,9 +44,9 @@ first_epoch (Barrier ∷ events) (false ∷ back) first = sym (none_back back ev
 first_epoch (CallEnd ∷ events) (true ∷ back) first = let is = first.stores 0 refl in cc
 first_epoch (CallEnd ∷ events) (false ∷ back) first = first_epoch events back (record { stores = λ i is. first.stores (suc i) is; early = λ i is. first.early (suc i) is })
 
--- behind a store that waits, what is back is of its epoch
-behind_waiting : (word value : ℕ) (events : List Event) (back : List Bool) → IsInOrder (Store word value ∷ events) (false ∷ back) → IsFirstEpoch events back
-behind_waiting word value events back order = record {
+-- after a store that waits, what is back is of its epoch
+after_waiting : (word value : ℕ) (events : List Event) (back : List Bool) → IsInOrder (Store word value ∷ events) (false ∷ back) → IsFirstEpoch events back
+after_waiting word value events back order = record {
   stores = λ i is. order.stores (suc i) is;
   early = λ i is. early i is (epoch_of events i) refl;
 }
@@ -69,7 +69,7 @@ stores_of_open [] [] order = refl
 stores_of_open [] (flag ∷ back) order = refl
 stores_of_open (event ∷ events) [] order = stores_of_none (event ∷ events)
 stores_of_open (Store word value ∷ events) (true ∷ back) order = kept_first word value (open_epoch events back) events back (items_where_true back events) (stores_of_open events back (IsInOrder-tail (Store word value) events true back order))
-stores_of_open (Store word value ∷ events) (false ∷ back) order = first_epoch events back (behind_waiting word value events back order)
+stores_of_open (Store word value ∷ events) (false ∷ back) order = first_epoch events back (after_waiting word value events back order)
 stores_of_open (Barrier ∷ events) (true ∷ back) order = let is = order.stores 0 refl in cc
 stores_of_open (Barrier ∷ events) (false ∷ back) order = stores_of_open events back (IsInOrder-tail Barrier events false back order)
 stores_of_open (CallEnd ∷ events) (true ∷ back) order = let is = order.stores 0 refl in cc

@@ -37,8 +37,8 @@ comes_first_at old new earlier later first second comes before first_is second_i
 }
 
 -- one event more before them
-pub ComesFirst-behind : (event : Event) (events : List Event) (earlier later : ℕ) → ComesFirst events earlier later → ComesFirst (event ∷ events) (suc earlier) (suc later)
-ComesFirst-behind event events earlier later comes =
+pub ComesFirst-after : (event : Event) (events : List Event) (earlier later : ℕ) → ComesFirst events earlier later → ComesFirst (event ∷ events) (suc earlier) (suc later)
+ComesFirst-after event events earlier later comes =
     comes_first_at events (event ∷ events) earlier later (suc earlier) (suc later) comes (omega (arith, comes.before)) refl refl (less event)
   where
     less : (event : Event) → epoch_of events earlier < epoch_of events later → epoch_of (event ∷ events) (suc earlier) < epoch_of (event ∷ events) (suc later)

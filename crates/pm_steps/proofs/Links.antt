@@ -5,7 +5,7 @@ use Rattle.std.proofs.Math.Nat.{mod-lt}
 use Rattle.std.proofs.lemmas.Bool.{cases_eq, cases_lt, ne_eqb}
 use Rattle.pm_steps.specs.WordSet.{is_noted, IsLastWord, IsLinked}
 
--- a bound within the old words sees no word behind them
+-- a bound within the old words sees no word after them
 last_more : (words : List ℕ) (word divisor remainder bound entry : ℕ) → bound ≤ length words → IsLastWord words divisor remainder bound entry → IsLastWord (words ++ word ∷ []) divisor remainder bound entry
 last_more words word divisor remainder bound entry few last = λ k below leaves.
     let found = last k below (ap (λ n. n % divisor) (sym (get_or_append_left words (word ∷ []) 0 k (omega arith))) ∙ leaves) in (

@@ -90,17 +90,17 @@ words_after-set (Barrier ∷ events) (false ∷ back) words word value none = wo
 words_after-set (CallEnd ∷ events) (true ∷ back) words word value none = words_after-set events back words word value (NoneTo-tail CallEnd events true back word none)
 words_after-set (CallEnd ∷ events) (false ∷ back) words word value none = words_after-set events back words word value (NoneTo-tail CallEnd events false back word none)
 
--- no store to the word behind a place is back
-abbrev NoneBehind : List Event → List Bool → ℕ → ℕ → Type 0
-NoneBehind events back which word = (j other : ℕ) → which < j → slice_get back j ≡ Some true → slice_get events j ≡ Some (Store word other) → ⊥
+-- no store to the word after a place is back
+abbrev NoneAfter : List Event → List Bool → ℕ → ℕ → Type 0
+NoneAfter events back which word = (j other : ℕ) → which < j → slice_get back j ≡ Some true → slice_get events j ≡ Some (Store word other) → ⊥
 
-NoneBehind-tail : (event : Event) (events : List Event) (flag : Bool) (back : List Bool) (which word : ℕ)
-    → NoneBehind (event ∷ events) (flag ∷ back) (suc which) word → NoneBehind events back which word
-NoneBehind-tail event events flag back which word none = λ j other low is at. none (suc j) other (omega arith) is at
+NoneAfter-tail : (event : Event) (events : List Event) (flag : Bool) (back : List Bool) (which word : ℕ)
+    → NoneAfter (event ∷ events) (flag ∷ back) (suc which) word → NoneAfter events back which word
+NoneAfter-tail event events flag back which word none = λ j other low is at. none (suc j) other (omega arith) is at
 
--- one more store is back, and none behind it to its word was
+-- one more store is back, and none after it to its word was
 words_after-back : (events : List Event) (back : List Bool) (words : List ℕ) (which word value : ℕ)
-    → slice_get events which ≡ Some (Store word value) → slice_get back which ≡ Some false → NoneBehind events back which word
+    → slice_get events which ≡ Some (Store word value) → slice_get back which ≡ Some false → NoneAfter events back which word
     → words_after words (items_where_true (set back which true) events) ≡ set (words_after words (items_where_true back events)) word value
 words_after-back [] back words which word value store waits none = cc
 words_after-back (event ∷ events) [] words which word value store waits none = cc
@@ -109,17 +109,17 @@ words_after-back (event ∷ events) (flag ∷ back) words zero word value store 
     let flag_is : flag ≡ false = cc in
     rw (event_is, flag_is) (words_after-set events back words word value (λ j other is at. none (suc j) other (omega arith) is at))
 words_after-back (Store place other ∷ events) (true ∷ back) words (suc which) word value store waits none =
-    words_after-back events back (set words place other) which word value store waits (NoneBehind-tail (Store place other) events true back which word none)
+    words_after-back events back (set words place other) which word value store waits (NoneAfter-tail (Store place other) events true back which word none)
 words_after-back (Store place other ∷ events) (false ∷ back) words (suc which) word value store waits none =
-    words_after-back events back words which word value store waits (NoneBehind-tail (Store place other) events false back which word none)
+    words_after-back events back words which word value store waits (NoneAfter-tail (Store place other) events false back which word none)
 words_after-back (Barrier ∷ events) (true ∷ back) words (suc which) word value store waits none =
-    words_after-back events back words which word value store waits (NoneBehind-tail Barrier events true back which word none)
+    words_after-back events back words which word value store waits (NoneAfter-tail Barrier events true back which word none)
 words_after-back (Barrier ∷ events) (false ∷ back) words (suc which) word value store waits none =
-    words_after-back events back words which word value store waits (NoneBehind-tail Barrier events false back which word none)
+    words_after-back events back words which word value store waits (NoneAfter-tail Barrier events false back which word none)
 words_after-back (CallEnd ∷ events) (true ∷ back) words (suc which) word value store waits none =
-    words_after-back events back words which word value store waits (NoneBehind-tail CallEnd events true back which word none)
+    words_after-back events back words which word value store waits (NoneAfter-tail CallEnd events true back which word none)
 words_after-back (CallEnd ∷ events) (false ∷ back) words (suc which) word value store waits none =
-    words_after-back events back words which word value store waits (NoneBehind-tail CallEnd events false back which word none)
+    words_after-back events back words which word value store waits (NoneAfter-tail CallEnd events false back which word none)
 
 items_where_true-push : (back : List Bool) (events : List Event) → items_where_true (back ++ false ∷ []) events ≡ items_where_true back events
 items_where_true-push [] [] = refl
@@ -129,9 +129,9 @@ items_where_true-push (false ∷ back) [] = refl
 items_where_true-push (true ∷ back) (event ∷ events) = ap (λ es. event ∷ es) (items_where_true-push back events)
 items_where_true-push (false ∷ back) (event ∷ events) = items_where_true-push back events
 
--- a store that waits has none behind it of its word that is back
-none_behind : (events : List Event) (back : List Bool) (which : ℕ) → IsInOrder events back → (ready : MayGoBack events back which) → (j other : ℕ) → which < j → slice_get back j ≡ Some true → slice_get events j ≡ Some (Store ready.word other) → ⊥
-none_behind events back which order ready j other low is store =
+-- a store that waits has none after it of its word that is back
+none_after : (events : List Event) (back : List Bool) (which : ℕ) → IsInOrder events back → (ready : MayGoBack events back which) → (j other : ℕ) → which < j → slice_get back j ≡ Some true → slice_get events j ≡ Some (Store ready.word other) → ⊥
+none_after events back which order ready j other low is store =
     let came = order.first which j is (record { before = low; first_word = ready.word; first_value = ready.value; word = ready.word; value = other; first_is = ready.store; second_is = store; must = inr refl }) in
     let differ : Some false ≡ Some true = sym ready.waits ∙ came in
     cc
@@ -148,7 +148,7 @@ reached_step base events state Execute reached allowed = record {
 reached_step base events state (WriteBack which) reached allowed = rw allowed.store (record {
   order = in_order_back events state.back which reached.order allowed;
   words = ap (λ ws. set ws allowed.word allowed.value) reached.words
-      ∙ sym (words_after-back events state.back base which allowed.word allowed.value allowed.store allowed.waits (none_behind events state.back which reached.order allowed));
+      ∙ sym (words_after-back events state.back base which allowed.word allowed.value allowed.store allowed.waits (none_after events state.back which reached.order allowed));
 })
 
 pub reached_run : (base : List ℕ) (events : List Event) (old : MachineState) (steps : List MachineStep) (new : MachineState) → IsReached base events old → StepsTo events old steps new → IsReached base events new

@@ -49,47 +49,47 @@ taken base events (suc n) low =
 
 -- ## The stores of a list of flags go back in the order of the log
 
-get_front : (front rest : List Bool) (flag : Bool) → slice_get (front ++ flag ∷ rest) (length front) ≡ Some flag
-get_front [] rest flag = refl
-get_front (x ∷ front) rest flag = get_front front rest flag
+get_prefix : (prefix rest : List Bool) (flag : Bool) → slice_get (prefix ++ flag ∷ rest) (length prefix) ≡ Some flag
+get_prefix [] rest flag = refl
+get_prefix (x ∷ prefix) rest flag = get_prefix prefix rest flag
 
-get_before : (front first second : List Bool) (i : ℕ) (b : Bool) → i < length front → slice_get (front ++ first) i ≡ Some b → slice_get (front ++ second) i ≡ Some b
+get_before : (prefix first second : List Bool) (i : ℕ) (b : Bool) → i < length prefix → slice_get (prefix ++ first) i ≡ Some b → slice_get (prefix ++ second) i ≡ Some b
 get_before [] first second i b low is = absurd (omega arith)
-get_before (x ∷ front) first second zero b low is = is
-get_before (x ∷ front) first second (suc i) b low is = get_before front first second i b (omega arith) is
+get_before (x ∷ prefix) first second zero b low is = is
+get_before (x ∷ prefix) first second (suc i) b low is = get_before prefix first second i b (omega arith) is
 
-set_front : (front rest : List Bool) (flag new : Bool) → set (front ++ flag ∷ rest) (length front) new ≡ front ++ new ∷ rest
-set_front [] rest flag new = refl
-set_front (x ∷ front) rest flag new = ap (λ bs. x ∷ bs) (set_front front rest flag new)
+set_prefix : (prefix rest : List Bool) (flag new : Bool) → set (prefix ++ flag ∷ rest) (length prefix) new ≡ prefix ++ new ∷ rest
+set_prefix [] rest flag new = refl
+set_prefix (x ∷ prefix) rest flag new = ap (λ bs. x ∷ bs) (set_prefix prefix rest flag new)
 
 runs_written : (events : List Event) (old : MachineState) (which word value : ℕ) → slice_get events which ≡ Some (Store word value) → (steps : List MachineStep) (new : MachineState) → StepsTo events (record { back = set old.back which true; words = set old.words word value }) steps new → StepsTo events (after_write_back old which (slice_get events which)) steps new
 runs_written events old which word value store steps new runs = rw store runs
 
--- from a state in which the front is as it is to be and nothing behind it is back
-written_back : (events : List Event) (front rest : List Bool) (old : MachineState) → IsInOrder events (front ++ rest) → old.back ≡ front ++ replicate (length rest) false → Reaches events old (front ++ rest)
-written_back events front [] old order back_is = record { steps = []; new = old; runs = refl; back_is = back_is }
-written_back events front (false ∷ rest) old order back_is =
-    let parts = append_assoc front (false ∷ []) rest in
-    let more = written_back events (front ++ false ∷ []) rest old (rw parts order) (rw append_assoc back_is) in
+-- from a state in which the prefix is as it is to be and nothing after it is back
+written_back : (events : List Event) (prefix rest : List Bool) (old : MachineState) → IsInOrder events (prefix ++ rest) → old.back ≡ prefix ++ replicate (length rest) false → Reaches events old (prefix ++ rest)
+written_back events prefix [] old order back_is = record { steps = []; new = old; runs = refl; back_is = back_is }
+written_back events prefix (false ∷ rest) old order back_is =
+    let parts = append_assoc prefix (false ∷ []) rest in
+    let more = written_back events (prefix ++ false ∷ []) rest old (rw parts order) (rw append_assoc back_is) in
     record { steps = more.steps; new = more.new; runs = more.runs; back_is = more.back_is ∙ parts }
-written_back events front (true ∷ rest) old order back_is =
-    let parts = append_assoc front (true ∷ []) rest in
-    let store = store_is (slice_get events (length front)) (order.stores (length front) (get_front front rest true)) in
-    let next : MachineState = record { back = set old.back (length front) true; words = set old.words store.0 store.1 } in
-    let ready : MayGoBack events old.back (length front) = record {
+written_back events prefix (true ∷ rest) old order back_is =
+    let parts = append_assoc prefix (true ∷ []) rest in
+    let store = store_is (slice_get events (length prefix)) (order.stores (length prefix) (get_prefix prefix rest true)) in
+    let next : MachineState = record { back = set old.back (length prefix) true; words = set old.words store.0 store.1 } in
+    let ready : MayGoBack events old.back (length prefix) = record {
       word = store.0;
       value = store.1;
       store = store.2;
-      waits = ap (λ bs. slice_get bs (length front)) back_is ∙ get_front front (replicate (length rest) false) false;
-      first = λ earlier comes. rw back_is (get_before front (true ∷ rest) (false ∷ replicate (length rest) false) earlier true comes.before (order.first earlier (length front) (get_front front rest true) comes));
+      waits = ap (λ bs. slice_get bs (length prefix)) back_is ∙ get_prefix prefix (replicate (length rest) false) false;
+      first = λ earlier comes. rw back_is (get_before prefix (true ∷ rest) (false ∷ replicate (length rest) false) earlier true comes.before (order.first earlier (length prefix) (get_prefix prefix rest true) comes));
     } in
-    let next_back : next.back ≡ front ++ true ∷ [] ++ replicate (length rest) false =
-    ap (λ bs. set bs (length front) true) back_is ∙ set_front front (replicate (length rest) false) false true ∙ sym (append_assoc front (true ∷ []) (replicate (length rest) false)) in
-    let more = written_back events (front ++ true ∷ []) rest next (rw parts order) next_back in
+    let next_back : next.back ≡ prefix ++ true ∷ [] ++ replicate (length rest) false =
+    ap (λ bs. set bs (length prefix) true) back_is ∙ set_prefix prefix (replicate (length rest) false) false true ∙ sym (append_assoc prefix (true ∷ []) (replicate (length rest) false)) in
+    let more = written_back events (prefix ++ true ∷ []) rest next (rw parts order) next_back in
     record {
-      steps = WriteBack (length front) ∷ more.steps;
+      steps = WriteBack (length prefix) ∷ more.steps;
       new = more.new;
-      runs = (ready, runs_written events old (length front) store.0 store.1 store.2 more.steps more.new more.runs);
+      runs = (ready, runs_written events old (length prefix) store.0 store.1 store.2 more.steps more.new more.runs);
       back_is = more.back_is ∙ parts;
     }
 
@@ -113,17 +113,17 @@ taken_steps base events (suc n) low =
     let more : n + 1 ≡ suc n = omega arith in
     ap (λ ss. ss ++ Execute ∷ []) (taken_steps base events n (omega arith)) ∙ replicate-append-replicate n 1 Execute ∙ ap (λ k. replicate k Execute) more
 
-length-one_more : (front : List Bool) (flag : Bool) → length (front ++ flag ∷ []) ≡ suc (length front)
+length-one_more : (prefix : List Bool) (flag : Bool) → length (prefix ++ flag ∷ []) ≡ suc (length prefix)
 length-one_more [] flag = refl
-length-one_more (first ∷ front) flag = ap suc (length-one_more front flag)
+length-one_more (first ∷ prefix) flag = ap suc (length-one_more prefix flag)
 
-written_steps : (events : List Event) (front rest : List Bool) (old : MachineState) (order : IsInOrder events (front ++ rest)) (back_is : old.back ≡ front ++ replicate (length rest) false) → (written_back events front rest old order back_is).steps ≡ write_backs (length front) rest
+written_steps : (events : List Event) (prefix rest : List Bool) (old : MachineState) (order : IsInOrder events (prefix ++ rest)) (back_is : old.back ≡ prefix ++ replicate (length rest) false) → (written_back events prefix rest old order back_is).steps ≡ write_backs (length prefix) rest
 unfolding written_back
-written_steps events front [] old order back_is = refl
-written_steps events front (false ∷ rest) old order back_is =
-    written_steps events (front ++ false ∷ []) rest old _ _ ∙ ap (λ n. write_backs n rest) (length-one_more front false)
-written_steps events front (true ∷ rest) old order back_is =
-    ap (λ ss. WriteBack (length front) ∷ ss) (written_steps events (front ++ true ∷ []) rest _ _ _ ∙ ap (λ n. write_backs n rest) (length-one_more front true))
+written_steps events prefix [] old order back_is = refl
+written_steps events prefix (false ∷ rest) old order back_is =
+    written_steps events (prefix ++ false ∷ []) rest old _ _ ∙ ap (λ n. write_backs n rest) (length-one_more prefix false)
+written_steps events prefix (true ∷ rest) old order back_is =
+    ap (λ ss. WriteBack (length prefix) ∷ ss) (written_steps events (prefix ++ true ∷ []) rest _ _ _ ∙ ap (λ n. write_backs n rest) (length-one_more prefix true))
 
 flags_steps : (base : List ℕ) (events : List Event) (back : List Bool) (order : IsInOrder events back) → (flags_reached base events back order).steps ≡ in_log_order back
 unfolding flags_reached
@@ -220,7 +220,7 @@ cond_same : (b : Bool) → cond b true true ≡ true
 cond_same true = refl
 cond_same false = refl
 
--- a store to the word that is wanted is kept, or one behind it is
+-- a store to the word that is wanted is kept, or one after it is
 wanted_kept : (word other : ℕ) (mask : List Bool) (events : List Event) (i : ℕ) → slice_get (wanted 0 mask events) i ≡ Some true → slice_get events i ≡ Some (Store word other) → is_kept_later word mask events ≡ true
 wanted_kept word other mask [] i is store = nothing_there i is
 wanted_kept word other [] (Store place value ∷ events) zero is store = none is
@@ -281,9 +281,9 @@ overwritten words word value (true ∷ mask) (Store place other ∷ events) late
     elim (cases_eq place word) [
       | inl same ↦ rw same (ap (λ ws. words_after ws (stores_of 0 mask events)) (set-set words word value other))
       | inr differ ↦
-          let behind : is_kept_later word mask events ≡ true = rw (ne_eqb place word differ) at later in
+          let following : is_kept_later word mask events ≡ true = rw (ne_eqb place word differ) at later in
           ap (λ ws. words_after ws (stores_of 0 mask events)) (set_comm words word place value other (λ e. differ (sym e)))
-          ∙ overwritten (set words place other) word value mask events behind
+          ∙ overwritten (set words place other) word value mask events following
     ]
 overwritten words word value (false ∷ mask) (Store place other ∷ events) later = overwritten words word value mask events later
 overwritten words word value mask (Barrier ∷ events) later = cc
@@ -295,10 +295,10 @@ none_items (Store place value ∷ events) = none_items events
 none_items (Barrier ∷ events) = none_items events
 none_items (CallEnd ∷ events) = none_items events
 
--- a store that is not kept, and that is wanted where one behind it is kept
+-- a store that is not kept, and that is wanted where one after it is kept
 lost : (words : List ℕ) (place value : ℕ) (mask : List Bool) (events : List Event) → ((ws : List ℕ) → words_after ws (items_where_true (wanted 0 mask events) events) ≡ words_after ws (stores_of 0 mask events)) → (later : Bool) → is_kept_later place mask events ≡ later → words_after words (items_where_true (later ∷ wanted 0 mask events) (Store place value ∷ events)) ≡ words_after words (stores_of 0 mask events)
-lost words place value mask events behind true is = behind (set words place value) ∙ overwritten words place value mask events is
-lost words place value mask events behind false is = behind words
+lost words place value mask events following true is = following (set words place value) ∙ overwritten words place value mask events is
+lost words place value mask events following false is = following words
 
 left_by_wanted : (words : List ℕ) (epoch : ℕ) (mask : List Bool) (events : List Event) → words_after words (items_where_true (wanted epoch mask events) events) ≡ words_after words (stores_of epoch mask events)
 left_by_wanted words epoch mask [] = refl

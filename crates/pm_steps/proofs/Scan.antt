@@ -69,7 +69,7 @@ image_next base back events i flag event word flag_is event_is low =
     ∙ ap (λ ws. get_or ws word 0) (words_after-append base (items_where_true (take i back) events) (cond flag (event ∷ []) []))
     ∙ word_after_event before flag event word (omega (arith, length-words_after base (items_where_true (take i back) events), low))
 
--- ## What is left behind the last event
+-- ## What is left after the last event
 
 pub open_epoch-none : (events : List Event) → open_epoch events [] ≡ 0
 open_epoch-none [] = refl
@@ -82,9 +82,9 @@ epoch_flags-none epoch (event ∷ events) = refl
 -- ## The marks before the first store that waits
 
 abbrev pub waiting_next : Event → Bool → ℕ → ℕ
-waiting_next (Store word value) flag behind = cond flag behind 0
-waiting_next Barrier flag behind = behind
-waiting_next CallEnd flag behind = suc behind
+waiting_next (Store word value) flag following = cond flag following 0
+waiting_next Barrier flag following = following
+waiting_next CallEnd flag following = suc following
 
 waiting_call_ends-cons : (event : Event) (events : List Event) (back : List Bool) → waiting_call_ends (event ∷ events) back ≡ waiting_next event (get_or back 0 false) (waiting_call_ends events (drop 1 back))
 waiting_call_ends-cons (Store word value) events [] = refl

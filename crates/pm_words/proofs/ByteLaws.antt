@@ -32,10 +32,10 @@ byte-word_bytes word (suc (suc (suc (suc (suc (suc (suc zero))))))) low = refl
 byte-word_bytes word (suc (suc (suc (suc (suc (suc (suc (suc c)))))))) low = absurd (omega (arith, low))
 
 -- a word that has the bytes of a list is the one that they spell
-pub word_told : (word : ℕ) (bytes : List ℕ) → word < 2 ^ 64 → length bytes ≡ 8 → ((c : ℕ) → c < 8 → byte_of word c ≡ slice_index bytes c) → word ≡ word_of bytes
-word_told word bytes low eight tells =
-    sym (word_of_bytes word low) ∙ ap word_of (ext_get_or 0 (word_bytes word) bytes (sym eight) (λ i few. byte-word_bytes word i few ∙ tells i few))
+pub word_reported : (word : ℕ) (bytes : List ℕ) → word < 2 ^ 64 → length bytes ≡ 8 → ((c : ℕ) → c < 8 → byte_of word c ≡ slice_index bytes c) → word ≡ word_of bytes
+word_reported word bytes low eight reports =
+    sym (word_of_bytes word low) ∙ ap word_of (ext_get_or 0 (word_bytes word) bytes (sym eight) (λ i few. byte-word_bytes word i few ∙ reports i few))
 
 -- and one that has the bytes of another one is that
 pub same_word : (one other : ℕ) → one < 2 ^ 64 → other < 2 ^ 64 → ((c : ℕ) → c < 8 → byte_of one c ≡ byte_of other c) → one ≡ other
-same_word one other low small same = word_told one (word_bytes other) low refl (λ c few. same c few ∙ sym (byte-word_bytes other c few)) ∙ word_of_bytes other small
+same_word one other low small same = word_reported one (word_bytes other) low refl (λ c few. same c few ∙ sym (byte-word_bytes other c few)) ∙ word_of_bytes other small

@@ -18,7 +18,7 @@ module _ (from : ℕ) (bytes : List ℕ) (offset old : ℕ) where
   pub over_past : from + length bytes ≤ offset → byte_over from bytes offset old ≡ old
   over_past past = rw (le-leb from offset (omega (arith, past)), le-ltb offset (from + length bytes) past) refl
 
--- the same, where a place among the bytes is told in place of an offset
+-- the same, where a place among the bytes is reported in place of an offset
 module _ (bytes : List ℕ) (at old : ℕ) where
   pub over_item : at < length bytes → byte_over 0 bytes at old ≡ slice_index bytes at
   over_item inside =

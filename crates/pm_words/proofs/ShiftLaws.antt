@@ -30,7 +30,7 @@ low-byte w count c low =
     ∙ lowest (w / 2 ^ (8 * c)) (8 * (count - c - 1))
     ∙ sym (shifted w c)
 
--- a byte behind those that a number has
+-- a byte after those that a number has
 pub past-byte : (w count c : ℕ) → w < 256 ^ count → count ≤ c → byte_of w c ≡ 0
 past-byte w count c few past =
     let split : 8 * count ≡ 0 + 8 * count = omega arith in
@@ -53,7 +53,7 @@ right-byte w count c =
     let sum : 8 * count + 8 * c ≡ 8 * (count + c) = omega arith in
     shifted (w / 2 ^ (8 * count)) c ∙ ap (λ n. n % 2 ^ 8) (shr-shr w (8 * count) (8 * c) ∙ ap (λ n. w / 2 ^ n) sum) ∙ sym (shifted w (count + c))
 
--- the bytes of a word behind those that a shift puts before them
+-- the bytes of a word after those that a shift puts before them
 pub left-byte : (w count c : ℕ) → c < 8 → count ≤ c → byte_of (w * 2 ^ (8 * count) % 18446744073709551616) c ≡ byte_of w (c - count)
 left-byte w count c few late =
     let sum : count + (c - count) ≡ c = omega (arith, late) in
@@ -76,7 +76,7 @@ zero-byte w count c few early =
     ∙ ap (λ n. n % 2 ^ 8) (shl-shr (w * 2 ^ (8 * (count - c - 1)) * 256) (8 * c))
     ∙ none
 
--- ---- the lowest bytes of one word, and those behind them of another one
+-- ---- the lowest bytes of one word, and those after them of another one
 
 pub joined-low : (old new count c : ℕ) → c < 8 → c < count → byte_of (bit_or (old % 256 ^ min 8 count) (new / 2 ^ (8 * count) * 2 ^ (8 * count) % 18446744073709551616)) c ≡ byte_of old c
 joined-low old new count c few low =

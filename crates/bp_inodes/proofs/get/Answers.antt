@@ -20,8 +20,8 @@ overflow_cast-first g c = omega (arith, length_now (g.R.Region.memory c.args.reg
 pub load_words-words-requires-clause-in_range : goal.load_words-words-requires-clause-in_range
 load_words-words-requires-clause-in_range g c = omega (arith, length_now (g.R.Region.memory c.args.region.now))
 
-pub load_words-words-requires-clause-behind_head : goal.load_words-words-requires-clause-behind_head
-load_words-words-requires-clause-behind_head g c =
+pub load_words-words-requires-clause-after_head : goal.load_words-words-requires-clause-after_head
+load_words-words-requires-clause-after_head g c =
     let image = current_words (g.R.Region.memory c.args.region.now) in
     omega (
       arith,

@@ -11,7 +11,7 @@ use Rattle.bp_calls.proofs.RowLaws.{leaf_row, leaf_more, null_leaf_more}
 use Rattle.bp_calls.proofs.listing.entries.Goals as goal
 use Rattle.bp_calls.proofs.listing.entries.Goals.{in-Some+in_ok-list_row, in_default}
 
--- the row that is listed, told by the inode's root
+-- the row that is listed, stated by the inode's root
 row_here : (image : Image) (i root leaf count : ℕ) (words : List ℕ) → root ≡ root_of image i → length words ≡ 512 → ((k : ℕ) → k < 512 → slice_index words k ≡ content_word image root (512 * leaf + k)) →
     count ≤ 16 → IsRow image (root_of image i) (16 * leaf) count (take (32 * count) words)
 row_here image i root leaf count words is long each few = subst (λ r. IsRow image r (16 * leaf) count (take (32 * count) words)) is (leaf_row image root leaf count words long each few)

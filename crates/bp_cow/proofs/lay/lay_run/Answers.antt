@@ -21,6 +21,6 @@ returns c slot low =
       | inl before ↦ all.rest slot (inl before) ∙ sym (run_word-outside run (first + slot) _ (inl (omega (arith, before))))
       | inr begun ↦ elim (cases_lt slot to) [
         | inl inside ↦ all.laid slot begun inside
-        | inr behind ↦ all.rest slot (inr behind) ∙ sym (run_word-outside run (first + slot) _ (inr (omega (arith, behind))))
+        | inr beyond ↦ all.rest slot (inr beyond) ∙ sym (run_word-outside run (first + slot) _ (inr (omega (arith, beyond))))
       ]
     ]

@@ -19,11 +19,11 @@ loop-slot-preserved c =
     let from = c.args.from in
     let at = c.loop-slot.slot in
     let begun = c.requires.begun (omega arith) in
-    let behind = c.requires.not_ended (omega arith) in
+    let beyond = c.requires.not_ended (omega arith) in
     let there : 8 * (first + from) - run.offset + 8 * (at - from) ≡ 8 * (first + at) - run.offset = omega (arith, begun, before.begun) in
     let same = λ (i : ℕ) (few : i < 8). c.word_at.ensures i few ∙ ap (λ p. get_or bytes (p + i) 0) there in
     let value =
-    run_word-there run (first + at) (get_or c.args.words.now at 0) c.word_at.result (omega (arith, c.word_at.type_inv)) (omega (arith, begun, before.begun)) (omega (arith, behind, c.loop-slot-test.true)) same in
+    run_word-there run (first + at) (get_or c.args.words.now at 0) c.word_at.result (omega (arith, c.word_at.type_inv)) (omega (arith, begun, before.begun)) (omega (arith, beyond, c.loop-slot-test.true)) same in
     record {
       size = length-set c.loop-slot.words at c.word_at.result ∙ before.size;
       begun = omega (arith, before.begun);

@@ -4,18 +4,18 @@ use Rattle.std.proofs.lemmas.Bool.{cases_lt, le-leb, leb-true}
 use Rattle.bp_shapes.specs.Trail.{Trail}
 use Rattle.bp_shapes.proofs.PathTrails.{length-trail_of}
 use Rattle.bp_cow.specs.Touched.{job_of}
-use Rattle.bp_cow.specs.Job.{Job, front, IsBegun}
+use Rattle.bp_cow.specs.Job.{Job, prefix, IsBegun}
 use Rattle.bp_cow.specs.Ways.{IsShared}
 use Rattle.bp_cow.proofs.ways.is_new.Goals as goal
 
 -- the way that begins with some slots of another does so with as many of its own
-same_depth : (job : Job) (from i depth : ℕ) → (b : IsBegun job from i (front job i depth)) → depth ≡ b.depth
+same_depth : (job : Job) (from i depth : ℕ) → (b : IsBegun job from i (prefix job i depth)) → depth ≡ b.depth
 same_depth job from i depth b = omega (arith, length-trail_of (job.way i) depth, length-trail_of (job.way b.which) b.depth, ap (λ (q : Trail). length q) b.same)
 
-begun-shared : (job : Job) (from i depth : ℕ) → depth ≤ length (job.way i) → IsBegun job from i (front job i depth) → IsShared job.way i (job.way i) depth
+begun-shared : (job : Job) (from i depth : ℕ) → depth ≤ length (job.way i) → IsBegun job from i (prefix job i depth) → IsShared job.way i (job.way i) depth
 begun-shared job from i depth low b =
     let at = same_depth job from i depth b in
-    record { which = b.which; early = b.early; here = low; there = omega (arith, b.high, at); same = b.same ∙ ap (λ d. front job b.which d) (sym at) }
+    record { which = b.which; early = b.early; here = low; there = omega (arith, b.high, at); same = b.same ∙ ap (λ d. prefix job b.which d) (sym at) }
 
 clash : (b : Bool) → b ≡ true → b ≡ false → ⊥
 clash b one two = absurd (cc)

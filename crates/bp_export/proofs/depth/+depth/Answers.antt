@@ -73,8 +73,8 @@ has_long_entry-returns-then-is_long g t c i first count row =
     let image : Image = current_words (g.R.Region.memory c.args.region.now) in
     let index : ℕ = c.loop-index.index in
     let inside : index < count = omega (arith, row.long) in
-    let tells = c.is_long.ensures i (first + index) (rw c.new-view.ensures (entry_of image (root_of image i) first count index c.args.words.now row inside)) in (
-      λ yes. record { slot = first + index; low = omega arith; high = omega (arith, inside); is = tells.0 c.if-is_long.true },
+    let reports = c.is_long.ensures i (first + index) (rw c.new-view.ensures (entry_of image (root_of image i) first count index c.args.words.now row inside)) in (
+      λ yes. record { slot = first + index; low = omega arith; high = omega (arith, inside); is = reports.0 c.if-is_long.true },
       λ has. refl,
     )
 
@@ -83,9 +83,9 @@ has_long_entry-loop-index-preserved g t c i first count row =
     let image : Image = current_words (g.R.Region.memory c.args.region.now) in
     let index : ℕ = c.loop-index.index in
     let inside : index < count = omega (arith, row.long) in
-    let tells = c.is_long.ensures i (first + index) (rw c.new-view.ensures (entry_of image (root_of image i) first count index c.args.words.now row inside)) in
+    let reports = c.is_long.ensures i (first + index) (rw c.new-view.ensures (entry_of image (root_of image i) first count index c.args.words.now row inside)) in
     let no = c.if-is_long.false in
-    none_more image i c.args.left first index (c.loop-index.invariant i first count row) (λ is. let yes = tells.1 is in absurd (cc))
+    none_more image i c.args.left first index (c.loop-index.invariant i first count row) (λ is. let yes = reports.1 is in absurd (cc))
 
 pub has_long_entry-returns : goal.has_long_entry-returns
 has_long_entry-returns g t c i first count row =
@@ -119,9 +119,9 @@ has_long_path-returns-then-has_long_entry g t c =
     let leaf : ℕ = c.loop-leaf.leaf in
     let live : 16 * leaf < entry_count image i = omega (arith, c.leaf_count-leaf-end.ensures.most leaf c.loop-leaf-test.true, c.tree_of-tree.ensures.size) in
     let row = row_at image i _ _ leaf _ c.tree_of-tree.ensures.root c.tree_of-tree.ensures.size c.in-Some.ensures.some in
-    let tells = c.has_long_entry.ensures i (16 * leaf) (min 16 (entry_count image i - 16 * leaf)) row in (
+    let reports = c.has_long_entry.ensures i (16 * leaf) (min 16 (entry_count image i - 16 * leaf)) row in (
       λ yes. path_from_entry image c.requires.well_formed i c.requires.reached c.requires.directory c.args.left
-          (long_inside image i c.args.left (16 * leaf) (min 16 (entry_count image i - 16 * leaf)) (entry_count image i) (omega (arith, live)) (tells.0 c.if-has_long_entry.true)),
+          (long_inside image i c.args.left (16 * leaf) (min 16 (entry_count image i - 16 * leaf)) (entry_count image i) (omega (arith, live)) (reports.0 c.if-has_long_entry.true)),
       λ has. refl,
     )
 
@@ -134,9 +134,9 @@ has_long_path-loop-leaf-preserved g t c =
     elim c.match-entry_row.branch [
       | has_long_path-in-Some+else-has_long_entry w ↦
           let row = row_at image i _ _ leaf _ c.tree_of-tree.ensures.root c.tree_of-tree.ensures.size w.in-Some.ensures.some in
-          let tells = w.has_long_entry.ensures i (16 * leaf) (min 16 (entry_count image i - 16 * leaf)) row in
+          let reports = w.has_long_entry.ensures i (16 * leaf) (min 16 (entry_count image i - 16 * leaf)) row in
           let no = w.if-has_long_entry.false in
-          leaf_more image i c.args.left leaf (entry_count image i) live c.loop-leaf.invariant (λ has. let yes = tells.1 has in absurd (cc))
+          leaf_more image i c.args.left leaf (entry_count image i) live c.loop-leaf.invariant (λ has. let yes = reports.1 has in absurd (cc))
       | has_long_path-in_default w ↦
           leaf_more image i c.args.left leaf (entry_count image i) live c.loop-leaf.invariant
           (none_empty image i c.args.left (16 * leaf) (min 16 (entry_count image i - 16 * leaf))

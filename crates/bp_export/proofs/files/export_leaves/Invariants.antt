@@ -4,16 +4,16 @@ use Rattle.bp_layout.specs.Tree.{content}
 use Rattle.bp_plain.specs.Export.{stretches}
 use Rattle.bp_replies.specs.Gathering.{waiting}
 use Rattle.pm_region.specs.Memory.{current_words}
-use Rattle.bp_export.specs.Telling.{Tells}
-use Rattle.bp_export.proofs.FileLines.{ToldTo, writes_until}
+use Rattle.bp_export.specs.Report.{Reports}
+use Rattle.bp_export.proofs.FileLines.{ReportedTo, writes_until}
 use Rattle.bp_export.proofs.files.export_leaves.Given as goal
 
--- the stretches before one are told
+-- the stretches before one are reported
 abbrev pub invariant-loop-leaf : goal.invariant-loop-leaf
 invariant-loop-leaf g l =
     record {
-      lines : Tells {T = ℕ} (writes_until l.path (content (current_words (g.R.Region.memory l.region)) l.tree.root l.tree.size) l.from) (Ok 0) (waiting l.fn.replies) (waiting l.replies) (g.K.Sink.view l.fn.out) (g.K.Sink.view l.out);
-      told : ToldTo (content (current_words (g.R.Region.memory l.region)) l.tree.root l.tree.size) l.from l.told;
+      lines : Reports {T = ℕ} (writes_until l.path (content (current_words (g.R.Region.memory l.region)) l.tree.root l.tree.size) l.from) (Ok 0) (waiting l.fn.replies) (waiting l.replies) (g.K.Sink.view l.fn.out) (g.K.Sink.view l.out);
+      noted : ReportedTo (content (current_words (g.R.Region.memory l.region)) l.tree.root l.tree.size) l.from l.noted;
       low : l.from ≤ stretches (content (current_words (g.R.Region.memory l.region)) l.tree.root l.tree.size);
       room : length l.block ≡ 4096;
     }

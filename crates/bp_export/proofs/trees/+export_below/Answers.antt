@@ -7,13 +7,13 @@ use Rattle.bp_replies.specs.Gathering.{waiting}
 use Rattle.pm_region.specs.Memory.{current_words}
 use Rattle.bp_export.specs.declared.work.Work.{Work}
 use Rattle.bp_export.specs.Walking.{WalkStandsAt, inside, itself}
-use Rattle.bp_export.proofs.BelowLaws.{all_told, directory_fails, directory_told, ends_at_once, entry_fails, file_told, none_told, text_fails}
+use Rattle.bp_export.proofs.BelowLaws.{all_reported, directory_fails, directory_reported, ends_at_once, entry_fails, file_reported, none_reported, text_fails}
 use Rattle.bp_export.proofs.Places.{child_place, child_short, inner_place, stands_at_child, stands_in_child}
 use Rattle.bp_export.proofs.TreeLaws.{found_reached}
 use Rattle.bp_export.proofs.trees.+export_below.Goals.{in-File, in-Dir+in_ok-export_below-in-Dir}
 use Rattle.bp_export.proofs.trees.+export_below.Goals as goal
 
--- a path without the name that was put behind it
+-- a path without the name that was put after it
 cut_back : (new path more text : List ℕ) (n : ℕ) → new ≡ take n text → n ≡ length path → text ≡ path ++ more → new ≡ path
 cut_back new path more text n is len same = is ∙ ap₂ take len same ∙ take-append_seam path more
 
@@ -39,7 +39,7 @@ returns-in_err-entries-clause-path g t c =
 pub loop-k-init : goal.loop-k-init
 loop-k-init g t c = record {
   path = refl;
-  tours = λ place stands. none_told _ _ _ _ _ place stands (waiting c.args.work.now.replies) (g.K.Sink.view c.args.out.now);
+  tours = λ place stands. none_reported _ _ _ _ _ place stands (waiting c.args.work.now.replies) (g.K.Sink.view c.args.out.now);
 }
 
 pub at-inode-requires : goal.at-inode-requires
@@ -84,13 +84,13 @@ pub returns-in_err-export_entry-clause-tours : goal.returns-in_err-export_entry-
 returns-in_err-export_entry-clause-tours g t c place stands =
     let p = err_from_is_err_and c.from_residual-in_err-export_entry.result c.from_residual-in_err-export_entry.ensures.1 in
     let is : c.go_down.new.path.items ≡ c.args.work.now.path.items ++ 47 ∷ c.at-inode.result.1.now = c.in_ok-go_down.ensures ∙ ap (λ l. l ++ 47 ∷ c.at-inode.result.1.now) c.loop-k.invariant.path in
-    let told = c.loop-k.invariant.tours place stands in
+    let noted = c.loop-k.invariant.tours place stands in
     let child = child_place _ _ _ _ _ place stands c.in_ok-entries.entries c.in_ok-entries.ensures c.loop-k.k c.at-inode.result.0 c.at-inode.result.1.now c.at-inode.ensures.entry in
     let there : WalkStandsAt (current_words (g.R.Region.memory c.args.region.now)) c.args.counts.now (itself (current_words (g.R.Region.memory c.args.region.now)) c.at-inode.result.0) c.at-inode.result.0 c.go_down.new.path.items c.loop-k.work.firsts child =
-    rw is (stands_at_child _ _ _ _ _ place stands c.in_ok-entries.entries c.in_ok-entries.ensures c.loop-k.k c.at-inode.result.0 c.at-inode.result.1.now c.at-inode.ensures.entry c.loop-k.work.firsts told.remembers) in
+    rw is (stands_at_child _ _ _ _ _ place stands c.in_ok-entries.entries c.in_ok-entries.ensures c.loop-k.k c.at-inode.result.0 c.at-inode.result.1.now c.at-inode.ensures.entry c.loop-k.work.firsts noted.remembers) in
     rw p.1
     (entry_fails _ _ _ _ _ place stands (waiting c.args.work.now.replies) (g.K.Sink.view c.args.out.now) c.in_ok-entries.entries c.in_ok-entries.ensures
-    c.loop-k.k c.at-inode.result.0 c.at-inode.result.1.now c.at-inode.ensures.entry c.loop-k.work.firsts (waiting c.loop-k.work.replies) (g.K.Sink.view c.loop-k.out) told
+    c.loop-k.k c.at-inode.result.0 c.at-inode.result.1.now c.at-inode.ensures.entry c.loop-k.work.firsts (waiting c.loop-k.work.replies) (g.K.Sink.view c.loop-k.out) noted
     (waiting c.export_entry.new.work.replies) (g.K.Sink.view c.export_entry.new.out) _ (Unit {0}) c.in_err-export_entry.field-0.0 p.0 p.2 c.export_entry.new.work.firsts
     (c.in_err-export_entry.ensures.tours child there))
 
@@ -106,10 +106,10 @@ export_below-requires g t c κs within =
     let stands = c.requires.stands.1 in
     let is : c.go_down.new.path.items ≡ c.args.work.now.path.items ++ 47 ∷ c.at-inode.result.1.now = c.in_ok-go_down.ensures ∙ ap (λ l. l ++ 47 ∷ c.at-inode.result.1.now) c.loop-k.invariant.path in
     let path_is : c.export_entry.new.work.path.items ≡ c.args.work.now.path.items ++ 47 ∷ c.at-inode.result.1.now = c.in_ok-export_entry.ensures.path ∙ is in
-    let told = c.loop-k.invariant.tours place stands in
+    let noted = c.loop-k.invariant.tours place stands in
     let child = child_place _ _ _ _ _ place stands c.in_ok-entries.entries c.in_ok-entries.ensures c.loop-k.k c.at-inode.result.0 c.at-inode.result.1.now c.at-inode.ensures.entry in
     let there : WalkStandsAt image c.args.counts.now (itself image c.at-inode.result.0) c.at-inode.result.0 c.go_down.new.path.items c.loop-k.work.firsts child =
-    rw is (stands_at_child _ _ _ _ _ place stands c.in_ok-entries.entries c.in_ok-entries.ensures c.loop-k.k c.at-inode.result.0 c.at-inode.result.1.now c.at-inode.ensures.entry c.loop-k.work.firsts told.remembers) in
+    rw is (stands_at_child _ _ _ _ _ place stands c.in_ok-entries.entries c.in_ok-entries.ensures c.loop-k.k c.at-inode.result.0 c.at-inode.result.1.now c.at-inode.ensures.entry c.loop-k.work.firsts noted.remembers) in
     let kind : IsDirectory image c.at-inode.result.0 = sym c.in_ok-export_entry.ensures.kind ∙ ap kind_word c.in-Dir.is in
     let inner = inner_place _ _ _ _ _ place stands c.in_ok-entries.entries c.in_ok-entries.ensures c.loop-k.k c.at-inode.result.0 c.at-inode.result.1.now c.at-inode.ensures.entry in
     let below : WalkStandsAt image c.args.counts.now inside c.at-inode.result.0 c.export_entry.new.work.path.items c.export_entry.new.work.firsts inner =
@@ -125,17 +125,17 @@ returns-in_err-export_below-in-Dir-clause-tours g t c place stands =
     let image = current_words (g.R.Region.memory c.args.region.now) in
     let is : c.go_down.new.path.items ≡ c.args.work.now.path.items ++ 47 ∷ c.at-inode.result.1.now = c.in_ok-go_down.ensures ∙ ap (λ l. l ++ 47 ∷ c.at-inode.result.1.now) c.loop-k.invariant.path in
     let path_is : c.export_entry.new.work.path.items ≡ c.args.work.now.path.items ++ 47 ∷ c.at-inode.result.1.now = c.in_ok-export_entry.ensures.path ∙ is in
-    let told = c.loop-k.invariant.tours place stands in
+    let noted = c.loop-k.invariant.tours place stands in
     let child = child_place _ _ _ _ _ place stands c.in_ok-entries.entries c.in_ok-entries.ensures c.loop-k.k c.at-inode.result.0 c.at-inode.result.1.now c.at-inode.ensures.entry in
     let there : WalkStandsAt image c.args.counts.now (itself image c.at-inode.result.0) c.at-inode.result.0 c.go_down.new.path.items c.loop-k.work.firsts child =
-    rw is (stands_at_child _ _ _ _ _ place stands c.in_ok-entries.entries c.in_ok-entries.ensures c.loop-k.k c.at-inode.result.0 c.at-inode.result.1.now c.at-inode.ensures.entry c.loop-k.work.firsts told.remembers) in
+    rw is (stands_at_child _ _ _ _ _ place stands c.in_ok-entries.entries c.in_ok-entries.ensures c.loop-k.k c.at-inode.result.0 c.at-inode.result.1.now c.at-inode.ensures.entry c.loop-k.work.firsts noted.remembers) in
     let entry = c.in_ok-export_entry.ensures.tours child there in
     let kind : IsDirectory image c.at-inode.result.0 = sym c.in_ok-export_entry.ensures.kind ∙ ap kind_word c.in-Dir.is in
     let inner = inner_place _ _ _ _ _ place stands c.in_ok-entries.entries c.in_ok-entries.ensures c.loop-k.k c.at-inode.result.0 c.at-inode.result.1.now c.at-inode.ensures.entry in
     let below : WalkStandsAt image c.args.counts.now inside c.at-inode.result.0 c.export_entry.new.work.path.items c.export_entry.new.work.firsts inner =
     rw path_is (stands_in_child _ _ _ _ _ place stands c.in_ok-entries.entries c.in_ok-entries.ensures c.loop-k.k c.at-inode.result.0 c.at-inode.result.1.now c.at-inode.ensures.entry kind c.export_entry.new.work.firsts entry.remembers) in
     rw p.1
-    (directory_fails _ _ _ _ _ place stands (waiting c.args.work.now.replies) (g.K.Sink.view c.args.out.now) c.in_ok-entries.entries c.in_ok-entries.ensures c.loop-k.k c.at-inode.result.0 c.at-inode.result.1.now c.at-inode.ensures.entry c.loop-k.work.firsts (waiting c.loop-k.work.replies) (g.K.Sink.view c.loop-k.out) told
+    (directory_fails _ _ _ _ _ place stands (waiting c.args.work.now.replies) (g.K.Sink.view c.args.out.now) c.in_ok-entries.entries c.in_ok-entries.ensures c.loop-k.k c.at-inode.result.0 c.at-inode.result.1.now c.at-inode.ensures.entry c.loop-k.work.firsts (waiting c.loop-k.work.replies) (g.K.Sink.view c.loop-k.out) noted
     (waiting c.export_entry.new.work.replies) (g.K.Sink.view c.export_entry.new.out) c.in_ok-export_entry.field-0 c.export_entry.new.work.firsts entry kind
     (waiting c.export_below.new.work.replies) (g.K.Sink.view c.export_below.new.out) c.export_below.new.work.firsts (Unit {0}) (Unit {0}) c.in_err-export_below-in-Dir.field-0.0 p.0 p.2 (c.in_err-export_below-in-Dir.ensures.tours inner below))
 
@@ -153,29 +153,29 @@ loop-k-preserved g t c =
       | in-File w ↦ record {
         path = cut_back _ c.args.work.now.path.items (47 ∷ c.at-inode.result.1.now) _ _ c.truncate.ensures.items (search (rules, c.len-here.ensures)) (ap (λ (work : Work). work.path.items) w.work-is ∙ path_is);
         tours = λ place stands.
-            let told = c.loop-k.invariant.tours place stands in
+            let noted = c.loop-k.invariant.tours place stands in
             let child = child_place _ _ _ _ _ place stands c.in_ok-entries.entries c.in_ok-entries.ensures c.loop-k.k c.at-inode.result.0 c.at-inode.result.1.now c.at-inode.ensures.entry in
             let there : WalkStandsAt image c.args.counts.now (itself image c.at-inode.result.0) c.at-inode.result.0 c.go_down.new.path.items c.loop-k.work.firsts child =
-            rw is (stands_at_child _ _ _ _ _ place stands c.in_ok-entries.entries c.in_ok-entries.ensures c.loop-k.k c.at-inode.result.0 c.at-inode.result.1.now c.at-inode.ensures.entry c.loop-k.work.firsts told.remembers) in
+            rw is (stands_at_child _ _ _ _ _ place stands c.in_ok-entries.entries c.in_ok-entries.ensures c.loop-k.k c.at-inode.result.0 c.at-inode.result.1.now c.at-inode.ensures.entry c.loop-k.work.firsts noted.remembers) in
             let entry = c.in_ok-export_entry.ensures.tours child there in
             rw (w.work-is, w.out-is)
-            (file_told _ _ _ _ _ place stands (waiting c.args.work.now.replies) (g.K.Sink.view c.args.out.now) c.in_ok-entries.entries c.in_ok-entries.ensures c.loop-k.k c.at-inode.result.0 c.at-inode.result.1.now c.at-inode.ensures.entry c.loop-k.work.firsts (waiting c.loop-k.work.replies) (g.K.Sink.view c.loop-k.out) told
+            (file_reported _ _ _ _ _ place stands (waiting c.args.work.now.replies) (g.K.Sink.view c.args.out.now) c.in_ok-entries.entries c.in_ok-entries.ensures c.loop-k.k c.at-inode.result.0 c.at-inode.result.1.now c.at-inode.ensures.entry c.loop-k.work.firsts (waiting c.loop-k.work.replies) (g.K.Sink.view c.loop-k.out) noted
             (waiting c.export_entry.new.work.replies) (g.K.Sink.view c.export_entry.new.out) c.in_ok-export_entry.field-0 c.export_entry.new.work.firsts entry (sym c.in_ok-export_entry.ensures.kind ∙ ap kind_word w.in-File.is));
       }
       | in-Dir+in_ok-export_below-in-Dir w ↦ record {
         path = cut_back _ c.args.work.now.path.items (47 ∷ c.at-inode.result.1.now) _ _ c.truncate.ensures.items (search (rules, c.len-here.ensures)) (ap (λ (work : Work). work.path.items) w.work-is ∙ w.in_ok-export_below-in-Dir.ensures.path ∙ path_is);
         tours = λ place stands.
-            let told = c.loop-k.invariant.tours place stands in
+            let noted = c.loop-k.invariant.tours place stands in
             let child = child_place _ _ _ _ _ place stands c.in_ok-entries.entries c.in_ok-entries.ensures c.loop-k.k c.at-inode.result.0 c.at-inode.result.1.now c.at-inode.ensures.entry in
             let there : WalkStandsAt image c.args.counts.now (itself image c.at-inode.result.0) c.at-inode.result.0 c.go_down.new.path.items c.loop-k.work.firsts child =
-            rw is (stands_at_child _ _ _ _ _ place stands c.in_ok-entries.entries c.in_ok-entries.ensures c.loop-k.k c.at-inode.result.0 c.at-inode.result.1.now c.at-inode.ensures.entry c.loop-k.work.firsts told.remembers) in
+            rw is (stands_at_child _ _ _ _ _ place stands c.in_ok-entries.entries c.in_ok-entries.ensures c.loop-k.k c.at-inode.result.0 c.at-inode.result.1.now c.at-inode.ensures.entry c.loop-k.work.firsts noted.remembers) in
             let entry = c.in_ok-export_entry.ensures.tours child there in
             let kind : IsDirectory image c.at-inode.result.0 = sym c.in_ok-export_entry.ensures.kind ∙ ap kind_word w.in-Dir.is in
             let inner = inner_place _ _ _ _ _ place stands c.in_ok-entries.entries c.in_ok-entries.ensures c.loop-k.k c.at-inode.result.0 c.at-inode.result.1.now c.at-inode.ensures.entry in
             let below : WalkStandsAt image c.args.counts.now inside c.at-inode.result.0 c.export_entry.new.work.path.items c.export_entry.new.work.firsts inner =
             rw path_is (stands_in_child _ _ _ _ _ place stands c.in_ok-entries.entries c.in_ok-entries.ensures c.loop-k.k c.at-inode.result.0 c.at-inode.result.1.now c.at-inode.ensures.entry kind c.export_entry.new.work.firsts entry.remembers) in
             rw (w.work-is, w.out-is)
-            (directory_told _ _ _ _ _ place stands (waiting c.args.work.now.replies) (g.K.Sink.view c.args.out.now) c.in_ok-entries.entries c.in_ok-entries.ensures c.loop-k.k c.at-inode.result.0 c.at-inode.result.1.now c.at-inode.ensures.entry c.loop-k.work.firsts (waiting c.loop-k.work.replies) (g.K.Sink.view c.loop-k.out) told
+            (directory_reported _ _ _ _ _ place stands (waiting c.args.work.now.replies) (g.K.Sink.view c.args.out.now) c.in_ok-entries.entries c.in_ok-entries.ensures c.loop-k.k c.at-inode.result.0 c.at-inode.result.1.now c.at-inode.ensures.entry c.loop-k.work.firsts (waiting c.loop-k.work.replies) (g.K.Sink.view c.loop-k.out) noted
             (waiting c.export_entry.new.work.replies) (g.K.Sink.view c.export_entry.new.out) c.in_ok-export_entry.field-0 c.export_entry.new.work.firsts entry kind
             (waiting w.export_below.new.work.replies) (g.K.Sink.view w.export_below.new.out) w.export_below.new.work.firsts tt (w.in_ok-export_below-in-Dir.ensures.tours inner below));
       }
@@ -183,7 +183,7 @@ loop-k-preserved g t c =
 
 pub returns-clause-tours : goal.returns-clause-tours
 returns-clause-tours g t c place stands =
-    all_told _ _ _ _ _ place stands (waiting c.args.work.now.replies) (g.K.Sink.view c.args.out.now) c.in_ok-entries.entries c.in_ok-entries.ensures c.loop-k.k (omega (arith, c.len-k-end.ensures, c.loop-k-test.false))
+    all_reported _ _ _ _ _ place stands (waiting c.args.work.now.replies) (g.K.Sink.view c.args.out.now) c.in_ok-entries.entries c.in_ok-entries.ensures c.loop-k.k (omega (arith, c.len-k-end.ensures, c.loop-k-test.false))
     c.loop-k.work.firsts (waiting c.loop-k.work.replies) (g.K.Sink.view c.loop-k.out) (c.loop-k.invariant.tours place stands)
 
 pub returns-clause-path : goal.returns-clause-path

@@ -9,7 +9,7 @@ use Rattle.bp_export.proofs.trees.+export_below.Given as goal
 abbrev pub decreases-export_below : goal.decreases-export_below
 decreases-export_below g l = 4096 - length l.work.now.path.items
 
--- the entries so far are told
+-- the entries so far are reported
 abbrev pub invariant-loop-k : goal.invariant-loop-k
 invariant-loop-k g l = record {
   path : l.work.path.items ≡ l.fn.work.path.items;

@@ -12,8 +12,8 @@ use Rattle.bp_export.proofs.DepthLaws.{deep_where_long, short_if_none}
 use Rattle.bp_export.proofs.EndLaws.{ends_deep, ends_handed, ends_unhanded, ends_walk, from_root}
 use Rattle.bp_export.proofs.GoingLaws.{goes_nowhere}
 use Rattle.bp_export.proofs.Places.{root_place, stands_at_root}
-use Rattle.bp_export.proofs.TreeLaws.{all_calls, can_tell}
-use Rattle.bp_export.specs.Walking.{CanTell, WalkStandsAt, inside}
+use Rattle.bp_export.proofs.TreeLaws.{all_calls, can_export}
+use Rattle.bp_export.specs.Walking.{CanExport, WalkStandsAt, inside}
 use Rattle.bp_export.proofs.trees.export.Goals as goal
 
 pub has_long_path-requires-clause-well_formed : goal.has_long_path-requires-clause-well_formed
@@ -56,7 +56,7 @@ export_below-requires-clause-stands g c =
     let tree : FileTree = tree_of image c.requires.file_system.first c.requires.file_system.second in
     let stands : Stands image tree = stands_for image c.requires.file_system.first c.requires.file_system.second in
     let short : HasShortPaths tree = short_if_none image tree stands (λ has. true≢false (sym (c.has_long_path.ensures.1 has) ∙ c.if-has_long_path.false)) in
-    let can : CanTell image tree.now = can_tell image tree stands short in
+    let can : CanExport image tree.now = can_export image tree stands short in
     (root_place image tree.now can, rw c.in_ok-work.ensures.path (stands_at_root image tree.now can c.args.counts.now c.in_ok-work.work.firsts c.in_ok-work.ensures.firsts))
 
 pub returns-in_err-export_below : goal.returns-in_err-export_below
@@ -64,7 +64,7 @@ returns-in_err-export_below g c tree stands =
     let p = err_from_is_err_and c.from_residual-in_err-export_below.result c.from_residual-in_err-export_below.ensures.1 in
     let image = current_words (g.R.Region.memory c.args.region.now) in
     let short : HasShortPaths tree = short_if_none image tree stands (λ has. true≢false (sym (c.has_long_path.ensures.1 has) ∙ c.if-has_long_path.false)) in
-    let can : CanTell image tree.now = can_tell image tree stands short in
+    let can : CanExport image tree.now = can_export image tree stands short in
     let there : WalkStandsAt image c.args.counts.now inside 1 c.in_ok-work.work.path.items c.in_ok-work.work.firsts (root_place image tree.now can) =
     rw c.in_ok-work.ensures.path (stands_at_root image tree.now can c.args.counts.now c.in_ok-work.work.firsts c.in_ok-work.ensures.firsts) in
     rw (p.1, p.2)
@@ -77,7 +77,7 @@ returns-in_err-hand_over g c tree stands =
     let p = err_from_is_err_and c.from_residual-in_err-hand_over.result c.from_residual-in_err-hand_over.ensures.1 in
     let image = current_words (g.R.Region.memory c.args.region.now) in
     let short : HasShortPaths tree = short_if_none image tree stands (λ has. true≢false (sym (c.has_long_path.ensures.1 has) ∙ c.if-has_long_path.false)) in
-    let can : CanTell image tree.now = can_tell image tree stands short in
+    let can : CanExport image tree.now = can_export image tree stands short in
     let there : WalkStandsAt image c.args.counts.now inside 1 c.in_ok-work.work.path.items c.in_ok-work.work.firsts (root_place image tree.now can) =
     rw c.in_ok-work.ensures.path (stands_at_root image tree.now can c.args.counts.now c.in_ok-work.work.firsts c.in_ok-work.ensures.firsts) in
     rw p.1
@@ -90,7 +90,7 @@ pub returns : goal.returns
 returns g c tree stands =
     let image = current_words (g.R.Region.memory c.args.region.now) in
     let short : HasShortPaths tree = short_if_none image tree stands (λ has. true≢false (sym (c.has_long_path.ensures.1 has) ∙ c.if-has_long_path.false)) in
-    let can : CanTell image tree.now = can_tell image tree stands short in
+    let can : CanExport image tree.now = can_export image tree stands short in
     let there : WalkStandsAt image c.args.counts.now inside 1 c.in_ok-work.work.path.items c.in_ok-work.work.firsts (root_place image tree.now can) =
     rw c.in_ok-work.ensures.path (stands_at_root image tree.now can c.args.counts.now c.in_ok-work.work.firsts c.in_ok-work.ensures.firsts) in
     ends_handed (Unit {0}) tree (g.K.Sink.view c.args.out.now) short c.in_ok-export_below.field-0 (tt {0}) (waiting c.export_below.new.work.replies) (g.K.Sink.view c.export_below.new.out) (g.K.Sink.view c.hand_over.new.out)

@@ -6,8 +6,8 @@ use Rattle.bp_layout.specs.Tree.{content}
 use Rattle.bp_plain.specs.Export.{calls_for}
 use Rattle.bp_script.specs.Export.{FitsText}
 use Rattle.pm_region.specs.Memory.{current_words}
-use Rattle.bp_export.proofs.GoingLaws.{goes_end, goes_told, goes_untold}
-use Rattle.bp_export.proofs.TellingLaws.{tells_same}
+use Rattle.bp_export.proofs.GoingLaws.{goes_end, goes_reported, goes_unreported}
+use Rattle.bp_export.proofs.ReportLaws.{reports_same}
 use Rattle.bp_export.proofs.trees.export_new.Goals as goal
 
 pub export_file-requires-clause-short : goal.export_file-requires-clause-short
@@ -21,9 +21,9 @@ returns-in_err-export_file-clause-goes g c =
     let text = c.args.work.now.path.items in
     let p = err_from_is_err_and c.from_residual.result c.from_residual.ensures.1 in
     goes_end _ p.0 p.1 (calls_for text (file bytes)) _ _ _ _
-    (goes_untold (Unit {0}) (Unit {0}) _ p.0 p.2 (calls_for text (file bytes)) _ _ _ _ _ (tells_same _ _ _ _ _ _ _ (ap (λ (t : List ℕ). calls_for t (file bytes)) c.deref.ensures.value) c.in_err-export_file.ensures.lines))
+    (goes_unreported (Unit {0}) (Unit {0}) _ p.0 p.2 (calls_for text (file bytes)) _ _ _ _ _ (reports_same _ _ _ _ _ _ _ (ap (λ (t : List ℕ). calls_for t (file bytes)) c.deref.ensures.value) c.in_err-export_file.ensures.lines))
 
 pub returns-clause-goes : goal.returns-clause-goes
 returns-clause-goes g c =
     let bytes = content (current_words (g.R.Region.memory c.args.region.now)) c.args.tree.root c.args.tree.size in
-    goes_told {T = Unit {0}} _ tt (calls_for c.args.work.now.path.items (file bytes)) _ _ _ _ (tells_same _ _ _ _ _ _ _ (ap (λ (t : List ℕ). calls_for t (file bytes)) c.deref.ensures.value) c.in_ok-export_file.ensures.lines)
+    goes_reported {T = Unit {0}} _ tt (calls_for c.args.work.now.path.items (file bytes)) _ _ _ _ (reports_same _ _ _ _ _ _ _ (ap (λ (t : List ℕ). calls_for t (file bytes)) c.deref.ensures.value) c.in_ok-export_file.ensures.lines)

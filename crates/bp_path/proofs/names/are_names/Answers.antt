@@ -2,8 +2,8 @@ use Rattle.std.proofs.Common.{◌+◌, sym, ◌∙◌, eq-eqb}
 use Rattle.std.proofs.lemmas.Bool.{ne_eqb}
 use Rattle.std.proofs.lemmas.List.{take_rest}
 use Rattle.bp_layout.proofs.Parts.{none_left}
-use Rattle.bp_path.proofs.PartsLaws.{not_all, all_behind, all_one}
-use Rattle.bp_path.proofs.PlainBytes.{no_names, no_slash_found, plain_front, plain_whole, slash_found, zero_found}
+use Rattle.bp_path.proofs.PartsLaws.{not_all, all_after, all_one}
+use Rattle.bp_path.proofs.PlainBytes.{no_names, no_slash_found, plain_prefix, plain_whole, slash_found, zero_found}
 use Rattle.bp_path.proofs.names.are_names.Goals as goal
 
 pub returns-then-rest-end-eq0 : goal.returns-then-rest-end-eq0
@@ -16,7 +16,7 @@ returns-then-not-is_plain_name c =
     sym (not_all c.loop-end.rest.now c.in-Some.end slash (sym c.is_plain_name.ensures ∙ c.if-not-is_plain_name.true)) ∙ c.loop-end.invariant
 
 pub is_plain_name-requires : goal.is_plain_name-requires
-is_plain_name-requires c = plain_front c.loop-end.rest.now c.in-Some.end (sym c.in-Some.ensures)
+is_plain_name-requires c = plain_prefix c.loop-end.rest.now c.in-Some.end (sym c.in-Some.ensures)
 
 pub is_plain_name-requires-2 : goal.is_plain_name-requires-2
 is_plain_name-requires-2 c = plain_whole c.loop-end.rest.now (sym c.first_of_either.ensures ∙ none_left c.first_of_either.result c.in_default.not-Some)
@@ -25,7 +25,7 @@ pub loop-end-preserved : goal.loop-end-preserved
 loop-end-preserved c =
     let slash = slash_found c.loop-end.rest.now c.in-Some.end (sym c.in-Some.ensures) (ne_eqb _ _ c.if-rest-end-eq0.false) in
     rw (take_rest c.loop-end.rest.now (c.in-Some.end + 1))
-    (sym (all_behind c.loop-end.rest.now c.in-Some.end slash (sym c.is_plain_name.ensures ∙ c.if-not-is_plain_name.false)) ∙ c.loop-end.invariant)
+    (sym (all_after c.loop-end.rest.now c.in-Some.end slash (sym c.is_plain_name.ensures ∙ c.if-not-is_plain_name.false)) ∙ c.loop-end.invariant)
 
 pub returns : goal.returns
 returns c =

@@ -9,8 +9,8 @@ returns-clause-split c =
     rw (take_rest text start, c.saturating_sub.ensures)
     (names_last text start c.last_start-start.ensures.within c.last_start-start.ensures.last c.last_start-start.ensures.slash c.requires.some c.requires.names).0
 
-pub returns-clause-front : goal.returns-clause-front
-returns-clause-front c =
+pub returns-clause-prefix : goal.returns-clause-prefix
+returns-clause-prefix c =
     let text = c.args.text.now in
     let start = c.last_start-start.result in
     rw c.saturating_sub.ensures

@@ -7,9 +7,9 @@ use Rattle.bp_plain.specs.Calls.{Piece}
 use Rattle.bp_plain.specs.Calls.Call.{batch}
 use Rattle.bp_plain.specs.Seen.{piece_in}
 use Rattle.bp_script.specs.Commands.Command.{bad_syntax, file_call}
-use Rattle.bp_script.specs.Lines.{first_word, words_at, words_behind}
-use Rattle.bp_script.proofs.BatchWords.{asked_so, asks_on, len_behind_less, lie_in_all, no_piece, on_few, on_full, on_none, on_piece, one_more, one_more_lies}
-use Rattle.bp_script.proofs.FirstWord.{words_told}
+use Rattle.bp_script.specs.Lines.{first_word, words_at, words_after}
+use Rattle.bp_script.proofs.BatchWords.{asked_so, asks_on, len_after_less, lie_in_all, no_piece, on_few, on_full, on_none, on_piece, one_more, one_more_lies}
+use Rattle.bp_script.proofs.FirstWord.{words_reported}
 use Rattle.bp_script.proofs.Splitting.{slice_split-cons}
 use Rattle.bp_script.proofs.batches.decode_pieces.Goals as goal
 
@@ -29,7 +29,7 @@ returns-in_err-piece-clause-meaning c =
     let cut = slice_split-cons (λ b. b == 32) words.rest.now in
     rw p.1 (
     asked_so (words_at c.args.first) done (words_at words) bad_syntax (rw c.in-Some.is at c.loop-left.invariant.asks)
-    (ap (λ ws. asks_on done (words.path.now ∷ words.offset.now ∷ ws)) (words_told words.rest.now cut.0 cut.1 cut.2)
+    (ap (λ ws. asks_on done (words.path.now ∷ words.offset.now ∷ ws)) (words_reported words.rest.now cut.0 cut.1 cut.2)
     ∙ no_piece done words.path.now words.offset.now (first_word words.rest.now) cut.1 (sym c.in_err-piece.ensures.piece))
     )
 
@@ -41,9 +41,9 @@ returns-in_err-left-clause-meaning c =
     let piece = piece_in c.add_piece.new.text.items c.in_ok-piece.piece in
     rw p.1 (
     asked_so (words_at c.args.first) done (words_at words) bad_syntax (rw c.in-Some.is at c.loop-left.invariant.asks)
-    (ap (λ ws. asks_on done (words.path.now ∷ words.offset.now ∷ ws)) c.in_ok-piece.ensures.behind
-    ∙ on_piece done words.path.now words.offset.now (first_word words.rest.now) (words_behind c.in_ok-piece.more) piece (sym c.in_ok-piece.ensures.piece)
-    ∙ on_few (done ++ piece ∷ []) (words_behind c.in_ok-piece.more) c.in_err-left.ensures.few.0 c.in_err-left.ensures.few.1)
+    (ap (λ ws. asks_on done (words.path.now ∷ words.offset.now ∷ ws)) c.in_ok-piece.ensures.following
+    ∙ on_piece done words.path.now words.offset.now (first_word words.rest.now) (words_after c.in_ok-piece.more) piece (sym c.in_ok-piece.ensures.piece)
+    ∙ on_few (done ++ piece ∷ []) (words_after c.in_ok-piece.more) c.in_err-left.ensures.few.0 c.in_err-left.ensures.few.1)
     )
 
 pub loop-left-preserved : goal.loop-left-preserved
@@ -57,9 +57,9 @@ loop-left-preserved c =
     let given = c.in_ok-piece.piece in
     let piece = piece_in longer given in
     let asks : asks_on (map (piece_in longer) c.push.new.self.items) (option_map_or words_at c.in_ok-left.left []) ≡ asks_on [] (words_at c.args.first) =
-    ap₂ (λ (ps : List Piece) (ws : List (List ℕ)). asks_on ps ws) (ap (map (piece_in longer)) c.push.ensures.items ∙ one_more end text longer pieces given c.in_ok-piece.ensures.front c.loop-left.invariant.whole) c.in_ok-left.ensures.split
-    ∙ sym (on_piece done words.path.now words.offset.now (first_word words.rest.now) (words_behind c.in_ok-piece.more) piece (sym c.in_ok-piece.ensures.piece))
-    ∙ ap (λ ws. asks_on done (words.path.now ∷ words.offset.now ∷ ws)) (sym c.in_ok-piece.ensures.behind)
+    ap₂ (λ (ps : List Piece) (ws : List (List ℕ)). asks_on ps ws) (ap (map (piece_in longer)) c.push.ensures.items ∙ one_more end text longer pieces given c.in_ok-piece.ensures.prefix c.loop-left.invariant.whole) c.in_ok-left.ensures.split
+    ∙ sym (on_piece done words.path.now words.offset.now (first_word words.rest.now) (words_after c.in_ok-piece.more) piece (sym c.in_ok-piece.ensures.piece))
+    ∙ ap (λ ws. asks_on done (words.path.now ∷ words.offset.now ∷ ws)) (sym c.in_ok-piece.ensures.following)
     ∙ (rw c.in-Some.is at c.loop-left.invariant.asks) in record {
       asks = asks;
       whole = rw c.push.ensures.items (
@@ -70,7 +70,7 @@ loop-left-preserved c =
       within = omega (arith, c.end_of-end.ensures, c.in_ok-piece.ensures.lies.bytes);
       some = omega (arith, c.push.ensures.len);
       few = omega (arith, c.push.ensures.len, c.is_full.ensures.fits, eqb-false _ _ (sym c.is_full.ensures.value ∙ c.if-is_full.false));
-      fits = omega (arith, (rw c.in-Some.is at c.loop-left.invariant.fits), c.end_of-end.ensures, c.in_ok-piece.ensures.len, c.in_ok-left.ensures.len, len_behind_less c.in_ok-piece.more);
+      fits = omega (arith, (rw c.in-Some.is at c.loop-left.invariant.fits), c.end_of-end.ensures, c.in_ok-piece.ensures.len, c.in_ok-left.ensures.len, len_after_less c.in_ok-piece.more);
       room = omega (arith, c.loop-left.invariant.room, c.in_ok-piece.ensures.room);
     }
 

@@ -5,21 +5,21 @@ use Rattle.std.proofs.lemmas.List.{length-take, take_all}
 use Rattle.std.proofs.lemmas.List.Folds.{list_all_more}
 use Rattle.std.specs.Char.{is_ascii_digit}
 use Rattle.std.specs.List.{list_all}
-use Rattle.bp_script.proofs.NumberWords.{all_fit, bytes_of_front, digit_is, few_fit, is_digit, number_is}
+use Rattle.bp_script.proofs.NumberWords.{all_fit, bytes_of_prefix, digit_is, few_fit, is_digit, number_is}
 use Rattle.bp_script.proofs.numbers.short_number.Goals as goal
 
 pub overflow_mul-value : goal.overflow_mul-value
 overflow_mul-value c =
     let word = c.args.word.now in
     let i = c.loop-byte.byte-index in
-    let fits = few_fit (take i word) (bytes_of_front word i (λ k. (c.type_inv.word k).fits)) c.loop-byte.invariant.digits (omega (arith, length-take i word)) in
+    let fits = few_fit (take i word) (bytes_of_prefix word i (λ k. (c.type_inv.word k).fits)) c.loop-byte.invariant.digits (omega (arith, length-take i word)) in
     record { fits = omega (arith, fits, c.loop-byte.invariant.value) }
 
 pub overflow_add-value : goal.overflow_add-value
 overflow_add-value c =
     let word = c.args.word.now in
     let i = c.loop-byte.byte-index in
-    let fits = few_fit (take i word) (bytes_of_front word i (λ k. (c.type_inv.word k).fits)) c.loop-byte.invariant.digits (omega (arith, length-take i word)) in
+    let fits = few_fit (take i word) (bytes_of_prefix word i (λ k. (c.type_inv.word k).fits)) c.loop-byte.invariant.digits (omega (arith, length-take i word)) in
     let digit = is_digit (get_or word i 0) (sym c.is_ascii_digit.ensures.value ∙ c.if-not-is_ascii_digit.false) in
     record { fits = omega (arith, fits, digit, c.loop-byte.invariant.value) }
 

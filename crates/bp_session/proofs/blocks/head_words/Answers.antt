@@ -13,8 +13,8 @@ loop-k-preserved g c =
     let words = c.loop-k.words in
     record {
       size = length-set words k c.load.result ∙ c.loop-k.invariant.size;
-      front = take_more_set words k c.load.result (omega (arith, c.loop-k.invariant.size))
-          ∙ ap (λ l. l ++ c.load.result ∷ []) c.loop-k.invariant.front
+      prefix = take_more_set words k c.load.result (omega (arith, c.loop-k.invariant.size))
+          ∙ ap (λ l. l ++ c.load.result ∷ []) c.loop-k.invariant.prefix
           ∙ ap (λ w. take k image ++ w ∷ []) c.load.ensures
           ∙ sym (take_more image k 0 (omega (arith, c.requires, length-current_words memory)));
     }
@@ -24,4 +24,4 @@ returns g c =
     let end : c.loop-k.k ≡ length c.loop-k.words = omega (arith, c.loop-k.invariant.size) in
     let eight : c.loop-k.k ≡ 8 = omega (arith, c.loop-k.invariant.size, end) in
     let whole : take c.loop-k.k c.loop-k.words ≡ c.loop-k.words = rw end (take-length c.loop-k.words) in
-    sym whole ∙ c.loop-k.invariant.front ∙ ap (λ n. take n (current_words (g.R.Region.memory c.args.region.now))) eight
+    sym whole ∙ c.loop-k.invariant.prefix ∙ ap (λ n. take n (current_words (g.R.Region.memory c.args.region.now))) eight

@@ -6,5 +6,5 @@ use Rattle.bp_session.proofs.blocks.head_words.Given as goal
 abbrev pub invariant-loop-k : goal.invariant-loop-k
 invariant-loop-k g l = record {
   size : length l.words ≡ 8;
-  front : take l.k l.words ≡ take l.k (current_words (g.R.Region.memory l.region));
+  prefix : take l.k l.words ≡ take l.k (current_words (g.R.Region.memory l.region));
 }

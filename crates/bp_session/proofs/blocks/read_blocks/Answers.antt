@@ -29,4 +29,4 @@ returns-then-first-eq0 g c =
     let blocks = length c.args.into.now / 4096 in
     let width : length c.args.into.now / 8 ≡ 512 * blocks = omega (arith, c.requires.whole) in
     let whole = ap (λ n. take n image) width ∙ ap (λ first. take (512 * blocks) (drop (512 * first) image)) (sym c.if-first-eq0.true) in
-    c.read_front.ensures ∙ ap image_bytes whole ∙ sym (blocks-image_bytes image c.args.first blocks)
+    c.read_prefix.ensures ∙ ap image_bytes whole ∙ sym (blocks-image_bytes image c.args.first blocks)

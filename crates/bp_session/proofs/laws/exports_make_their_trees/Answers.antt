@@ -5,7 +5,7 @@ use Rattle.bp_plain.specs.PlainTree.{FileTree, empty_tree}
 use Rattle.bp_plain.specs.Stands.{Stands}
 use Rattle.bp_plain.proofs.Exported.{export_done}
 use Rattle.bp_script.specs.Commands.{Command}
-use Rattle.bp_session.specs.PlainSession.{PlainSession, TellsNoSpace, fresh}
+use Rattle.bp_session.specs.PlainSession.{PlainSession, ReportsNoSpace, fresh}
 use Rattle.bp_session.proofs.ExportedLines.{calls_done, export_asks}
 use Rattle.bp_session.proofs.PlainLaws.{follows_fresh, plain_session}
 use Rattle.pm_region.specs.Memory.{current_words}
@@ -16,5 +16,5 @@ returns c = λ old new tree replies can of_bytes empty stands session never.
     let run = plain_session old (fresh (empty_tree tree.version)) _ replies new (follows_fresh old.memory (empty_tree tree.version) empty stands) session in
     let calls = subst (λ (commands : List Command). PlainSession (fresh (empty_tree tree.version)) commands replies run.plain) (export_asks tree can of_bytes) run.session in
     let is = calls_done (export_calls tree) (fresh (empty_tree tree.version)) run.plain replies (empty_tree tree.version) (without_snapshot tree) refl (export_done tree can)
-    calls (recursion_from_All (λ reply. ¬ TellsNoSpace reply) replies never) in
+    calls (recursion_from_All (λ reply. ¬ ReportsNoSpace reply) replies never) in
     subst (λ (t : FileTree). Stands (current_words new.memory) t) is run.follows.now

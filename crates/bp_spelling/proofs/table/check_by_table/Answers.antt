@@ -3,7 +3,7 @@ use Rattle.pm_region.specs.Memory.{current_words}
 use Rattle.bp_spelling.specs.declared.table.Clash.{Clash}
 use Rattle.bp_spelling.specs.Hashes.{place_of}
 use Rattle.bp_spelling.specs.Tables.{cell_at, IsClash}
-use Rattle.bp_spelling.specs.Tables.IsTableError.{repeated, untold}
+use Rattle.bp_spelling.specs.Tables.IsTableError.{repeated, unreported}
 use Rattle.bp_spelling.proofs.TableLaws.{held_apart, held_double, held_more}
 use Rattle.bp_spelling.proofs.table.check_by_table.Goals as goal
 
@@ -16,7 +16,7 @@ returns-in-Err-Double-clause-err g c =
     (subst (λ (clash : Clash). IsClash image c.loop-entry.table (cell_at entries index) clash) c.in-Err-Double.field-0-is c.in-Err-Double.ensures.err)))
 
 pub returns-in-Err-Full-clause-err : goal.returns-in-Err-Full-clause-err
-returns-in-Err-Full-clause-err g c = untold
+returns-in-Err-Full-clause-err g c = unreported
 
 pub loop-entry-preserved : goal.loop-entry-preserved
 loop-entry-preserved g c = record {

@@ -21,7 +21,7 @@ no_zero n some = omega (arith, some)
 top_is : (g : given.Over) (c : After-height-top g) → c.height-top.result ≡ height_of (root_of (current_words (g.R.Region.memory c.args.region.now)) 0)
 top_is g c = c.height-top.ensures ∙ ap height_of c.inode_file-file.ensures.root
 
--- below the inode file the number that is read tells an inode
+-- below the inode file the number that is read reports an inode
 tree : (g : given.Over) (c : After-number-inode g) →
     IsInTree (current_words (g.R.Region.memory c.args.region.now)) c.args.way.now.items c.args.depth c.height-top.result c.number-inode.result
 tree g c =

@@ -3,7 +3,7 @@ use Rattle.bp_layout.specs.Tree.{tree_word}
 use Rattle.pm_region.specs.Memory.{current_words}
 use Rattle.bp_tree.proofs.descent.descend.Given as goal
 
--- the word that stands so many levels above the one that is sought
+-- the word that stands as many levels above the one that is sought
 abbrev pub invariant-loop-levels : goal.invariant-loop-levels
 invariant-loop-levels g l = record {
   within : l.levels ≤ l.depth;

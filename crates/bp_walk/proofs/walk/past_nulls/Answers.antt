@@ -9,8 +9,8 @@ loop-next-preserved c =
     record {
       further = omega (arith, c.loop-next.invariant.further);
       most = omega (arith, c.loop-next-test.true);
-      nulls = λ i behind low. elim (cases_lt i next) [
-        | inl before ↦ c.loop-next.invariant.nulls i behind before
+      nulls = λ i beyond low. elim (cases_lt i next) [
+        | inl before ↦ c.loop-next.invariant.nulls i beyond before
         | inr late ↦ zero_there c.args.pointers.now next i late low (omega (arith, c.loop-next-test.true)) (c.are_null.ensures c.if-are_null.true)
       ];
     }

@@ -15,7 +15,7 @@ returns g c = λ call is.
         is_call = is _ _ w.act.result (record { shown = _; shows = search rules; left = _; met = w.act.ensures; leaves = search rules });
         held = search rules
             ∙ ap (λ kept. Some (record held { volume = w.act.new.arg2; listing = kept })) (sym (unit_keeps held.listing w.act.result));
-        told = search rules;
+        reported = search rules;
       })
       | else-has_room w ↦ full held (search rules) (search rules) (search rules) (search rules) (search rules)
     ]

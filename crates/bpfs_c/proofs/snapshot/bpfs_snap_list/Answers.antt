@@ -13,7 +13,7 @@ returns c =
         volume = w.snap_list-ending.new.self;
         is_call = search rules;
         held = search rules;
-        told = search rules;
+        reported = search rules;
       })
       | else-has_room w ↦ full held (search rules) (search rules) (search rules) (search rules) (search rules)
     ]

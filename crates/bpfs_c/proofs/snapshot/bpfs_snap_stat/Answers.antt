@@ -15,7 +15,7 @@ returns c =
         is_call = search rules;
         held = search rules
             ∙ ap (λ kept. Some (record held { volume = w.snap_stat.new.self; listing = kept })) (sym (stat_keeps held.listing w.snap_stat.result));
-        told = search rules;
+        reported = search rules;
       })
       | else-has_room w ↦ full held (search rules) (search rules) (search rules) (search rules) (search rules)
     ]

@@ -15,7 +15,7 @@ returns c =
         is_call = search rules;
         held = search rules
             ∙ ap (λ kept. Some (record held { volume = w.unsnap.new.self; listing = kept })) (sym (unit_keeps held.listing w.unsnap.result));
-        told = search rules;
+        reported = search rules;
       })
       | else-has_room w ↦ full held (search rules) (search rules) (search rules) (search rules) (search rules)
     ]

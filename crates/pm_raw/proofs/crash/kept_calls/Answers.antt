@@ -6,8 +6,8 @@ use Rattle.pm_raw.proofs.EpochLaws.{call_ends-from, call_ends-low, call_ends-spl
 use Rattle.pm_raw.proofs.PlaceLaws.{call_ends-below, call_ends-places}
 use Rattle.pm_raw.proofs.crash.kept_calls.Goals as goal
 
-pub behind-requires : goal.behind-requires
-behind-requires c = omega (arith, c.requires.start, epoch_start-low c.args.choice.now.cut.epoch c.args.log.now)
+pub suffix-requires : goal.suffix-requires
+suffix-requires c = omega (arith, c.requires.start, epoch_start-low c.args.choice.now.cut.epoch c.args.log.now)
 
 pub overflow_add-result : goal.overflow_add-result
 overflow_add-result c =
@@ -15,8 +15,8 @@ overflow_add-result c =
     let start = c.args.start in
     let mask = c.mask.result.now in
     let before = c.before-2.ensures ∙ call_ends-below log c.args.call_end_places.now.items start c.requires.places in
-    let behind = c.calls_of.ensures ∙ ap (call_ends_of 0 mask) c.behind.ensures in
-    omega (arith, before, behind, call_ends_of-low mask (drop start log), call_ends-split start log, call_ends-low log, c.requires.small)
+    let suffix = c.calls_of.ensures ∙ ap (call_ends_of 0 mask) c.suffix.ensures in
+    omega (arith, before, suffix, call_ends_of-low mask (drop start log), call_ends-split start log, call_ends-low log, c.requires.small)
 
 pub returns-clause-kept : goal.returns-clause-kept
 returns-clause-kept c =
@@ -26,11 +26,11 @@ returns-clause-kept c =
     c.before-2.ensures
     ∙ call_ends-below log c.args.call_end_places.now.items c.args.start c.requires.places
     ∙ ap (λ n. call_ends (take n log)) c.requires.start in
-    let behind =
+    let suffix =
     c.calls_of.ensures
-    ∙ ap (λ mask. call_ends_of 0 mask c.behind.result) c.mask.ensures
-    ∙ ap (call_ends_of 0 cut.mask) (c.behind.ensures ∙ ap (λ n. drop n log) c.requires.start) in
-    omega (arith, before, behind, call_ends-from cut.epoch cut.mask log)
+    ∙ ap (λ mask. call_ends_of 0 mask c.suffix.result) c.mask.ensures
+    ∙ ap (call_ends_of 0 cut.mask) (c.suffix.ensures ∙ ap (λ n. drop n log) c.requires.start) in
+    omega (arith, before, suffix, call_ends-from cut.epoch cut.mask log)
 
 pub returns-clause-of : goal.returns-clause-of
 returns-clause-of c = c.len.ensures ∙ ap length c.requires.places ∙ call_ends-places 0 c.args.log.now

@@ -4,8 +4,8 @@ use Rattle.pm_epochs.specs.declared.event.Event.{Event}
 use Rattle.pm_epochs.specs.Log.{barriers, epoch_stores}
 use Rattle.pm_epochs.specs.Replay.{IsRight}
 use Rattle.pm_region.specs.Epochs.{epoch_start}
-use Rattle.pm_region.proofs.EpochLaws.{barriers-front, epoch_start-taken, stores-at}
-use Rattle.pm_raw.specs.Places.{is_barrier, places_where, start_behind, count_below}
+use Rattle.pm_region.proofs.EpochLaws.{barriers-prefix, epoch_start-taken, stores-at}
+use Rattle.pm_raw.specs.Places.{is_barrier, places_where, start_after, count_below}
 use Rattle.pm_raw.proofs.PlaceLaws.{barriers-below, epochs-places, start-places, start-small}
 use Rattle.pm_raw.proofs.crash.start_of.Goals as goal
 use Rattle.pm_raw.proofs.crash.start_of.Goals.{then-moment-len-via-then-moment-len, then-moment-len-via-else-moment-len+then-epoch-before}
@@ -37,8 +37,8 @@ begun-by : (log : List Event) (places : List ℕ) (moment epoch count : ℕ) →
 begun-by log places moment epoch count is are low = omega (arith, is, low, barriers-below log places moment are)
 
 -- and where it begins
-start-by : (log : List Event) (places : List ℕ) (moment epoch start : ℕ) → start ≡ start_behind places epoch → places ≡ places_where is_barrier 0 log → epoch ≤ barriers (take moment log) → start ≡ epoch_start epoch log
-start-by log places moment epoch start is are begun = is ∙ start-places epoch log places are (omega (arith, begun, barriers-front moment log))
+start-by : (log : List Event) (places : List ℕ) (moment epoch start : ℕ) → start ≡ start_after places epoch → places ≡ places_where is_barrier 0 log → epoch ≤ barriers (take moment log) → start ≡ epoch_start epoch log
+start-by log places moment epoch start is are begun = is ∙ start-places epoch log places are (omega (arith, begun, barriers-prefix moment log))
 
 pub start_of_epoch-start-requires-clause-begun : goal.start_of_epoch-start-requires-clause-begun
 start_of_epoch-start-requires-clause-begun c =
@@ -46,7 +46,7 @@ start_of_epoch-start-requires-clause-begun c =
     let places = c.args.barrier_places.now.items in
     let moment = c.moment-moment.result in
     let begun = begun-by log places moment c.epoch-epoch.result _ c.before-else-moment-len.ensures c.requires.places (omega (arith, c.if-epoch-before.false)) in
-    epochs-places c.epoch-epoch.result log places c.requires.places (omega (arith, begun, barriers-front moment log))
+    epochs-places c.epoch-epoch.result log places c.requires.places (omega (arith, begun, barriers-prefix moment log))
 
 pub start_of_epoch-start-requires-clause-small : goal.start_of_epoch-start-requires-clause-small
 start_of_epoch-start-requires-clause-small c =
@@ -54,11 +54,11 @@ start_of_epoch-start-requires-clause-small c =
     let places = c.args.barrier_places.now.items in
     let moment = c.moment-moment.result in
     let begun = begun-by log places moment c.epoch-epoch.result _ c.before-else-moment-len.ensures c.requires.places (omega (arith, c.if-epoch-before.false)) in
-    let early = start-small c.epoch-epoch.result log places c.requires.places (omega (arith, begun, barriers-front moment log)) in
+    let early = start-small c.epoch-epoch.result log places c.requires.places (omega (arith, begun, barriers-prefix moment log)) in
     omega (arith, early, c.requires.small)
 
-pub behind-requires : goal.behind-requires
-behind-requires c =
+pub suffix-requires : goal.suffix-requires
+suffix-requires c =
     let log = c.args.log.now in
     let moment = c.moment-moment.result in
     let fits : moment ≤ length log = omega (arith, c.if-moment-len.false, c.len.ensures) in
@@ -67,7 +67,7 @@ behind-requires c =
       arith,
       start-by log c.args.barrier_places.now.items moment c.epoch-epoch.result _ c.start_of_epoch-start.ensures c.requires.places begun,
       epoch_start-taken moment c.epoch-epoch.result log begun,
-      ap length c.front.ensures,
+      ap length c.prefix.ensures,
       length-take-le moment log fits,
     )
 
@@ -75,16 +75,16 @@ pub returns-then-mask-first_stores-clause-right : goal.returns-then-mask-first_s
 returns-then-mask-first_stores-clause-right c =
     let log = c.args.log.now in
     let cut = c.args.choice.now.cut in
-    let front_is = c.front.ensures ∙ ap (λ n. take n log) c.moment-moment.ensures in
+    let prefix_is = c.prefix.ensures ∙ ap (λ n. take n log) c.moment-moment.ensures in
     let places = c.args.barrier_places.now.items in
     let moment = c.moment-moment.result in
     let early = begun-by log places moment c.epoch-epoch.result _ c.before-else-moment-len.ensures c.requires.places (omega (arith, c.if-epoch-before.false)) in
     let start_is = start-by log places moment c.epoch-epoch.result _ c.start_of_epoch-start.ensures c.requires.places early ∙ ap (λ n. epoch_start n log) c.epoch-epoch.ensures in
     let stores =
     c.first_stores.ensures
-    ∙ ap (epoch_stores 0) c.behind.ensures
-    ∙ ap (λ n. epoch_stores 0 (drop n c.front.result)) start_is
-    ∙ ap (λ es. epoch_stores 0 (drop (epoch_start cut.epoch log) es)) front_is in (
+    ∙ ap (epoch_stores 0) c.suffix.ensures
+    ∙ ap (λ n. epoch_stores 0 (drop n c.prefix.result)) start_is
+    ∙ ap (λ es. epoch_stores 0 (drop (epoch_start cut.epoch log) es)) prefix_is in (
       λ no. absurd cc,
       λ right. absurd (omega (
         arith,
@@ -100,16 +100,16 @@ pub returns-clause-right : goal.returns-clause-right
 returns-clause-right c =
     let log = c.args.log.now in
     let cut = c.args.choice.now.cut in
-    let front_is = c.front.ensures ∙ ap (λ n. take n log) c.moment-moment.ensures in
+    let prefix_is = c.prefix.ensures ∙ ap (λ n. take n log) c.moment-moment.ensures in
     let places = c.args.barrier_places.now.items in
     let moment = c.moment-moment.result in
     let early = begun-by log places moment c.epoch-epoch.result _ c.before-else-moment-len.ensures c.requires.places (omega (arith, c.if-epoch-before.false)) in
     let start_is = start-by log places moment c.epoch-epoch.result _ c.start_of_epoch-start.ensures c.requires.places early ∙ ap (λ n. epoch_start n log) c.epoch-epoch.ensures in
     let stores =
     c.first_stores.ensures
-    ∙ ap (epoch_stores 0) c.behind.ensures
-    ∙ ap (λ n. epoch_stores 0 (drop n c.front.result)) start_is
-    ∙ ap (λ es. epoch_stores 0 (drop (epoch_start cut.epoch log) es)) front_is in
+    ∙ ap (epoch_stores 0) c.suffix.ensures
+    ∙ ap (λ n. epoch_stores 0 (drop n c.prefix.result)) start_is
+    ∙ ap (λ es. epoch_stores 0 (drop (epoch_start cut.epoch log) es)) prefix_is in
     let begun : cut.epoch ≤ barriers (take cut.moment log) = omega (
       arith,
       c.if-epoch-before.false,

@@ -3,7 +3,7 @@ use Rattle.pm_raw.specs.Entries.{events_of}
 use Rattle.pm_raw.specs.Unwound.{base_from, events_from}
 use Rattle.pm_raw.proofs.unwind.unwind.Given as goal
 
--- the events behind the first ones are unwound
+-- the events after the first ones are unwound
 abbrev pub invariant-loop-end : goal.invariant-loop-end
 invariant-loop-end l = record {
   low : l.start ≤ l.end;

@@ -1,7 +1,7 @@
 use Rattle.std.proofs.Common.{◌≡◌, ◌+◌, ◌-◌, Some, ap, arith, drop, take, refl, ◌∙◌}
 use Rattle.pm_epochs.specs.Kind.{event_of, value_at}
 use Rattle.pm_epochs.specs.declared.event.Event.TheVariants.{Barrier, CallEnd}
-use Rattle.pm_runs.proofs.PieceLaws.{told-one, told-row}
+use Rattle.pm_runs.proofs.PieceLaws.{reported-one, reported-row}
 use Rattle.pm_runs.proofs.pieces.run_at.Goals as goal
 
 pub returns-in-Store : goal.returns-in-Store
@@ -12,11 +12,11 @@ returns-in-Store c =
     let len = row.result.len in
     let value = value_at events first in
     let exact : (first + len) - first ≡ len = omega arith in
-    told-row events first len c.copy_front.result c.in-Store.word c.args.values.now _ c.copy_front.new.into
+    reported-row events first len c.copy_prefix.result c.in-Store.word c.args.values.now _ c.copy_prefix.new.into
     (row.ensures.get ∙ ap (λ kind. Some (event_of kind value)) c.in-Store.is)
     row.ensures.some row.ensures.inside row.ensures.row
     (ap (λ n. take n (drop first c.values.result.now)) exact ∙ ap (λ values. take len (drop first values)) c.values.ensures)
-    c.copy_front.ensures.count c.copy_front.ensures.copied
+    c.copy_prefix.ensures.count c.copy_prefix.ensures.copied
 
 pub returns-in-Barrier : goal.returns-in-Barrier
 returns-in-Barrier c =
@@ -24,7 +24,7 @@ returns-in-Barrier c =
     let value = value_at events c.args.first in
     let begins = c.row-kind.ensures.get ∙ ap (λ kind. Some (event_of kind value)) c.in-Barrier.is in
     record {
-      told = told-one events c.args.first Barrier begins;
+      reported = reported-one events c.args.first Barrier begins;
       within = omega (arith, c.requires);
       begun = λ room. omega arith;
       kind = begins;
@@ -38,7 +38,7 @@ returns-in-CallEnd c =
     let value = value_at events c.args.first in
     let begins = c.row-kind.ensures.get ∙ ap (λ kind. Some (event_of kind value)) c.in-CallEnd.is in
     record {
-      told = told-one events c.args.first CallEnd begins;
+      reported = reported-one events c.args.first CallEnd begins;
       within = omega (arith, c.requires);
       begun = λ room. omega arith;
       kind = begins;

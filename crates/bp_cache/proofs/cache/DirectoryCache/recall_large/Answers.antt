@@ -14,7 +14,7 @@ recall-requires-clause-right g c =
 pub returns-in-Some : goal.returns-in-Some
 returns-in-Some g c =
     record {
-      told = c.recall.ensures;
+      reported = c.recall.ensures;
       right = promoted_right (current_words (g.R.Region.memory c.args.region.now)) (nat_eq c.args.dir) c.args.self.now _ _ refl c.get.follows.holds-at-none c.requires.right;
     }
 

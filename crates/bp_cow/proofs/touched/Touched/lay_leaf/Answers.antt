@@ -16,7 +16,7 @@ meets-requires-clause-run c = c.requires.touched.runs c.run-item.result (has-ite
 -- a run that has no bytes in the leaf leaves its words
 past : (run : Run) (first slot old : ℕ) → slot < 512 → (run_end run ≤ 8 * first) ⊎ (8 * first + 4096 ≤ run.offset) → run_word run (first + slot) old ≡ old
 past run first slot old low (inl before) = run_word-outside run (first + slot) old (inr (omega (arith, before)))
-past run first slot old low (inr behind) = run_word-outside run (first + slot) old (inl (omega (arith, behind, low)))
+past run first slot old low (inr beyond) = run_word-outside run (first + slot) old (inl (omega (arith, beyond, low)))
 
 pub loop-run-preserved : goal.loop-run-preserved
 loop-run-preserved c slot low =

@@ -32,8 +32,8 @@ returns-then-rest-eq0 c d =
 pub leaves-requires : goal.leaves-requires
 leaves-requires c = c.requires.touched.runs c.run-item.result (has-item c.args.self.now.runs.now c.loop-run.run-index c.run-item.result c.loop-run-test.true c.run-item.is)
 
-pub fronts_of_run-requires-clause-run : goal.fronts_of_run-requires-clause-run
-fronts_of_run-requires-clause-run c = c.requires.touched.runs c.run-item.result (has-item c.args.self.now.runs.now c.loop-run.run-index c.run-item.result c.loop-run-test.true c.run-item.is)
+pub prefixes_of_run-requires-clause-run : goal.prefixes_of_run-requires-clause-run
+prefixes_of_run-requires-clause-run c = c.requires.touched.runs c.run-item.result (has-item c.args.self.now.runs.now c.loop-run.run-index c.run-item.result c.loop-run-test.true c.run-item.is)
 
 pub loop-run-preserved : goal.loop-run-preserved
 loop-run-preserved c =
@@ -41,20 +41,20 @@ loop-run-preserved c =
     let paths = word_paths c.args.self.now in
     let path = c.args.slots.now.items in
     let run = c.run-item.result in
-    let behind = drop (c.loop-run.run-index + 1) runs in
+    let beyond = drop (c.loop-run.run-index + 1) runs in
     let rest = c.loop-run.rest in
     let here = item-here runs c.loop-run.run-index run c.loop-run-test.true c.run-item.is in
     let leaves : c.min-leaves.result ≡ min (run_leaves run) rest = omega (arith, c.min-leaves.ensures, c.leaves.ensures) in
-    let most : max c.loop-run.shared c.fronts_of_run.result ≡ c.max-shared.result = omega (arith, c.max-shared.ensures) in
+    let most : max c.loop-run.shared c.prefixes_of_run.result ≡ c.max-shared.result = omega (arith, c.max-shared.ensures) in
     record {
       all = λ d.
           let All = IsShared (way_of runs paths) c.args.count path d in
           let before = subst (λ rs. ((d < c.loop-run.shared) ⊎ IsShared (way_of rs paths) rest path d) ↔ All) here (c.loop-run.invariant.all d) in
-          let one = subst (λ (p : WordPath). (d < c.fronts_of_run.result) ↔ IsShared (run_way run) c.min-leaves.result p d) c.as_slice.ensures.value (c.fronts_of_run.ensures d) in
-          subst (λ m. ((d < m) ⊎ IsShared (way_of behind paths) (rest - c.min-leaves.result) path d) ↔ All) most
-          (shared-run run behind paths path rest c.min-leaves.result d leaves c.loop-run.shared c.fronts_of_run.result All before one);
+          let one = subst (λ (p : WordPath). (d < c.prefixes_of_run.result) ↔ IsShared (run_way run) c.min-leaves.result p d) c.as_slice.ensures.value (c.prefixes_of_run.ensures d) in
+          subst (λ m. ((d < m) ⊎ IsShared (way_of beyond paths) (rest - c.min-leaves.result) path d) ↔ All) most
+          (shared-run run beyond paths path rest c.min-leaves.result d leaves c.loop-run.shared c.prefixes_of_run.result All before one);
       few =
-          let few : rest ≤ leaves_of (run ∷ behind) + length c.args.self.now.words.now = subst (λ rs. rest ≤ leaves_of rs + length c.args.self.now.words.now) here c.loop-run.invariant.few in
+          let few : rest ≤ leaves_of (run ∷ beyond) + length c.args.self.now.words.now = subst (λ rs. rest ≤ leaves_of rs + length c.args.self.now.words.now) here c.loop-run.invariant.few in
           omega (arith, few, leaves);
     }
 

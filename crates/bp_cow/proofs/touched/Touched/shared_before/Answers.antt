@@ -14,8 +14,8 @@ use Rattle.bp_cow.proofs.touched.Touched.shared_before.Goals as goal
 -- the leaf that is given is the one to which a way leads
 is_leaf : (touched : Touched) (i : ℕ) (given : Option Leaf) (leaf : Leaf) → given ≡ Some leaf
     → IfSome given (λ l. IsLeaf touched.runs.now touched.runs.now (word_paths touched) i l.run.now l.index) → IsLeaf touched.runs.now touched.runs.now (word_paths touched) i leaf.run.now leaf.index
-is_leaf touched i given leaf is told =
-    subst (λ (o : Option Leaf). IfSome o (λ l. IsLeaf touched.runs.now touched.runs.now (word_paths touched) i l.run.now l.index)) is told
+is_leaf touched i given leaf is reported =
+    subst (λ (o : Option Leaf). IfSome o (λ l. IsLeaf touched.runs.now touched.runs.now (word_paths touched) i l.run.now l.index)) is reported
 
 pub returns-then-i-eq0 : goal.returns-then-i-eq0
 returns-then-i-eq0 c d = rw c.if-i-eq0.true (shared-none (job_of c.args.self.now).way ((job_of c.args.self.now).way 0) d)

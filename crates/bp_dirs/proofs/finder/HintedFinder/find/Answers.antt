@@ -1,7 +1,7 @@
 use Rattle.std.proofs.Common.{◌≡◌, Some, sym, ◌∙◌, ap₂}
 use Rattle.bp_layout.specs.Directory.{slot_named, slot_named_in}
 use Rattle.bp_layout.specs.Hints.{IsSlotOf}
-use Rattle.bp_layout.proofs.HintLaws.{entry_of_slot, right-same, right-told}
+use Rattle.bp_layout.proofs.HintLaws.{entry_of_slot, right-same, right-reported}
 use Rattle.pm_region.specs.Memory.{current_words}
 use Rattle.bp_dirs.proofs.finder.HintedFinder.find.Goals as goal
 
@@ -16,7 +16,7 @@ returns-clause-right g c =
     let image = current_words (g.R.Region.memory c.args.region.now) in
     let named : slot_named image c.args.dir c.args.name.now ≡ Some c.in_ok-found.found.slot =
     ap₂ (λ r s. slot_named_in image r s c.args.name.now) (sym c.requires.root) (sym c.requires.size) ∙ sym c.in_ok-found.ensures.slot in
-    right-told image (g.H.Hints.known c.hint.new.self) (g.H.Hints.known c.learn.new.self) (c.args.dir, c.args.name.now) c.in_ok-found.found.slot c.learn.result
+    right-reported image (g.H.Hints.known c.hint.new.self) (g.H.Hints.known c.learn.new.self) (c.args.dir, c.args.name.now) c.in_ok-found.found.slot c.learn.result
     (right-same image (g.H.Hints.known c.args.self.now.hints.now) (g.H.Hints.known c.hint.new.self) c.requires.right c.hint.ensures.same)
     (record { reached = c.requires.reached; directory = c.requires.directory; named = named })
     c.learn.ensures.learned c.learn.ensures.unlearned

@@ -1,9 +1,9 @@
 use Rattle.std.proofs.Common.{◌≡◌, ◌<◌, get_or, length, arith, subst, sym}
 use Rattle.std.proofs.lemmas.List.{get_or_read}
 use Rattle.std.specs.Prelude.{eqb}
-use Rattle.bp_free.specs.Words.{HoldRoom, set_in, ComplementsWord, TellsEmpty}
+use Rattle.bp_free.specs.Words.{HoldRoom, set_in, ComplementsWord, ReportsEmpty}
 use Rattle.bp_free.proofs.Words.{room_seen}
-use Rattle.bp_free.proofs.Complement.{turned_holds, turned_seen, turned_tells}
+use Rattle.bp_free.proofs.Complement.{turned_holds, turned_seen, turned_reports}
 use Rattle.bp_free.proofs.bits.Bits.complement_word.Goals as goal
 
 pub overflow_mul-word : goal.overflow_mul-word
@@ -48,6 +48,6 @@ returns-clause-numbers c =
 pub returns-clause-empty : goal.returns-clause-empty
 returns-clause-empty c =
     let room = room_seen _ _ _ c.self.view_is in
-    subst (λ words. TellsEmpty (set_in words c.self.inside.room) c.args.word (eqb c.turned_over-bits.result 0)) (sym c.set.ensures)
-    (turned_tells c.self.inside.words c.self.inside.room c.args.word c.get.result c.min-count.result c.turned_over-bits.result c.self.invariant
+    subst (λ words. ReportsEmpty (set_in words c.self.inside.room) c.args.word (eqb c.turned_over-bits.result 0)) (sym c.set.ensures)
+    (turned_reports c.self.inside.words c.self.inside.room c.args.word c.get.result c.min-count.result c.turned_over-bits.result c.self.invariant
     (omega (arith, room, c.requires.in_range)) (omega arith) c.min-count.ensures c.turned_over-bits.ensures)

@@ -35,7 +35,7 @@ loop-word-preserved g c = record {
 pub returns-clause-least : goal.returns-clause-least
 returns-clause-least g c = λ i. elim (cases_lt (i / 64) c.loop-word.word) [
   | inl before ↦ c.loop-word.invariant.none i before
-  | inr behind ↦
+  | inr beyond ↦
       not_stored _ _ _ c.stored-word-end.result i c.self.invariant c.self.view_is c.stored-word-end.ensures.blank
-      (omega (arith, behind, c.loop-word-test.false))
+      (omega (arith, beyond, c.loop-word-test.false))
 ]

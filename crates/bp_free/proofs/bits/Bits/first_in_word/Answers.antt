@@ -1,7 +1,7 @@
 use Rattle.std.proofs.Common.{◌≡◌, ◌<◌, ◌*◌, ◌+◌, get_or, length, arith, subst, sym, ◌∙◌}
 use Rattle.std.proofs.lemmas.List.{get_or_read}
 use Rattle.bp_free.specs.Words.{IsEmptyWord, IsLeastInWord}
-use Rattle.bp_free.proofs.Words.{room_seen, word_seen, empty_word, least_in_word, alone_tells_at}
+use Rattle.bp_free.proofs.Words.{room_seen, word_seen, empty_word, least_in_word, alone_reports_at}
 use Rattle.bp_free.proofs.bits.Bits.first_in_word.Goals as goal
 
 pub get-bits-requires : goal.get-bits-requires
@@ -42,4 +42,4 @@ returns-clause-least g c = least_at g c
 
 pub returns-clause-alone : goal.returns-clause-alone
 returns-clause-alone g c =
-    alone_tells_at _ _ _ c.args.word c.in_ok-bit.bit c.get-bits.result c.self.invariant c.self.view_is (least_at g c).low c.in_ok-bit.ensures.low c.get-bits.ensures
+    alone_reports_at _ _ _ c.args.word c.in_ok-bit.bit c.get-bits.result c.self.invariant c.self.view_is (least_at g c).low c.in_ok-bit.ensures.low c.get-bits.ensures

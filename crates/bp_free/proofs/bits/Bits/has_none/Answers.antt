@@ -10,6 +10,6 @@ get-requires g c =
 
 pub returns-clause-none : goal.returns-clause-none
 returns-clause-none g c =
-    let told = none_seen _ _ _ c.args.first c.args.count _ c.self.invariant c.self.view_is c.requires.some c.requires.in_range c.requires.one_word c.get.ensures in
+    let reported = none_seen _ _ _ c.args.first c.args.count _ c.self.invariant c.self.view_is c.requires.some c.requires.in_range c.requires.one_word c.get.ensures in
     let common = ap (bit_and c.get.result) c.ones.ensures in
-    (λ test. told.0 (sym common ∙ eqb-true _ _ test), λ none. eq-eqb _ _ (common ∙ told.1 none))
+    (λ test. reported.0 (sym common ∙ eqb-true _ _ test), λ none. eq-eqb _ _ (common ∙ reported.1 none))

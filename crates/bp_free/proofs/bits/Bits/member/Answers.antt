@@ -1,5 +1,5 @@
 use Rattle.std.proofs.Common.{arith, refl}
-use Rattle.bp_free.proofs.Words.{word_seen, alone_tells}
+use Rattle.bp_free.proofs.Words.{word_seen, alone_reports}
 use Rattle.bp_free.proofs.bits.Bits.member.Goals as goal
 
 pub get-requires : goal.get-requires
@@ -10,6 +10,6 @@ get-requires g c =
 pub returns : goal.returns
 returns g c = record {
   number = refl;
-  alone = alone_tells _ _ _ c.args.i c.get.result c.self.invariant c.self.view_is c.requires c.get.ensures;
+  alone = alone_reports _ _ _ c.args.i c.get.result c.self.invariant c.self.view_is c.requires c.get.ensures;
   look = c.look.ensures;
 }

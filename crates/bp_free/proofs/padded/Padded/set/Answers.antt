@@ -1,5 +1,5 @@
 use Rattle.std.proofs.Common.{◌∙◌, ap, set, arith}
-use Rattle.bp_free.proofs.Fronts.{padded_set}
+use Rattle.bp_free.proofs.Prefixes.{padded_set}
 use Rattle.bp_free.proofs.padded.Padded.set.Goals as goal
 
 pub returns : goal.returns

@@ -6,5 +6,5 @@ use Rattle.bp_index.proofs.index.Index.of.Given as goal
 abbrev pub invariant-loop-slot : goal.invariant-loop-slot
 invariant-loop-slot g l = record {
   room : l.slots ≤ length l.index.empties;
-  told : (k : ℕ) → k < l.slot → IsIndexed (current_words (g.R.Region.memory l.region)) l.tree.root k l.index;
+  reported : (k : ℕ) → k < l.slot → IsIndexed (current_words (g.R.Region.memory l.region)) l.tree.root k l.index;
 }

@@ -10,18 +10,18 @@ pub returns-in-Some-clause-here : goal.returns-in-Some-clause-here
 returns-in-Some-clause-here g c =
     let image = current_words (g.R.Region.memory c.args.region.now) in
     OnTrue_from c.take_in.result (IsIndexed image c.args.tree.root c.args.slot c.take_in.new.self)
-    (λ told. indexed_entered image c.args.tree.root c.args.self.now c.take_in.new.self (name_in image c.args.tree.root c.args.slot) c.args.slot
-    (c.take_in.ensures image c.args.tree.root c.in-Some.ensures.words told) (record { live = c.in-Some.ensures.some; spelled = refl }))
+    (λ reported. indexed_entered image c.args.tree.root c.args.self.now c.take_in.new.self (name_in image c.args.tree.root c.args.slot) c.args.slot
+    (c.take_in.ensures image c.args.tree.root c.in-Some.ensures.words reported) (record { live = c.in-Some.ensures.some; spelled = refl }))
 
 pub returns-in-Some-clause-others : goal.returns-in-Some-clause-others
 returns-in-Some-clause-others g c =
     let image = current_words (g.R.Region.memory c.args.region.now) in
     OnTrue_from c.take_in.result (KeepsIndexed image c.args.tree.root c.args.slot c.args.self.now c.take_in.new.self)
-    (λ told. others_entered image c.args.tree.root c.args.self.now c.take_in.new.self (name_in image c.args.tree.root c.args.slot) c.args.slot
-    (c.take_in.ensures image c.args.tree.root c.in-Some.ensures.words told))
+    (λ reported. others_entered image c.args.tree.root c.args.self.now c.take_in.new.self (name_in image c.args.tree.root c.args.slot) c.args.slot
+    (c.take_in.ensures image c.args.tree.root c.in-Some.ensures.words reported))
 
 pub returns-in-Some-clause-room : goal.returns-in-Some-clause-room
 returns-in-Some-clause-room g c =
     let image = current_words (g.R.Region.memory c.args.region.now) in
     OnTrue_from c.take_in.result (length c.take_in.new.self.empties ≡ length c.args.self.now.empties)
-    (λ told. (c.take_in.ensures image c.args.tree.root c.in-Some.ensures.words told).empties.room)
+    (λ reported. (c.take_in.ensures image c.args.tree.root c.in-Some.ensures.words reported).empties.room)

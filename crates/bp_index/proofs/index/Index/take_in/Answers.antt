@@ -6,7 +6,7 @@ use Rattle.bp_index.proofs.index.Index.take_in.Goals as goal
 
 pub returns : goal.returns
 returns c =
-    λ image root is told.
+    λ image root is reported.
     let short : word_in image root c.args.slot 1 ≤ 240 = omega (arith, is.each 1 (omega arith), c.name_len.ensures, c.if-name_len.false) in
-    entered_as c.args.self.now c.enter.new.self _ _ c.args.slot c.enter.result c.enter.ensures.enters told
+    entered_as c.args.self.now c.enter.new.self _ _ c.args.slot c.enter.result c.enter.ensures.enters reported
     (c.read_name-name.ensures ∙ name_in-words image root c.args.slot c.args.entry.now.words.now short is.each)

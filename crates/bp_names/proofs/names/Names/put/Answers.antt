@@ -8,6 +8,6 @@ invariant_of-self c =
     (rw (c.copied.ensures ∙ c.set.ensures) at c.put.ensures.entries) c.put.ensures.err
 
 pub returns-clause-put : goal.returns-clause-put
-returns-clause-put c told =
+returns-clause-put c reported =
     rw (← c.self.view_is) (put-known c.self.inside.cache c.put.new.self (c.args.dir, c.args.name.now) c.args.slot c.put.result c.len-known.ensures.valid
-    (rw (c.copied.ensures ∙ c.set.ensures) at c.put.ensures.entries) (sym c.is_ok.ensures.value ∙ told))
+    (rw (c.copied.ensures ∙ c.set.ensures) at c.put.ensures.entries) (sym c.is_ok.ensures.value ∙ reported))

@@ -11,14 +11,14 @@ use Rattle.bp_script.proofs.decoded.Decoded.line.Goals as goal
 pub returns-in-Some : goal.returns-in-Some
 returns-in-Some c =
     let split = rw c.in-Some.is at c.split_once.ensures.split in
-    let asked : line_asks c.behind_verb.result ≡ in_grammar c.args.bytes.now = rw split c.behind_verb.ensures.meaning in (
+    let asked : line_asks c.after_verb.result ≡ in_grammar c.args.bytes.now = rw split c.after_verb.ensures.meaning in (
       (refl, λ _. tt, omega arith),
       record {
         keeps_room = tt;
         meaning = asked;
         mask = rw asked (mask_short c.args.bytes.now);
         served = rw asked (served_line c.args.bytes.now);
-        can = can_be_asked c.behind_verb.result (rw asked (served_line c.args.bytes.now)) c.behind_verb.ensures.whole;
+        can = can_be_asked c.after_verb.result (rw asked (served_line c.args.bytes.now)) c.after_verb.ensures.whole;
       },
     )
 

@@ -3,7 +3,7 @@ use Rattle.std.specs.Prelude.{bytes_eq}
 use Rattle.bp_script.specs.Commands.{decoded, long_command}
 use Rattle.bp_script.proofs.NoBatch.{none_long, parts_of_other}
 use Rattle.bp_script.proofs.NumberWords.{not_empty}
-use Rattle.bp_script.proofs.Rows.{asked_behind}
+use Rattle.bp_script.proofs.Rows.{asked_after}
 use Rattle.bp_script.proofs.decoded.Decoded.long.Goals as goal
 
 pub returns-else-is_batch : goal.returns-else-is_batch
@@ -17,7 +17,7 @@ returns-else-is_batch c =
       record {
         keeps_room = tt;
         meaning = c.on_long.ensures.meaning
-            ∙ ap decoded (asked_behind verb first second rest other c.requires.some_first c.requires.some_second (not_empty _ (sym c.is_empty.ensures ∙ c.if-is_empty.false)));
+            ∙ ap decoded (asked_after verb first second rest other c.requires.some_first c.requires.some_second (not_empty _ (sym c.is_empty.ensures ∙ c.if-is_empty.false)));
         whole = parts_of_other c.on_long.result (long_command verb first second rest) c.on_long.ensures.meaning (none_long verb first second rest);
       },
     )

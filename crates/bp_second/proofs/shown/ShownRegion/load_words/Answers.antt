@@ -12,4 +12,4 @@ load_words-requires-in-Snapshot-clause-in_range g c =
 pub returns-in-Snapshot : goal.returns-in-Snapshot
 returns-in-Snapshot g c =
     let image = current_words (g.R.Region.memory c.in-Snapshot.second.region.now) in
-    rw c.in-Snapshot.is (c.load_words-in-Snapshot.ensures ∙ sym (second-run image c.args.first c.args.count c.requires.behind_head))
+    rw c.in-Snapshot.is (c.load_words-in-Snapshot.ensures ∙ sym (second-run image c.args.first c.args.count c.requires.after_head))

@@ -5,5 +5,5 @@ use Rattle.bp_volume.proofs.volume.Volume.apply_snap_read.Goals as goal
 
 pub returns : goal.returns
 returns g c =
-    rw (c.report_read.ensures ∙ ap (read_answer_of c.snap_read_front-told.result) (refill-whole c.args.reply.now.buffer c.snap_read_front-told.new.buffer (c.snap_read_front-told.auto.buffer ∙ ap length c.buffer.ensures.bytes)))
-    c.snap_read_front-told.ensures.called
+    rw (c.report_read.ensures ∙ ap (read_answer_of c.snap_read_prefix-reported.result) (refill-whole c.args.reply.now.buffer c.snap_read_prefix-reported.new.buffer (c.snap_read_prefix-reported.auto.buffer ∙ ap length c.buffer.ensures.bytes)))
+    c.snap_read_prefix-reported.ensures.called

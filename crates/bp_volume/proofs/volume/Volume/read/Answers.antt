@@ -5,8 +5,8 @@ use Rattle.bp_volume.proofs.volume.Volume.read.Goals as goal
 
 pub invariant_of-self : goal.invariant_of-self
 invariant_of-self g c =
-    cached_ended (g.R.Region.memory c.self.inside.parts.region) (g.R.Region.memory c.end_call.new.self) c.self.inside.parts c.end_call.new.self _ _ c.self.invariant.volume c.do_read-told.ensures.right c.end_call.ensures
+    cached_ended (g.R.Region.memory c.self.inside.parts.region) (g.R.Region.memory c.end_call.new.self) c.self.inside.parts c.end_call.new.self _ _ c.self.invariant.volume c.do_read-reported.ensures.right c.end_call.ensures
 
 pub returns-clause-called : goal.returns-clause-called
 returns-clause-called g c = file_call_unchanged c.args.self.now (g.R.Region.memory c.self.inside.parts.region) (g.R.Region.memory c.end_call.new.self) _ _
-    (c.self.view_is ∙ c.make_room.ensures.memory) c.self.invariant.volume.safe c.end_call.ensures c.do_read-told.ensures.told
+    (c.self.view_is ∙ c.make_room.ensures.memory) c.self.invariant.volume.safe c.end_call.ensures c.do_read-reported.ensures.reported

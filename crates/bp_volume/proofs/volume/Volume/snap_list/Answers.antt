@@ -9,4 +9,4 @@ invariant_of-self g c =
 
 pub returns : goal.returns
 returns g c = file_call_unchanged c.args.self.now (g.R.Region.memory c.self.inside.parts.region) (g.R.Region.memory c.end_call.new.self) _ _
-    (c.self.view_is ∙ c.make_room.ensures.memory) c.self.invariant.volume.safe c.end_call.ensures c.do_snap_list-told.ensures
+    (c.self.view_is ∙ c.make_room.ensures.memory) c.self.invariant.volume.safe c.end_call.ensures c.do_snap_list-reported.ensures

@@ -94,19 +94,19 @@ module _ {M : Type 1} (𝓤 : Ura M) (𝓛 : Logic 𝓤) (𝓜 : Model 𝓤 𝓛
       regoal ! (λ p. prop (Runs p is_open (Some mounted'))) is refl $
       enter ! 𝓣.C 𝓣.Λ code.function (handle_val (block_ptr b o) is_open ∷ heap_val ∷ []) (Ends (block_ptr b o) is_open (Some mounted')) $
       alloc_all ! (λ l. pass_all ! refl ((tt, (tt, (tt, tt))), (heap_good, tt)) $
-      let Ev = env (code.function).locals l in let made : Val = both (vptr b o) heap_val in let told : Val = live 1 (vcons made vnil) in
+      let Ev = env (code.function).locals l in let made : Val = both (vptr b o) heap_val in let reported : Val = live 1 (vcons made vnil) in
       let d : Lr.Denot = record { at = block_ptr b o; alloc = g; value = mounted' } in
       let typed = loose_good mounted.the_row heap.the_row heap_laws.the_row_laws ghosts b o heap_val heap_good in
-      let good : Good (layout Out) told = (tt, (record { fits = lit< tt }, (typed.1, tt))) in
+      let good : Good (layout Out) reported = (tt, (record { fits = lit< tt }, (typed.1, tt))) in
       sets ! (of_opd ! (get_in ! (fld ! refl (stop !)) (sub ! 0 refl (whole !)))) refl (tt, tt) $ sets ! (of_opd ! (get_in ! (fld ! refl (stop !)) (sub ! 1 refl (whole !)))) refl (tt, tt) $
       sets ! (of_opd ! (get ! refl)) refl (tt, tt) $ first ! $ branches ! (get ! refl) (λ _.
       sets ! (of_opd ! (get ! refl)) refl (tt, tt) $ sets ! (agg ! (and_then ! (get ! refl) (and_then ! (get ! refl) (no_more !)))) refl typed $
       sets_last ! (agg ! (and_then ! (lit ! tt) (and_then ! (get ! refl) (no_more !)))) refl good $ exec ! 𝓣.C 𝓣.Λ Ev (after 4 (code.function).body) (at_ret Ev (Ends (block_ptr b o) is_open (Some mounted'))) $
       sets ! (of_opd ! (get ! refl)) refl good $ returns ! (look_at ! 0 refl) $ free_all ! refl $
-      loose_in mounted.the_row heap.the_row heap_laws.the_row_laws ghosts ! b o heap_val g mounted' $ use1 𝓛 (‵ (Out.own_val (Some d) (told ∷ []))) (Some-of 𝓛 Lr d made) $ keep ! (0 ∷ []) $
+      loose_in mounted.the_row heap.the_row heap_laws.the_row_laws ghosts ! b o heap_val g mounted' $ use1 𝓛 (‵ (Out.own_val (Some d) (reported ∷ []))) (Some-of 𝓛 Lr d made) $ keep ! (0 ∷ []) $
       use0 𝓛 (raw (fact 𝓤 (Some mounted' ≡ Some mounted'))) (fact_i 𝓤 (Some mounted' ≡ Some mounted') (emp 𝓤) refl) $ move ! (1 ∷ []) $
       nothing ! $ nothing ! $ fjoin ! $ nothing ! $ fjoin ! $ nothing ! $
-      by ! (leaves 𝓛 called.ended stayed c ((tt, tt, tt, (record { at = block_ptr b o; is_open = is_open; held = Some mounted' }, (g, tt)), (handle_val (block_ptr b o) is_open ∷ [], (heap_val ∷ [], tt))), tt) told (Some d) (tt, (tt, tt)) (tt, (tt, tt))))
+      by ! (leaves 𝓛 called.ended stayed c ((tt, tt, tt, (record { at = block_ptr b o; is_open = is_open; held = Some mounted' }, (g, tt)), (handle_val (block_ptr b o) is_open ∷ [], (heap_val ∷ [], tt))), tt) reported (Some d) (tt, (tt, tt)) (tt, (tt, tt))))
       (λ t. absurd (subst (λ (open' : Bool). T (not open')) e t)))))
 
 pub unseal_spec : {M : Type 1} → statement M

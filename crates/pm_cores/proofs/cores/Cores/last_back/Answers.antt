@@ -1,6 +1,6 @@
 use Rattle.std.proofs.Common.{◌≡◌, ◌∙◌, arith, get_or, sym}
 use Rattle.std.proofs.lemmas.List.{get_or_read}
-use Rattle.pm_cores.proofs.Telling.{last_within, back_clean, back_dirty}
+use Rattle.pm_cores.proofs.Report.{last_within, back_clean, back_dirty}
 use Rattle.pm_cores.proofs.Vectors.{last_read, since_read, waiting_read}
 use Rattle.pm_cores.proofs.cores.Cores.last_back.Goals.{After-index-since}
 use Rattle.pm_cores.proofs.cores.Cores.last_back.Goals as goal
@@ -21,11 +21,11 @@ returns-then-since-eq0 c =
     let is = last_read c.self.inside old c.args.i _ (rw (← c.self.view_is) at c.requires) c.index.ensures in
     let clean = sym (since_at (goal.at.returns-then-since-eq0 c).After-index-since) ∙ c.if-since-eq0.true in
     rw (← c.self.view_is, is)
-    (record { within = last_within _ _ _ _ old.told c.args.i; told = λ base within. back_clean _ _ _ _ old.told _ _ old.sound base c.args.i within clean })
+    (record { within = last_within _ _ _ _ old.recorded c.args.i; recorded = λ base within. back_clean _ _ _ _ old.recorded _ _ old.sound base c.args.i within clean })
 
 pub returns-else-since-eq0 : goal.returns-else-since-eq0
 returns-else-since-eq0 c =
     let old = c.self.invariant in
     let at = waiting_read c.self.inside old c.args.i _ (since_at (goal.at.returns-else-since-eq0 c).After-index-since) c.if-since-eq0.false in
     rw (← c.self.view_is, get_or_read c.self.inside.befores.items _ _ at.in_befores c.index-else-since-eq0.ensures 0)
-    (record { within = at.early; told = λ base within. back_dirty _ _ _ _ old.told _ _ old.sound base c.args.i within _ at.is })
+    (record { within = at.early; recorded = λ base within. back_dirty _ _ _ _ old.recorded _ _ old.sound base c.args.i within _ at.is })

@@ -10,8 +10,8 @@ use Rattle.pm_cores.proofs.cores.Cores.needed.Goals as goal
 first_at : (c : After-first_waiting-first) → IsFirst c.self.inside c.args.i c.owner_of_word-owner.result c.first_waiting-first.result
 first_at c =
     let owner = rw (← c.self.view_is) at c.owner_of_word-owner.ensures in
-    let told = rw (c.deref.ensures.value, c.deref-2.ensures.value) at c.first_waiting-first.ensures in
-    first_read c.self.inside c.self.invariant c.args.i _ _ owner.core owner.under (record { is_low = told.low; high = told.high }) told.found
+    let recorded = rw (c.deref.ensures.value, c.deref-2.ensures.value) at c.first_waiting-first.ensures in
+    first_read c.self.inside c.self.invariant c.args.i _ _ owner.core owner.under (record { is_low = recorded.low; high = recorded.high }) recorded.found
 
 pub first_waiting-first-requires : goal.first_waiting-first-requires
 first_waiting-first-requires c =

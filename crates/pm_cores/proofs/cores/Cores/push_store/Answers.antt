@@ -3,7 +3,7 @@ use Rattle.std.specs.Vec.{with_item, with_items}
 use Rattle.std.proofs.lemmas.List.{with_items_is}
 use Rattle.pm_cores.specs.declared.entry.Entry.TheVariants.{Store}
 use Rattle.pm_cores.proofs.Storing.{CanStore, low_stored, stored_sound}
-use Rattle.pm_cores.proofs.Telling.{stored_told}
+use Rattle.pm_cores.proofs.Report.{stored_recorded}
 use Rattle.pm_cores.proofs.Vectors.{epoch_read, last_read}
 use Rattle.pm_cores.proofs.Views.{ready_to_store, stored_seen}
 use Rattle.pm_cores.proofs.Whole.{IsGrown, counts_stay, with_entry}
@@ -55,10 +55,10 @@ invariant_of-self c =
       room = asked.room;
     } in
     let last = c.len-place.result + 1 in
-    let told = stored_told _ _ _ _ old.told c.args.core c.args.i c.args.v last asked.word (omega (arith, c.len-place.ensures, inside.log.ok.0)) in
+    let recorded = stored_recorded _ _ _ _ old.recorded c.args.core c.args.i c.args.v last asked.word (omega (arith, c.len-place.ensures, inside.log.ok.0)) in
     with_entry inside old entry epoch _ _ _ _ grown (with_items inside.since c.wait_since.new.since) (with_item inside.lasts c.args.i last) inside.counts
     (rw (items_are after) (stored_sound _ _ _ _ _ _ _ _ c.args.v (can_store after)))
-    (rw (last_read inside old c.args.i _ asked.word c.index-before.ensures) told)
+    (rw (last_read inside old c.args.i _ asked.word c.index-before.ensures) recorded)
     (λ core low at. rw (items_are after) (low_stored _ _ _ _ _ _ _ _ c.args.v (can_store after) core low at.high at.is_low))
     refl
     (counts_stay inside old entry epoch _ _ _ _ grown (λ core. refl))

@@ -30,17 +30,17 @@ pub invariant_of-self : goal.invariant_of-self
 invariant_of-self c =
     let inside = c.self.inside in
     let after = (goal.at.invariant_of-self c).After-settle_words in
-    let told = simp (c.deref_mut.ensures.value, c.deref.ensures.value, c.deref-2.ensures.value) at c.settle_words.ensures in
+    let recorded = simp (c.deref_mut.ensures.value, c.deref.ensures.value, c.deref-2.ensures.value) at c.settle_words.ensures in
     let since = with_items inside.since c.settle_words.new.since in
-    let cleared = settle_cleared _ _ _ _ c.self.invariant.sound c.args.owner _ (size_is after) told.since in
+    let cleared = settle_cleared _ _ _ _ c.self.invariant.sound c.args.owner _ (size_is after) recorded.since in
     let holds = with_since inside c.self.invariant since _ (rw (← items_are after) at cleared) in
     with_low (record inside { since = since }) holds c.args.owner.core c.settle_words.result (rw (← c.self.view_is) at c.requires)
-    (record { is_low = rw (items_are after) told.low; high = told.high })
+    (record { is_low = rw (items_are after) recorded.low; high = recorded.high })
 
 pub returns : goal.returns
 returns c =
     let inside = c.self.inside in
     let after = (goal.at.returns c).After-settle_words in
-    let told = simp (c.deref_mut.ensures.value, c.deref.ensures.value, c.deref-2.ensures.value) at c.settle_words.ensures in
+    let recorded = simp (c.deref_mut.ensures.value, c.deref.ensures.value, c.deref-2.ensures.value) at c.settle_words.ensures in
     rw (← c.self.view_is, items_are after)
-    (settled_seen inside.counts.len _ _ _ _ inside.room c.self.invariant.sound c.settle_words.new.since (size_is after) c.args.owner told.since)
+    (settled_seen inside.counts.len _ _ _ _ inside.room c.self.invariant.sound c.settle_words.new.since (size_is after) c.args.owner recorded.since)

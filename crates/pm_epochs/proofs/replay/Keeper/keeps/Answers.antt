@@ -3,7 +3,7 @@ use Rattle.std.proofs.lemmas.Grind.{common_steps}
 use Rattle.pm_epochs.proofs.Cuts.{stores_of_none}
 use Rattle.pm_epochs.proofs.replay.Keeper.keeps.Goals as goal
 
--- nothing is kept behind the mask, nor behind the epoch's barrier
+-- nothing is kept after the mask, nor after the epoch's barrier
 pub returns-in-None-clause-stores : goal.returns-in-None-clause-stores
 returns-in-None-clause-stores c = λ rest. grind (arith, common_steps, stores_of_none rest)
 

@@ -8,7 +8,7 @@ use Rattle.pm_raw.proofs.array.Filling.push_bytes.Goals as goal
 pub invariant_of-self : goal.invariant_of-self
 invariant_of-self c =
     let was = c.self.invariant in
-    let front = c.self.inside.cells.items in
+    let prefix = c.self.inside.cells.items in
     let words = spelled_words (length c.args.bytes.now / 8) c.args.bytes.now in
     let long = length-spelled_words (length c.args.bytes.now / 8) c.args.bytes.now in
     record {
@@ -19,6 +19,6 @@ invariant_of-self c =
         deed_count = was.block.deed_count;
         deed_alloc = was.block.deed_alloc;
       };
-      counted = omega (arith, ap (λ (cells : Cells ℕ). length cells.items) c.push_spelled.ensures, length-append front words, long, was.counted);
+      counted = omega (arith, ap (λ (cells : Cells ℕ). length cells.items) c.push_spelled.ensures, length-append prefix words, long, was.counted);
       fits = omega (arith, was.counted, c.requires.room, ap (λ (part : Part). length part.words) c.self.view_is, ap (λ (part : Part). part.size) c.self.view_is);
     }

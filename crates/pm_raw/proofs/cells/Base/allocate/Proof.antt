@@ -1,4 +1,4 @@
--- The allocator's block is room for so many items, and the right to free it is its deed. Assumes `Logic`.
+-- The allocator's block is room for as many items, and the right to free it is its deed. Assumes `Logic`.
 use mathlib.Core.Path.{◌≡◌, refl, sym, ap, subst}
 use mathlib.Core.Bool.{false, true}
 use Prim.Native.Nat.{ℕ, ◌+◌, ◌-◌, ◌*◌, ◌<◌, ◌^◌}
@@ -138,8 +138,8 @@ allocate_spec 𝓤 𝓛 𝓜 𝓡 wired T A L LA g d dd met md =
     let places : Owner.Denot = record { of = record {}; at = p; items = none; count = count } in
     let deed : Right.Denot = record { of = record {}; at = p; count = count; alloc = alloc.now } in
     let block : Block.Denot = (start, places, deed) in
-    let all_empty : count ≡ count - 0 = omega arith in let behind_none : o ≡ o + 0 * size = omega arith in
-    rewrite ! 0 (λ (w : ℕ × ℕ). ‵ (froom (empty_places Item w.0) b w.1)) {x = (count - 0, o + 0 * size)} (λ i. (all_empty i, behind_none i)) refl $
+    let all_empty : count ≡ count - 0 = omega arith in let past_end_none : o ≡ o + 0 * size = omega arith in
+    rewrite ! 0 (λ (w : ℕ × ℕ). ‵ (froom (empty_places Item w.0) b w.1)) {x = (count - 0, o + 0 * size)} (λ i. (all_empty i, past_end_none i)) refl $
     use0 𝓛 (‵ (part_at (Array Item 0) full_share none b o)) (no_items E 𝓛 none b o refl) $ fjoin ! $ flt_i ! (count * size) (2 ^ 63) asked.0 $ fjoin ! $
     use0 𝓛 (‵ ((Struct (shape (Cells.the_type Item))).own_val (tt, tt) (empty ∷ []))) (made_empty Item 𝓛) $ fjoin ! $ move ! (1 ∷ []) $
     use0 𝓛 (‵ ((Struct (shape (Cells.the_type Item))).own_val (tt, tt) (empty ∷ []))) (made_empty Item 𝓛) $ fjoin ! $

@@ -1,4 +1,4 @@
--- A `&` to the places is made where one to an item is: it lends the items, and not the room behind them. Assumes `Logic`.
+-- A `&` to the places is made where one to an item is: it lends the items, and not the room after them. Assumes `Logic`.
 use mathlib.Core.Path.{sym, subst}
 use Prim.Native.Nat.{◌-◌, ◌*◌, ◌^◌}
 use mathlib.Core.List.{[], ◌++◌}

@@ -96,12 +96,12 @@ push_spec 𝓤 𝓛 𝓜 𝓡 wired T L =
     opens ! tt Owner {h = places} rb ro (λ vs. move ! (1 ∷ []) $ fsplit ! $ move ! (1 ∷ []) $
     in_a_block ! places.at (λ p. places_own Item p items places.count) (nowhere Item items places.count 𝓛) (λ b o at.
     fsplit ! $ flt_l ! (λ small. fsplit ! $
-    -- [the items; the room behind them; the places' fields; their cell; the open borrow, in three entries; the other token; the item]
+    -- [the items; the room after them; the places' fields; their cell; the open borrow, in three entries; the other token; the item]
     let tiny : size < 2 ^ 64 = omega (arith, one_below places.count size (2 ^ 63) (omega arith) small) in
     let far : many * size < 2 ^ 64 = omega (arith, times_below many places.count size (2 ^ 63) (omega arith) small) in
     move ! (1 ∷ []) $ as_written ! (ty_array (elτ E) (places.count - many)) b (o + many * size) $
     use1 𝓛 (‵ (froom (elτ E) b (many * size + o)) ⊛ ‵ (froom (ty_array (elτ E) (places.count - (many + 1))) b (o + (many + 1) * size))) (spare E 𝓛 b o many places.count low) $ split ! $
-    -- [the first empty place; the room behind it; the items; and so on]
+    -- [the first empty place; the room after it; the items; and so on]
     take_at ! 2 $ rewrite ! 0 (λ (p : Ptr). ‵ (fat full_share (layout (Base.the_row Item)) (l 2) 0 (word p))) (asked.0 ∙ at) refl $ give_at ! 2 $
     first ! $ blocks ! $
     sets ! (bin ! (get ! refl) (size_lit ! (record { fits = tiny })) (record { fits = far })) refl (tt, record { fits = far }) $

@@ -2,8 +2,8 @@
 use mathlib.Core.Path.{◌≡◌, refl, sym, subst, ◌∙◌}
 use Prim.Native.Nat.{ℕ, ◌+◌, ◌-◌, ◌*◌, ◌<◌, ◌^◌}
 use mathlib.Core.List.{List, [], ◌∷◌}
-use lib.ListN.{length, drop as drop_front}
-use lib.Seq.{take_at as take_front}
+use lib.ListN.{length, drop as drop_prefix}
+use lib.Seq.{take_at as take_prefix}
 use mir.MapTy.{inst_fn}
 use mir.Syntax.{Fn, a_type, named, w64}
 use mir.Val.{Val, vint, vptr}
@@ -72,7 +72,7 @@ module _ (T : RattleType) (L : Laws T) {M : Type 1} {𝓤 : Ura M} (𝓛 : Logic
     abbrev many : ℕ
     many = length places.items
 
-    -- what stays behind while the items are lent
+    -- what stays after while the items are lent
     abbrev Rest : Fml
     Rest = fsep (froom (empty_places R (places.count - many)) b (o + many * type_size R)) (fsep ((Struct (shape (Cells.the_type R))).own_val (tt, tt) vs) (cell_at full_share Self.mir vs rb ro))
 
@@ -81,7 +81,7 @@ module _ (T : RattleType) (L : Laws T) {M : Type 1} {𝓤 : Ura M} (𝓛 : Logic
     unfolding part_of
     back at small ws same =
         let new = refilled places ws in
-        let all : refill many places.items ws ≡ ws = take_front ws (drop_front (length ws) places.items) many same in
+        let all : refill many places.items ws ≡ ws = take_prefix ws (drop_prefix (length ws) places.items) many same in
         qed 𝓛 (‵ (cells (mem R) ws b o) ∷ ‵ Rest ∷ []) ∵
         use1 𝓛 (‵ (row R full_share ws b o)) (whole_out 𝓛 R ws b o) $
         use1 𝓛 (‵ (part_at (Array R (length ws)) full_share ws b o)) (one_array element 𝓛 full_share (length ws) ws b o refl) $
@@ -130,7 +130,7 @@ slice_mut_spec 𝓤 𝓛 𝓜 𝓡 wired T L =
     opens ! tt Owner {h = places} rb ro (λ vs. move ! (1 ∷ []) $ fsplit ! $ move ! (1 ∷ []) $
     in_a_block ! places.at (λ p. places_own Item p items places.count) (nowhere Item items places.count 𝓛) (λ b o at.
     fsplit ! $ flt_l ! (λ small. fsplit ! $
-    -- [the items; the room behind them; the places' fields; their cell; the open borrow, in three entries; the other token]
+    -- [the items; the room after them; the places' fields; their cell; the open borrow, in three entries; the other token]
     let bytes : many * type_size Item < 2 ^ 63 = subst (λ (k : ℕ). k * type_size Item < 2 ^ 63) (asked.2 ∙ sym asked.1) small in
     use1 𝓛 (given (many ≡ many) (‵ (row Item full_share items b o))) (apart (element T L 𝓛) 𝓛 full_share many items b o) $ learn ! (λ _.
     use1 𝓛 (‵ (cells (mem Item) items b o)) (whole_in 𝓛 Item items b o) $

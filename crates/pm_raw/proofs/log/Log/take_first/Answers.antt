@@ -3,7 +3,7 @@ use Rattle.std.specs.List.{range_with_len}
 use Rattle.std.proofs.lemmas.List.{length-drop, length-take-le}
 use Rattle.pm_raw.specs.Entries.{events_of}
 use Rattle.pm_raw.specs.Pieces.{piece_events}
-use Rattle.pm_raw.proofs.LogLaws.{behind-events, behind-runs, behind-small, events, first-low, first-row, length-seen}
+use Rattle.pm_raw.proofs.LogLaws.{suffix-events, suffix-runs, suffix-small, events, first-low, first-row, length-seen}
 use Rattle.pm_raw.proofs.log.Log.take_first.Goals as goal
 
 pub count_of_first-count-requires-clause-small : goal.count_of_first-count-requires-clause-small
@@ -30,8 +30,8 @@ invariant_of-self c =
     let found = c.first_or_next-run.ensures in
     let fits : count ≤ length log.values.now = omega (arith, c.count_of_first-count.ensures.within) in
     record {
-      runs = behind-runs log part count run fits found.inside found.begun found.last;
-      small = behind-small log part count run fits found.inside found.begun found.last;
+      runs = suffix-runs log part count run fits found.inside found.begun found.last;
+      small = suffix-small log part count run fits found.inside found.begun found.last;
     }
 
 pub returns-clause-events : goal.returns-clause-events
@@ -52,7 +52,7 @@ returns-clause-events c =
     ∙ ap (λ n. events_of (range_with_len word n) (take count values) ++ drop count (events log part)) (sym size)
     ∙ ap (λ es. es ++ drop count (events log part)) (sym c.piece_of.ensures.events)
     ∙ ap (λ es. piece_events c.piece_of.result ++ es)
-    (sym (behind-events log part count c.first_or_next-run.result fits found.inside found.begun found.last))
+    (sym (suffix-events log part count c.first_or_next-run.result fits found.inside found.begun found.last))
 
 pub returns-clause-some : goal.returns-clause-some
 returns-clause-some c =
@@ -62,7 +62,7 @@ returns-clause-some c =
     let count = c.count_of_first-count.result in
     let found = c.first_or_next-run.ensures in
     let fits : count ≤ length log.values.now = omega (arith, counted.within) in
-    let left = ap length (behind-events log part count c.first_or_next-run.result fits found.inside found.begun found.last) in
+    let left = ap length (suffix-events log part count c.first_or_next-run.result fits found.inside found.begun found.last) in
     let less : length (drop count (events log part)) < length c.args.self.now =
     omega (arith, length-drop count (events log part), length-seen log part _ c.self.view_is, ap length c.self.view_is, counted.some, fits) in
     subst (λ n. n < length c.args.self.now) (sym left) less

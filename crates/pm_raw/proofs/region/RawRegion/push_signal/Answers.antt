@@ -12,35 +12,35 @@ use Rattle.pm_raw.proofs.region.RawRegion.push_signal.Goals as goal
 
 pub push-requires : goal.push-requires
 push-requires c =
-    let told = sizes c.self.inside _ c.self.invariant c.self.view_is in
-    omega (arith, c.requires, told.events, told.capacity)
+    let reported = sizes c.self.inside _ c.self.invariant c.self.view_is in
+    omega (arith, c.requires, reported.events, reported.capacity)
 
 pub note_signal-requires-clause-barriers_room : goal.note_signal-requires-clause-barriers_room
 note_signal-requires-clause-barriers_room c =
     let region = c.self.inside in
-    let told = sizes region _ c.self.invariant c.self.view_is in
-    placed-room is_barrier _ (undos_of region) region.entries.room c.self.invariant.barriers (omega (arith, c.requires, told.events, told.capacity, told.undos))
+    let reported = sizes region _ c.self.invariant c.self.view_is in
+    placed-room is_barrier _ (undos_of region) region.entries.room c.self.invariant.barriers (omega (arith, c.requires, reported.events, reported.capacity, reported.undos))
 
 pub note_signal-requires-clause-call_ends_room : goal.note_signal-requires-clause-call_ends_room
 note_signal-requires-clause-call_ends_room c =
     let region = c.self.inside in
-    let told = sizes region _ c.self.invariant c.self.view_is in
-    placed-room is_call_end _ (undos_of region) region.entries.room c.self.invariant.call_ends (omega (arith, c.requires, told.events, told.capacity, told.undos))
+    let reported = sizes region _ c.self.invariant c.self.view_is in
+    placed-room is_call_end _ (undos_of region) region.entries.room c.self.invariant.call_ends (omega (arith, c.requires, reported.events, reported.capacity, reported.undos))
 
 -- the region as it is left
 abbrev next : After-push → Inside
 next c = record c.self.inside { entries = c.push.new.self; barriers = c.note_signal.new.barriers; call_ends = c.note_signal.new.call_ends }
 
--- it has the signal behind its log
+-- it has the signal after its log
 pushed : (c : After-push) → IsPushed c.self.inside (next c) (no_word ∷ []) (c.args.value ∷ [])
 pushed c =
-    let told = sizes c.self.inside _ c.self.invariant c.self.view_is in
+    let reported = sizes c.self.inside _ c.self.invariant c.self.view_is in
     record {
       words_are = c.push.ensures.words;
       saved_are = c.push.ensures.saved;
       room = c.push.ensures.room;
       each = refl;
-      fits = omega (arith, c.requires, told.events, told.capacity);
+      fits = omega (arith, c.requires, reported.events, reported.capacity);
       same = refl;
       within = within-signal _ c.args.value;
     }
@@ -49,11 +49,11 @@ pub invariant_of-self : goal.invariant_of-self
 invariant_of-self c =
     let region = c.self.inside in
     let step = c.self.invariant in
-    let told = sizes region _ step c.self.view_is in
+    let reported = sizes region _ step c.self.view_is in
     let undos = undos_of region in
     let event = signal_of c.args.value in
     let place = c.len-place.result in
-    let there : length undos ≡ place = omega (arith, told.undos, c.len-place.ensures) in
+    let there : length undos ≡ place = omega (arith, reported.undos, c.len-place.ensures) in
     let undos_are = undos-pushed region (next c) _ _ step (pushed c) in
     let note = c.note_signal.ensures in
     consistent-pushed region (next c) _ _ step (pushed c)

@@ -4,7 +4,7 @@ use Rattle.pm_region.specs.Memory.{Memory}
 use Rattle.pm_raw.specs.RawRegion.{undos_of}
 use Rattle.pm_raw.specs.Places.{Placed}
 use Rattle.pm_raw.specs.Unwound.{events_from}
-use Rattle.pm_raw.proofs.KindLaws.{barriers-front-kinds, erased-events}
+use Rattle.pm_raw.proofs.KindLaws.{barriers-prefix-kinds, erased-events}
 use Rattle.pm_raw.proofs.PlaceLaws.{barriers-below}
 use Rattle.pm_raw.proofs.region.RawRegionRegion.barriers_before.Goals as goal
 
@@ -16,5 +16,5 @@ returns c =
     let moment = c.args.moment in
     c.before-2.ensures
     ∙ barriers-below undos region.barriers.items moment kept
-    ∙ sym (barriers-front-kinds moment (events_from region.current undos) undos (erased-events region.current undos))
+    ∙ sym (barriers-prefix-kinds moment (events_from region.current undos) undos (erased-events region.current undos))
     ∙ ap (λ (m : Memory). barriers (take moment m.events)) c.self.view_is

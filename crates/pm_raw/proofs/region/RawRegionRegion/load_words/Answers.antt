@@ -8,8 +8,8 @@ use Rattle.pm_raw.proofs.region.RawRegionRegion.load_words.Goals as goal
 
 pub slice_bounds-result-end : goal.slice_bounds-result-end
 slice_bounds-result-end c =
-    let told = sizes c.self.inside _ c.self.invariant c.self.view_is in
-    omega (arith, c.requires, told.base, ap length c.as_slice.ensures)
+    let reported = sizes c.self.inside _ c.self.invariant c.self.view_is in
+    omega (arith, c.requires, reported.base, ap length c.as_slice.ensures)
 
 pub returns : goal.returns
 returns c =

@@ -4,5 +4,5 @@ use Rattle.pm_raw.proofs.region.RawRegionRegion.room.Goals as goal
 
 pub returns : goal.returns
 returns c =
-    let told = sizes c.self.inside _ c.self.invariant c.self.view_is in
-    omega (arith, c.room.ensures, told.events, told.capacity)
+    let reported = sizes c.self.inside _ c.self.invariant c.self.view_is in
+    omega (arith, c.room.ensures, reported.events, reported.capacity)

@@ -22,11 +22,11 @@ pub start_of_epoch-requires-clause-small : goal.start_of_epoch-requires-clause-s
 start_of_epoch-requires-clause-small c =
     let region = c.self.inside in
     let undos = undos_of region in
-    let told = sizes region _ c.self.invariant c.self.view_is in
+    let reported = sizes region _ c.self.invariant c.self.view_is in
     let same = barriers-kinds (events_from region.current undos) undos (erased-events region.current undos) in
     let begun : c.args.epoch ≤ barriers undos = omega (arith, c.requires, same, ap (λ (m : Memory). barriers m.events) c.self.view_is) in
     let early = start-small c.args.epoch undos region.barriers.items (ap (λ (p : Placed). p.items) c.self.invariant.barriers) begun in
-    omega (arith, early, told.undos, c.self.invariant.fits, c.self.invariant.small)
+    omega (arith, early, reported.undos, c.self.invariant.fits, c.self.invariant.small)
 
 pub returns : goal.returns
 returns c =

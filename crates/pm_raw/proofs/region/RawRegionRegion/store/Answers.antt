@@ -7,18 +7,18 @@ use Rattle.pm_raw.proofs.region.RawRegionRegion.store.Goals as goal
 
 pub bounds-as_slice-word : goal.bounds-as_slice-word
 bounds-as_slice-word c =
-    let told = sizes c.self.inside _ c.self.invariant c.self.view_is in
-    omega (arith, c.requires.in_range, told.base, ap length c.as_slice.ensures)
+    let reported = sizes c.self.inside _ c.self.invariant c.self.view_is in
+    omega (arith, c.requires.in_range, reported.base, ap length c.as_slice.ensures)
 
 pub set-requires : goal.set-requires
 set-requires c =
-    let told = sizes c.self.inside _ c.self.invariant c.self.view_is in
-    omega (arith, c.requires.in_range, told.base)
+    let reported = sizes c.self.inside _ c.self.invariant c.self.view_is in
+    omega (arith, c.requires.in_range, reported.base)
 
 pub push-requires : goal.push-requires
 push-requires c =
-    let told = sizes c.self.inside _ c.self.invariant c.self.view_is in
-    omega (arith, c.requires.room, told.events, told.capacity)
+    let reported = sizes c.self.inside _ c.self.invariant c.self.view_is in
+    omega (arith, c.requires.room, reported.events, reported.capacity)
 
 -- the region as it is left
 abbrev next : After-push → Inside
@@ -29,17 +29,17 @@ stored : (c : After-push) → IsStored c.self.inside (next c) c.args.word (c.arg
 stored c =
     let region = c.self.inside in
     let word = c.args.word in
-    let told = sizes region _ c.self.invariant c.self.view_is in
-    let inside : word < length region.current = omega (arith, c.requires.in_range, told.base) in
+    let reported = sizes region _ c.self.invariant c.self.view_is in
+    let inside : word < length region.current = omega (arith, c.requires.in_range, reported.base) in
     record {
       inside = omega (arith, inside);
-      fits = omega (arith, c.requires.room, told.events, told.capacity);
+      fits = omega (arith, c.requires.room, reported.events, reported.capacity);
       now = c.set.ensures;
       words = c.push.ensures.words;
       saved =
           c.push.ensures.saved
           ∙ ap (λ now. region.entries.saved ++ get_or now word 0 ∷ []) c.as_slice.ensures
-          ∙ sym (ap (λ behind. region.entries.saved ++ take 1 behind) (drop_more region.current word 0 inside));
+          ∙ sym (ap (λ suffix. region.entries.saved ++ take 1 suffix) (drop_more region.current word 0 inside));
       room = c.push.ensures.room;
       barriers = refl;
       call_ends = refl;

@@ -4,18 +4,18 @@ use Rattle.pm_region.specs.Memory.{Memory}
 use Rattle.pm_raw.specs.RawRegion.{undos_of}
 use Rattle.pm_raw.specs.Unwound.{base_from}
 use Rattle.pm_raw.proofs.RegionLaws.{sizes}
-use Rattle.pm_raw.proofs.UnwoundLaws.{words-front}
+use Rattle.pm_raw.proofs.UnwoundLaws.{words-prefix}
 use Rattle.pm_raw.proofs.region.RawRegionRegion.word_at.Goals as goal
 
-pub behind-requires : goal.behind-requires
-behind-requires c =
-    let told = sizes c.self.inside _ c.self.invariant c.self.view_is in
-    omega (arith, c.requires.moment, told.events, told.undos, ap length c.log.ensures)
+pub suffix-requires : goal.suffix-requires
+suffix-requires c =
+    let reported = sizes c.self.inside _ c.self.invariant c.self.view_is in
+    omega (arith, c.requires.moment, reported.events, reported.undos, ap length c.log.ensures)
 
 pub word_before-requires : goal.word_before-requires
 word_before-requires c =
-    let told = sizes c.self.inside _ c.self.invariant c.self.view_is in
-    omega (arith, c.requires.in_range, told.base, ap length c.as_slice.ensures)
+    let reported = sizes c.self.inside _ c.self.invariant c.self.view_is in
+    omega (arith, c.requires.in_range, reported.base, ap length c.as_slice.ensures)
 
 pub returns : goal.returns
 returns c =
@@ -24,7 +24,7 @@ returns c =
     let moment = c.args.moment in
     let word = c.args.word in
     c.word_before.ensures
-    ∙ ap (λ now. get_or (base_from now c.behind.result) word 0) c.as_slice.ensures
-    ∙ ap (λ es. get_or (base_from region.current es) word 0) (c.behind.ensures ∙ ap (drop moment) c.log.ensures)
-    ∙ sym (ap (λ ws. get_or ws word 0) (words-front moment region.current undos))
+    ∙ ap (λ now. get_or (base_from now c.suffix.result) word 0) c.as_slice.ensures
+    ∙ ap (λ es. get_or (base_from region.current es) word 0) (c.suffix.ensures ∙ ap (drop moment) c.log.ensures)
+    ∙ sym (ap (λ ws. get_or ws word 0) (words-prefix moment region.current undos))
     ∙ ap (λ (m : Memory). get_or (words_after m.base (take moment m.events)) word 0) c.self.view_is

@@ -1,6 +1,0 @@
-use Rattle.std.proofs.Common.{◌≡◌}
-use Rattle.bp_shapes.specs.Trail.{trail_of}
-use Rattle.bp_cow.proofs.shared.common.Given as goal
-
-abbrev pub invariant-loop-depth : goal.invariant-loop-depth
-invariant-loop-depth l = trail_of l.these l.depth ≡ trail_of l.those l.depth

@@ -1,0 +1,107 @@
+//! Runs over the devices in memory.
+
+use crate::row::Row;
+use bp_io::{FairSource, MemFiles, MemSink, MemSource, NullSink};
+use bp_limits::Version;
+use bp_shell::{Status, run};
+use std::alloc::{AllocError, Global};
+
+/// The room of the sink, in bytes.
+const ROOM: usize = 4_194_304;
+
+/// The results of a run.
+#[derive(Drop)]
+pub struct Ran {
+    /// The exit status.
+    pub status: u8,
+    /// The bytes that the sink took.
+    pub reported: Vec<u8>,
+    /// FILE, if there is one.
+    pub file: Option<Vec<u8>>,
+}
+
+fn image_of(alloc: Global, files: &MemFiles<'_>) -> Result<Option<Vec<u8>>, AllocError> {
+    match files.image() {
+        Some(bytes) => Ok(Some(Vec::from_slice(alloc, bytes)?)),
+        None => Ok(None),
+    }
+}
+
+/// Returns the bytes of a format of this number of blocks and of a version, `None` if the program refuses the number.
+pub fn formatted(
+    alloc: Global,
+    blocks: &str,
+    version: Version,
+) -> Result<Option<Vec<u8>>, AllocError> {
+    let number = match version {
+        Version::One => "1",
+        Version::Two => "2",
+    };
+    let words = [
+        "bpfs",
+        "format",
+        "f",
+        "--blocks",
+        blocks,
+        "--version",
+        number,
+    ];
+    let mut files = MemFiles::new(alloc, None, &[])?;
+    format_over(alloc, &words, &mut files)
+}
+
+/// Runs a format over these devices. Returns the bytes that it makes, `None` if it refuses.
+fn format_over(
+    alloc: Global,
+    words: &[&str],
+    files: &mut MemFiles<'_>,
+) -> Result<Option<Vec<u8>>, AllocError> {
+    let mut source = FairSource::new(b"");
+    let mut sink = NullSink::new();
+    match run(alloc, words, &mut source, &mut sink, files) {
+        Status::Done => image_of(alloc, files),
+        _ => Ok(None),
+    }
+}
+
+/// Returns the contents of these devices after a run.
+fn left(
+    alloc: Global,
+    status: u8,
+    sink: &MemSink<'_>,
+    files: &MemFiles<'_>,
+) -> Result<Ran, AllocError> {
+    let reported = Vec::from_slice(alloc, sink.bytes())?;
+    let file = image_of(alloc, files)?;
+    Ok(Ran {
+        status,
+        reported,
+        file,
+    })
+}
+
+/// Runs the arguments of a row over its devices, of which the file is this one.
+fn play_over(
+    alloc: Global,
+    row: &Row,
+    words: &[&str],
+    files: &mut MemFiles<'_>,
+) -> Result<Ran, AllocError> {
+    let failing = &row.failing;
+    let mut source = MemSource::new(row.script.as_bytes(), row.piece.max(1), &failing.source);
+    let mut sink = MemSink::new(alloc, ROOM, &failing.sink)?;
+    let status = run(alloc, words, &mut source, &mut sink, files);
+    left(alloc, status.code(), &sink, files)
+}
+
+/// Runs these arguments over a row's devices.
+fn play_words(alloc: Global, row: &Row, words: &[&str]) -> Result<Ran, AllocError> {
+    let mut files = MemFiles::new(alloc, row.file.as_deref(), &row.failing.files)?;
+    play_over(alloc, row, words, &mut files)
+}
+
+/// Runs a row.
+pub fn play(alloc: Global, row: &Row) -> Result<Ran, AllocError> {
+    let words: Vec<&str> = row.words().split_whitespace().collect(alloc)?;
+    play_words(alloc, row, &words)
+}

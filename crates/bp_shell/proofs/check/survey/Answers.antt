@@ -1,0 +1,14 @@
+use Rattle.std.proofs.Common.{refl}
+use Rattle.bp_shell.proofs.OpeningLaws.{counted}
+use Rattle.bp_shell.proofs.check.survey.Goals as goal
+
+pub returns-clause-clean : goal.returns-clause-clean
+returns-clause-clean c =
+    let found = c.in_ok-found.ensures.found in
+    record {
+      totals = c.in_ok-found.found.totals;
+      free = c.count.result;
+      holds = found.held;
+      leaves = counted c.args.region.now.base _ _ c.count.result found.snapshot_blocks found.free found.block_room c.count.ensures;
+      line = refl;
+    }

@@ -1,0 +1,11 @@
+use Rattle.std.proofs.Common.{◌∙◌, sym}
+use Rattle.std.proofs.lemmas.List.{length-take-le}
+use Rattle.bp_volume.proofs.ReplyLaws.{read_answer_of-prefix, fits-prefix}
+use Rattle.bp_volume.proofs.volume.Volume.snap_read_prefix.Goals as goal
+
+pub returns-clause-called : goal.returns-clause-called
+returns-clause-called g c =
+    rw (read_answer_of-prefix c.snap_read.result c.snap_read.new.into _ c.snap_read.ensures.fits, sym (length-take-le c.args.len c.args.buffer.now c.requires)) c.snap_read.ensures.called
+
+pub returns-clause-fits : goal.returns-clause-fits
+returns-clause-fits g c = fits-prefix c.snap_read.result c.args.len c.snap_read.new.into (c.snap_read.auto.into ∙ length-take-le c.args.len c.args.buffer.now c.requires) c.snap_read.ensures.fits

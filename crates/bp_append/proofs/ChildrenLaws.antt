@@ -9,7 +9,7 @@ use Rattle.bp_layout.specs.Pieces.{piece, child, HasChildren, Joins}
 use Rattle.bp_layout.proofs.TreeLaws.{KeepsPointers, KeepsLiveWords, tree_word-kept, sound-kept, full-kept, has_block-kept, has_block-stays, live_above, live_pointer_word, live_content}
 use Rattle.bp_layout.proofs.SmallTrees.{leaf_sound, leaf_full, one_live, node-zero, content_word-leaf}
 use Rattle.bp_layout.proofs.Pieces.{joined_sound, joined_block, joined_byte, joined_full, child_block, child_full, splits, top_has, sound_shape}
-use Rattle.bp_shapes.proofs.Roots.{null_tree, null_words}
+use Rattle.bp_changes.proofs.Roots.{null_tree, null_words}
 use Rattle.bp_append.specs.Built.{IsBuilt, InSlot, Children}
 use Rattle.bp_append.proofs.TallyLaws.{span-positive}
 

@@ -16,10 +16,10 @@ use Rattle.bp_layout.specs.WellFormed.{IsWellFormed}
 use Rattle.bp_layout.specs.WordPaths.{WordPath, digits, inode_path, tree_path}
 use Rattle.bp_layout.proofs.Reached.{reached-in_file}
 use Rattle.bp_layout.proofs.TreeLaws.{live_above, live_content}
-use Rattle.bp_tree.proofs.Digits.{length-digits}
+use Rattle.bp_read.proofs.Digits.{length-digits}
 use Rattle.bp_append.specs.Prepared.{HasLooseEnd}
 use Rattle.bp_append.proofs.TallyLaws.{span-positive, span-suc}
-use Rattle.bp_tree.proofs.LooseWays.{inode_under, kept_node, loose-prefix}
+use Rattle.bp_read.proofs.LooseWays.{inode_under, kept_node, loose-prefix}
 
 -- ---- the nodes on the way to a byte
 

@@ -6,7 +6,7 @@ use Rattle.bp_layout.specs.Inode.{size_of}
 use Rattle.bp_layout.specs.Need.Change.{resizes}
 use Rattle.bp_layout.specs.WordPaths.{WordPath}
 use Rattle.pm_region.specs.Memory.{Memory, current_words}
-use Rattle.bp_commit.specs.Performs.{PerformsThawed}
+use Rattle.bp_changes.specs.Performs.{PerformsThawed}
 use Rattle.bp_append.specs.SizeStores.{GrowsFile}
 use Rattle.bp_append.proofs.GrowsTree.{OnlyGrows, GrowsTree}
 use Rattle.bp_append.proofs.GrowsTree as tree

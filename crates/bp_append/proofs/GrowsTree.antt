@@ -23,10 +23,10 @@ use Rattle.bp_changes.proofs.SameMeaning as meaning
 use Rattle.bp_changes.proofs.Separation.{stands_in_block}
 use Rattle.pm_region.specs.Memory.{Memory, current_words, Adds}
 use Rattle.pm_region.proofs.MemoryLaws.{current_words-adds}
-use Rattle.bp_commit.specs.Performs.{IsOpen, PerformsThawed, most_stores_thawed}
-use Rattle.bp_commit.specs.Performs.IsOpen.{in_live}
-use Rattle.bp_tree.proofs.ExistingPaths.{AllThere, inode_path-there, cover-one, copied-one}
-use Rattle.bp_commit.proofs.PerformsLaws.{performs_word}
+use Rattle.bp_changes.specs.Performs.{IsOpen, PerformsThawed, most_stores_thawed}
+use Rattle.bp_changes.specs.Performs.IsOpen.{in_live}
+use Rattle.bp_read.proofs.ExistingPaths.{AllThere, inode_path-there, cover-one, copied-one}
+use Rattle.bp_changes.proofs.PerformsLaws.{performs_word}
 use Rattle.bp_append.specs.Prepared.{need_for, CanPrepare, PreparesWith}
 use Rattle.bp_append.specs.Stores.{prep_stores}
 use Rattle.bp_append.proofs.CallerLaws.{prepared_can_resize}

@@ -7,12 +7,12 @@ use Rattle.bp_layout.specs.Tree.{tree_word, node, byte, covered, span, IsLivePoi
 use Rattle.bp_layout.specs.Inode.{root_of, size_of, StandsAt}
 use Rattle.bp_layout.specs.Reached.{IsReached, IsLiveBlock}
 use Rattle.bp_layout.proofs.TreeLaws.{tree_word-suc, tree_word-zero}
-use Rattle.bp_shapes.specs.Links.{IsUnder, CanHang}
+use Rattle.bp_changes.specs.Links.{IsUnder, CanHang}
 use Rattle.bp_layout.specs.Members.{Has, Each}
-use Rattle.bp_shapes.specs.Links.IsUnder.{here, under}
+use Rattle.bp_changes.specs.Links.IsUnder.{here, under}
 use Rattle.bp_append.specs.Built.{IsBuilt}
 use Rattle.bp_layout.proofs.Pieces.{slot_of, rest_of, value, rest_low}
-use Rattle.bp_shapes.proofs.NullLink.{below_depth}
+use Rattle.bp_changes.proofs.NullLink.{below_depth}
 
 slot_below : (d k e l r : ℕ) → IsUnder d k e l r → slot_of r l ≡ k
 slot_below d k _ _ _ (here at index) = index

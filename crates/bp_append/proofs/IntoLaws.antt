@@ -10,7 +10,7 @@ use Rattle.pm_region.specs.Memory.{Memory, Adds}
 use Rattle.pm_region.specs.Safe.{AddsMay}
 use Rattle.pm_region.proofs.MemoryLaws.{adds_both}
 use Rattle.pm_region.proofs.MayLaws.{may_none}
-use Rattle.bp_commit.specs.Performs.{InBlock}
+use Rattle.bp_changes.specs.Performs.{InBlock}
 use Rattle.bp_append.specs.Into.{AddsInto}
 
 -- stores of which nothing is said

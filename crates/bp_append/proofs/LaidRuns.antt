@@ -8,7 +8,7 @@ use Rattle.pm_epochs.proofs.PieceLaws.{IsPiece-append, IsPiece-none, IsPiece-sto
 use Rattle.pm_region.specs.Memory.{Memory, current_words, room_in, stores_from, Adds}
 use Rattle.pm_region.proofs.MemoryLaws.{current_words-adds, room_in-adds, base-adds, length-current_words, length-stores_from}
 use Rattle.pm_region.proofs.RunLaws.{StoresMay-run, run-inside, run-outside}
-use Rattle.bp_commit.specs.Performs.{InBlock}
+use Rattle.bp_changes.specs.Performs.{InBlock}
 use Rattle.bp_append.specs.Given.{given, IsLaid, LaysIn, LaysRun}
 use Rattle.bp_append.specs.Into.{AddsInto}
 use Rattle.bp_append.proofs.LaidLaws.{laid-kept, laid-given}

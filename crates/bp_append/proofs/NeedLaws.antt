@@ -12,7 +12,7 @@ use Rattle.std.proofs.lemmas.Grind.{flat_map-append}
 use Rattle.bp_free.proofs.Members.{range_split}
 use Rattle.bp_layout.specs.Words.{Image, height_of, block_of}
 use Rattle.bp_layout.specs.Tree.{span, node}
-use Rattle.bp_shapes.proofs.Roots.{null_tree}
+use Rattle.bp_changes.proofs.Roots.{null_tree}
 use Rattle.bp_layout.specs.Nodes.{TreeNode, is_present, height_for, height_with, raised_nodes, nodes_over, nodes_for}
 use Rattle.bp_append.specs.Tally.{met, tally}
 use Rattle.bp_append.specs.Spine.{spine_at, spine}

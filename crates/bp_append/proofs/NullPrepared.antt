@@ -16,8 +16,8 @@ use Rattle.bp_changes.specs.SameMeaning.{SameMeaning}
 use Rattle.bp_changes.specs.Harmless.{IsHarmless, Agrees}
 use Rattle.bp_layout.specs.Members.{Has, Each}
 use Rattle.bp_changes.proofs.Frame.{root-kept, size-same}
-use Rattle.bp_shapes.proofs.Roots.{null_tree}
-use Rattle.bp_commit.specs.Performs.IsOpen.{in_taken}
+use Rattle.bp_changes.proofs.Roots.{null_tree}
+use Rattle.bp_changes.specs.Performs.IsOpen.{in_taken}
 use Rattle.pm_region.specs.Memory.{Memory, current_words}
 use Rattle.bp_append.specs.Built.{InBlocks}
 use Rattle.bp_append.specs.Filled.{IsUsable}

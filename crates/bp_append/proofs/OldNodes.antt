@@ -4,8 +4,8 @@ use Rattle.bp_layout.specs.Words.{Image, block_of, height_of, slot_word}
 use Rattle.bp_layout.specs.Tree.{node, covered, IsLivePointer}
 use Rattle.bp_layout.specs.Members.{Has}
 use Rattle.bp_layout.proofs.TreeLaws.{covered-suc}
-use Rattle.bp_shapes.specs.Links.{LeadDown, raised, raised_by}
-use Rattle.bp_shapes.proofs.Raising.{Raises, node-raised}
+use Rattle.bp_changes.specs.Links.{LeadDown, raised, raised_by}
+use Rattle.bp_changes.proofs.Raising.{Raises, node-raised}
 
 -- each of the new nodes leads to the one below it
 pub node-raised_by : (image : Image) (root : ℕ) (chain : List ℕ) (size : ℕ) → size ≤ covered (suc (height_of root)) → height_of root + length chain ≤ 7 → LeadDown image root chain →

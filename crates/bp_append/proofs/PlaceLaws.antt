@@ -18,8 +18,8 @@ use Rattle.bp_layout.specs.Inode.RootPlace.{top, inode}
 use Rattle.bp_layout.proofs.TreeLaws.{tree_word-suc, slot_word-at, live_above, live_content}
 use Rattle.bp_layout.proofs.Reached.{reached-in_file}
 use Rattle.bp_layout.proofs.Addresses.{address_from-digits}
-use Rattle.bp_tree.specs.Paths.{IsInRange}
-use Rattle.bp_tree.proofs.PathLaws.{exists-digits, in_range-digits, small_digits}
+use Rattle.bp_read.specs.Paths.{IsInRange}
+use Rattle.bp_read.proofs.PathLaws.{exists-digits, in_range-digits, small_digits}
 use Rattle.pm_region.specs.Memory.{Memory, current_words}
 use Rattle.pm_region.proofs.MemoryLaws.{length-current_words}
 use Rattle.bp_append.specs.Grown.{CanGrow}

@@ -1,7 +1,7 @@
 -- A prepared tree in its image: nobody sees the preparation, and the tree is ready.
 use Rattle.std.proofs.Common.{◌≡◌, ◌≢◌, ℕ, ◌+◌, ◌*◌, ◌/◌, ◌%◌, ◌<◌, ◌≤◌, List, [], ◌∷◌, ◌++◌, length, Bool, false, set, refl, sym, ◌∙◌, subst, arith, inl, inr}
 use Rattle.std.proofs.lemmas.List.{append_assoc}
-use Rattle.bp_commit.proofs.PerformsLaws.{same_equivalence}
+use Rattle.bp_changes.proofs.PerformsLaws.{same_equivalence}
 use Rattle.bp_layout.proofs.MemberLaws.{each-as, each-has}
 use Rattle.bp_layout.specs.Words.{Image, word, height_of}
 use Rattle.bp_layout.specs.Tree.{node, HasBlock}
@@ -30,8 +30,8 @@ use Rattle.pm_epochs.proofs.MayLaws.{StoresMay-append, StoresMay-weaker}
 use Rattle.pm_epochs.proofs.PieceLaws.{IsPiece-append, IsPiece-more, IsPiece-barrier, StoresTo-prefix}
 use Rattle.pm_region.specs.Memory.{Memory, current_words, Adds}
 use Rattle.pm_region.proofs.MemoryLaws.{adds_both, current_words-adds}
-use Rattle.bp_commit.specs.Performs.{InBlock, IsOpen, AddsTaking}
-use Rattle.bp_commit.specs.Performs.IsOpen.{in_live, at_root}
+use Rattle.bp_changes.specs.Performs.{InBlock, IsOpen, AddsTaking}
+use Rattle.bp_changes.specs.Performs.IsOpen.{in_live, at_root}
 use Rattle.bp_append.specs.Into.{AddsInto}
 use Rattle.bp_append.specs.Built.{InBlocks}
 use Rattle.bp_append.specs.Grown.{changed, epoch_of_links, Links}

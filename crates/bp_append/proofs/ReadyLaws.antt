@@ -21,9 +21,9 @@ use Rattle.bp_layout.proofs.Reached.{reached-in_file}
 use Rattle.bp_changes.proofs.Separation.{SameWord, one_place_in_nodes}
 use Rattle.bp_changes.proofs.Formatted.{version_stays}
 use Rattle.bp_changes.proofs.ReachedOn.{reached_on, meaning_on}
-use Rattle.bp_shapes.proofs.Reshape as reshape
-use Rattle.bp_shapes.proofs.Roots.{reads_self, null_tree, null_words}
-use Rattle.bp_shapes.proofs.RootLink.{root_reshapes, beside}
+use Rattle.bp_changes.proofs.Reshape as reshape
+use Rattle.bp_changes.proofs.Roots.{reads_self, null_tree, null_words}
+use Rattle.bp_changes.proofs.RootLink.{root_reshapes, beside}
 use Rattle.bp_append.specs.Given.{given}
 use Rattle.bp_append.specs.Built.{IsBuilt}
 use Rattle.bp_append.specs.Prepared.{Prepares}

@@ -7,7 +7,7 @@ use Rattle.std.proofs.lemmas.List.{append_assoc, length-append}
 use Rattle.bp_layout.specs.Words.{Image, height_of, slot_word}
 use Rattle.bp_layout.specs.Tree.{byte, span, HasBlock, IsFull}
 use Rattle.bp_layout.specs.Members.{Has, AreApart}
-use Rattle.bp_shapes.specs.Links.{raised, raised_by, LeadDown}
+use Rattle.bp_changes.specs.Links.{raised, raised_by, LeadDown}
 use Rattle.bp_layout.specs.Stores.{after_stores}
 use Rattle.pm_region.specs.Memory.{Memory, current_words, room_in}
 use Rattle.pm_region.proofs.MayLaws.{may_frame, room_after_may}

@@ -11,12 +11,12 @@ use Rattle.bp_layout.specs.WellFormed.{IsWellFormed}
 use Rattle.bp_changes.specs.SameMeaning.{SameMeaning}
 use Rattle.bp_changes.specs.Harmless.{IsHarmless, Agrees}
 use Rattle.bp_layout.specs.Members.{Has, Each}
-use Rattle.bp_shapes.specs.Links.{IsChain}
+use Rattle.bp_changes.specs.Links.{IsChain}
 use Rattle.bp_changes.proofs.Frame.{root-kept, size-same}
-use Rattle.bp_shapes.proofs.PastEnd.{past_end_harmless, no_root_past_end}
-use Rattle.bp_shapes.specs.PastEnd.{IsPastEnd}
-use Rattle.bp_commit.specs.Performs.{IsOpen}
-use Rattle.bp_commit.specs.Performs.IsOpen.{in_taken, in_live}
+use Rattle.bp_changes.proofs.PastEnd.{past_end_harmless, no_root_past_end}
+use Rattle.bp_changes.specs.PastEnd.{IsPastEnd}
+use Rattle.bp_changes.specs.Performs.{IsOpen}
+use Rattle.bp_changes.specs.Performs.IsOpen.{in_taken, in_live}
 use Rattle.pm_region.specs.Memory.{Memory, current_words}
 use Rattle.bp_append.specs.Filled.{IsUsable}
 use Rattle.pm_region.proofs.MemoryLaws.{length-current_words}

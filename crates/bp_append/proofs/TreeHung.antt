@@ -9,18 +9,18 @@ use Rattle.bp_layout.specs.Reached.{IsLiveBlock}
 use Rattle.bp_layout.specs.Same.{Same}
 use Rattle.bp_changes.specs.SameContent.{IsReadByWords, ReadsAs}
 use Rattle.bp_layout.specs.Members.{Has, Each}
-use Rattle.bp_shapes.specs.Links.{CanHang, raised_by}
+use Rattle.bp_changes.specs.Links.{CanHang, raised_by}
 use Rattle.bp_layout.proofs.TreeLaws.{node-kept, live_above, live_pointer_word}
 use Rattle.bp_changes.proofs.Frame.{keeps, size-same}
 use Rattle.bp_changes.proofs.ReachedOn.{reached_on, meaning_on}
-use Rattle.bp_shapes.proofs.Reshape as reshape
-use Rattle.bp_shapes.proofs.NullLink as null_link
+use Rattle.bp_changes.proofs.Reshape as reshape
+use Rattle.bp_changes.proofs.NullLink as null_link
 use Rattle.pm_epochs.specs.May.{AnyOf}
 use Rattle.pm_region.specs.Memory.{Memory}
 use Rattle.bp_append.specs.Built.{IsBuilt}
 use Rattle.bp_append.proofs.LaidLaws.{given-before}
 use Rattle.bp_append.proofs.FillLaws.{apart_left, apart_parts}
-use Rattle.bp_shapes.proofs.Chain.{chain_reads}
+use Rattle.bp_changes.proofs.Chain.{chain_reads}
 use Rattle.bp_append.specs.Given.{given_at}
 use Rattle.bp_append.specs.Visited.{Hangs}
 use Rattle.bp_append.proofs.HangBuilt.{hang_built, in_below}

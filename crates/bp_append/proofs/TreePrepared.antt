@@ -8,14 +8,14 @@ use Rattle.bp_layout.specs.Reached.{IsReached, IsLiveBlock}
 use Rattle.bp_layout.specs.Same.{Same}
 use Rattle.bp_changes.specs.SameContent.{IsReadByWords}
 use Rattle.bp_layout.specs.Members.{Has}
-use Rattle.bp_shapes.specs.Links.{raised_by}
+use Rattle.bp_changes.specs.Links.{raised_by}
 use Rattle.bp_layout.specs.Stores.{after_stores}
 use Rattle.bp_layout.proofs.Addresses.{present_above}
 use Rattle.bp_layout.proofs.TreeLaws.{live_above, live_pointer_word, slot_word-at, tree_word-suc, tree_word-zero}
 use Rattle.bp_changes.proofs.Frame.{keeps}
 use Rattle.pm_epochs.specs.May.{AnyAt, StoresMay, AnyOf, links_of}
-use Rattle.bp_commit.specs.Performs.{IsOpen}
-use Rattle.bp_commit.specs.Performs.IsOpen.{in_live}
+use Rattle.bp_changes.specs.Performs.{IsOpen}
+use Rattle.bp_changes.specs.Performs.IsOpen.{in_live}
 use Rattle.pm_region.specs.Memory.{Memory, current_words}
 use Rattle.bp_append.specs.Stores.{prep_stores}
 use Rattle.pm_region.proofs.MayLaws.{may_frame}
@@ -23,8 +23,8 @@ use Rattle.bp_append.proofs.FillLaws.{block_row}
 use Rattle.bp_append.proofs.VisitLaws.{beside as links_beside}
 use Rattle.bp_append.proofs.TwoLinks.{any_root_link}
 use Rattle.bp_layout.specs.Nodes.{height_with}
-use Rattle.bp_shapes.proofs.RootLink.{beside as root_beside}
-use Rattle.bp_shapes.proofs.Roots.{reads_self}
+use Rattle.bp_changes.proofs.RootLink.{beside as root_beside}
+use Rattle.bp_changes.proofs.Roots.{reads_self}
 use Rattle.bp_append.proofs.OldNodes.{lead_kept, node-raised_by}
 use Rattle.bp_append.specs.Given.{given}
 use Rattle.bp_append.specs.Visited.{extended, Hangs, AreHung}

@@ -14,16 +14,16 @@ use Rattle.bp_layout.proofs.SameLaws.{same_self, same_transitive}
 use Rattle.bp_layout.proofs.TreeLaws.{node-kept, live_above, live_content}
 use Rattle.bp_layout.proofs.Reached.{reached-in_file}
 use Rattle.bp_changes.proofs.SameMeaning.{reached-back, well_formed-same}
-use Rattle.bp_shapes.specs.Links.{CanHang, raised, raised_by, LeadDown, IsChain}
+use Rattle.bp_changes.specs.Links.{CanHang, raised, raised_by, LeadDown, IsChain}
 use Rattle.bp_layout.specs.Members.{Each}
 use Rattle.bp_changes.specs.SameContent.{IsReadByWords, ReadsAs}
 use Rattle.bp_layout.specs.Inode.RootPlace.{top, inode}
 use Rattle.pm_epochs.specs.May.{AnyOf}
-use Rattle.bp_shapes.proofs.Reshape.{Reshapes, keeps, size-same, block-back, reshaped_meaning, reshaped_same}
-use Rattle.bp_shapes.proofs.RootLink.{root_link_same}
-use Rattle.bp_shapes.proofs.NullLink as null_link
+use Rattle.bp_changes.proofs.Reshape.{Reshapes, keeps, size-same, block-back, reshaped_meaning, reshaped_same}
+use Rattle.bp_changes.proofs.RootLink.{root_link_same}
+use Rattle.bp_changes.proofs.NullLink as null_link
 use Rattle.bp_changes.proofs.ReachedOn.{reached_on}
-use Rattle.bp_shapes.proofs.Chain.{chain_reads}
+use Rattle.bp_changes.proofs.Chain.{chain_reads}
 
 -- one root link alone
 pub any_root_link : (image : Image) → IsWellFormed image → (t place other : ℕ) → IsReached image t → RootPlace image t place → ReadsAs (IsReadByWords image t) image (size_of image t) (root_of image t) other →

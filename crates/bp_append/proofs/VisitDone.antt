@@ -7,7 +7,7 @@ use Rattle.bp_layout.specs.Tree.{byte, span, HasBlock, IsFull}
 use Rattle.bp_layout.specs.Members.{Has}
 use Rattle.bp_layout.specs.Stores.{after_stores}
 use Rattle.bp_layout.proofs.TreeLaws.{slot_word-at}
-use Rattle.bp_shapes.proofs.Roots.{null_tree, null_words}
+use Rattle.bp_changes.proofs.Roots.{null_tree, null_words}
 use Rattle.pm_region.specs.Memory.{Memory, current_words}
 use Rattle.pm_region.proofs.MemoryLaws.{length-current_words}
 use Rattle.pm_region.proofs.MayLaws.{may_frame}

@@ -10,8 +10,8 @@ use Rattle.bp_limits.specs.Limits.{block_size, block_words, max_height}
 use Rattle.bp_limits.specs.CallLimits.{max_size}
 use Rattle.bp_layout.specs.Nodes.{nodes_for, height_with}
 use Rattle.bp_layout.specs.Members.{Has, AreApart}
-use Rattle.bp_shapes.specs.Links.{raised_by, LeadDown}
-use Rattle.bp_shapes.specs.PastEnd.{IsPastEnd}
+use Rattle.bp_changes.specs.Links.{raised_by, LeadDown}
+use Rattle.bp_changes.specs.PastEnd.{IsPastEnd}
 use Rattle.bp_layout.specs.Stores.{after_stores}
 use Rattle.pm_region.specs.Memory.{Memory, current_words, room_in, Adds}
 use Rattle.bp_append.specs.Into.{AddsInto}

@@ -4,7 +4,7 @@ use Rattle.pm_epochs.specs.Log.{StoresTo}
 use Rattle.bp_layout.specs.Members.{Each}
 use Rattle.pm_region.specs.Memory.{Memory}
 use Rattle.pm_region.specs.Safe.{AddsMay}
-use Rattle.bp_commit.specs.Performs.{InBlock}
+use Rattle.bp_changes.specs.Performs.{InBlock}
 
 -- stores that are allowed (`May`), at most `most_stores` of them, with at least one to each of these blocks
 pub record AddsInto (blocks : List ℕ) (May : ℕ → ℕ → Type 0) (most_stores : ℕ) (old new : Memory) : Type 0 where

@@ -5,7 +5,7 @@ use Rattle.bp_free.specs.Set.{Set, members}
 use Rattle.bp_limits.specs.Limits.{block_words}
 use Rattle.bp_layout.specs.Words.{height_of}
 use Rattle.bp_layout.specs.Tree.{span}
-use Rattle.bp_tree.specs.declared.tree.Tree.{Tree}
+use Rattle.bp_read.specs.declared.tree.Tree.{Tree}
 use Rattle.pm_region.specs.Memory.{Memory}
 use Rattle.bp_append.specs.declared.visit.Link.{Link}
 use Rattle.bp_append.specs.declared.wanted.TreeBlock.{TreeBlock}

@@ -16,8 +16,8 @@ use Rattle.bp_changes.specs.SameMeaning.{SameMeaning}
 use Rattle.pm_region.specs.Memory.{Memory, current_words, room_in}
 use Rattle.bp_free.specs.Set.{members}
 use Rattle.bp_free.specs.declared.parts.Parts.{Parts}
-use Rattle.bp_shapes.specs.Sets.{in_snapshot_of}
-use Rattle.bp_commit.specs.Performs.{AddsTaking}
+use Rattle.bp_changes.specs.Sets.{in_snapshot_of}
+use Rattle.bp_changes.specs.Performs.{AddsTaking}
 use Rattle.bp_append.specs.Stores.{prep_stores, room_past_end}
 use Rattle.bp_append.specs.Given.{given}
 use Rattle.bp_append.specs.Filled.{IsUsable}

@@ -5,7 +5,7 @@ use Rattle.bp_limits.specs.CallLimits.{max_size}
 use Rattle.bp_layout.specs.Words.{Image, height_of}
 use Rattle.bp_layout.specs.Tree.{byte, span, HasBlock, IsSound, IsFull}
 use Rattle.bp_layout.specs.Members.{Has, AreApart}
-use Rattle.bp_shapes.specs.Links.{raised_by, LeadDown}
+use Rattle.bp_changes.specs.Links.{raised_by, LeadDown}
 use Rattle.bp_layout.specs.Stores.{after_stores}
 use Rattle.pm_region.specs.Memory.{Memory, current_words, room_in}
 use Rattle.bp_append.specs.Into.{AddsInto}

@@ -6,7 +6,7 @@ use Rattle.bp_layout.specs.Inode.{ContentStandsAt, IsFile, size_of}
 use Rattle.bp_layout.specs.Need.Change.{resizes}
 use Rattle.bp_layout.specs.WordPaths.{WordPath}
 use Rattle.pm_region.specs.Memory.{Memory, current_words, Adds}
-use Rattle.bp_commit.specs.Performs.{PerformsThawed}
+use Rattle.bp_changes.specs.Performs.{PerformsThawed}
 use Rattle.bp_append.specs.Prepared.{CanPrepare, PreparesWith}
 
 -- A file grows to a size without given bytes: its tree is prepared, and then its size word, at a place, is stored alone

@@ -6,7 +6,7 @@ use Rattle.bp_layout.specs.Words.{Image, height_of, slot_word}
 use Rattle.bp_layout.specs.Tree.{node, byte, span, IsLivePointer, HasBlock, IsSound, IsFull}
 use Rattle.bp_layout.specs.Pieces.{child}
 use Rattle.bp_layout.specs.Members.{Has}
-use Rattle.bp_shapes.specs.PastEnd.{IsPastEnd}
+use Rattle.bp_changes.specs.PastEnd.{IsPastEnd}
 use Rattle.bp_layout.specs.Stores.{after_stores}
 use Rattle.pm_region.specs.Memory.{Memory, current_words, room_in}
 use Rattle.bp_append.specs.declared.visit.Link.{Link}

@@ -17,7 +17,7 @@ use crate::visit::{Link, visit};
 use crate::wanted::{TreeBlock, Wanted};
 use bp_free::{Blocks, Parts};
 use bp_layout::RootWord;
-use bp_tree::{Slots, Tree, address};
+use bp_read::{Slots, Tree, address};
 use pm_region::Region;
 
 /// Builds a tree of the needed height for the wanted bytes, for a tree without blocks. Returns its root word.

@@ -9,7 +9,7 @@ use crate::wanted::{TreeBlock, Wanted};
 use bp_free::Blocks;
 use bp_layout::RootWord;
 use bp_limits::BLOCK_WORDS;
-use bp_tree::Tree;
+use bp_read::Tree;
 use pm_region::Region;
 use pm_words::span;
 

@@ -11,7 +11,7 @@ use crate::fill::{fill, make};
 use crate::wanted::{TreeBlock, Wanted, begun_slots, slot_start};
 use bp_free::Blocks;
 use bp_limits::BLOCK_WORDS;
-use bp_tree::Tree;
+use bp_read::Tree;
 use pm_region::Region;
 use pm_words::span;
 

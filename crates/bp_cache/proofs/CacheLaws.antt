@@ -4,10 +4,10 @@ use Rattle.std.specs.Prelude.{Result, Ok, Err, OnOk, OnErr}
 use Rattle.lru.specs.LruCache.{LruCache, lru_cache, promoted, put_entries}
 use Rattle.lru.proofs.Splits.{Contains-nil}
 use Rattle.bp_layout.specs.Words.{Image}
-use Rattle.bp_names.specs.Names.{remembered}
-use Rattle.bp_names.proofs.Maps.{known-slot}
-use Rattle.bp_index.specs.Index.{IsIndexOf}
-use Rattle.bp_tree.specs.declared.tree.Tree.{Tree}
+use Rattle.bp_cache.specs.Names.{remembered}
+use Rattle.bp_cache.proofs.Maps.{known-slot}
+use Rattle.bp_cache.specs.Index.{IsIndexOf}
+use Rattle.bp_read.specs.declared.tree.Tree.{Tree}
 use Rattle.bp_cache.specs.declared.cache.DirectoryCache.{DirectoryCache}
 use Rattle.bp_cache.specs.declared.held.Held.{Held}
 use Rattle.bp_cache.specs.declared.held.Held.TheVariants.{Indexed, Lost, Unindexed}

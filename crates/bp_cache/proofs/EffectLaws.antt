@@ -24,8 +24,8 @@ use Rattle.bp_changes.proofs.MoveReach.{carried_on, respelled_on}
 use Rattle.bp_changes.proofs.Respell as respell
 use Rattle.bp_changes.proofs.SameMeaning as meaning
 use Rattle.bp_changes.proofs.SlotLaws.{adds_keeps, carries_keeps, links_keeps, moves_keeps, removes_keeps, respells_keeps}
-use Rattle.bp_index.specs.declared.index.Index.{Index}
-use Rattle.bp_index.proofs.ChangeLaws.{indexed_kept, keeps_same}
+use Rattle.bp_cache.specs.declared.index.Index.{Index}
+use Rattle.bp_cache.proofs.ChangeLaws.{indexed_kept, keeps_same}
 use Rattle.bp_cache.specs.Cache.{IsCacheOf, IsHeldOf, IsIndexIn}
 use Rattle.bp_cache.specs.Changes.{KeepsAllNames, KeepsNamed, NameEnters, NameLeaves, NameMoves, NameReplaces, NameStands, WasNamed, name_in_directory}
 use Rattle.bp_cache.specs.declared.cache.DirectoryCache.{DirectoryCache}

@@ -6,8 +6,8 @@ use Rattle.bp_layout.specs.Directory.{entry_count, inumber_at}
 use Rattle.bp_layout.specs.Inode.{IsDirectory}
 use Rattle.bp_layout.specs.Reached.{IsReached}
 use Rattle.bp_changes.specs.KeepsEntries.{OneSlot, TwoSlots}
-use Rattle.bp_index.specs.declared.index.Index.{Index}
-use Rattle.bp_index.specs.Index.{EntersSlot, LeavesSlot}
+use Rattle.bp_cache.specs.declared.index.Index.{Index}
+use Rattle.bp_cache.specs.Index.{EntersSlot, LeavesSlot}
 use Rattle.bp_cache.specs.declared.held.Held.{Held}
 use Rattle.bp_cache.specs.declared.held.Held.TheVariants.{Indexed, Lost, Unindexed}
 use Rattle.bp_cache.specs.declared.name_at.NameAt.{NameAt}

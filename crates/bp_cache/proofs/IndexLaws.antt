@@ -6,10 +6,10 @@ use Rattle.bp_layout.specs.Words.{Image}
 use Rattle.bp_layout.specs.Directory.{entry_count, inumber_at}
 use Rattle.bp_layout.specs.Inode.{IsDirectory, root_of}
 use Rattle.bp_layout.specs.Reached.{IsReached}
-use Rattle.bp_index.specs.declared.index.Index.{Index}
-use Rattle.bp_index.specs.Hashes.{hash_of}
-use Rattle.bp_index.specs.Index.{EntersSlot, IsIndexed, LeavesSlot}
-use Rattle.bp_index.proofs.ChangeLaws.{indexed_kept, indexed_entered, indexed_left, others_entered, others_left}
+use Rattle.bp_cache.specs.declared.index.Index.{Index}
+use Rattle.bp_cache.specs.Hashes.{hash_of}
+use Rattle.bp_cache.specs.Index.{EntersSlot, IsIndexed, LeavesSlot}
+use Rattle.bp_cache.proofs.ChangeLaws.{indexed_kept, indexed_entered, indexed_left, others_entered, others_left}
 use Rattle.bp_cache.specs.declared.name_at.NameAt.{NameAt}
 use Rattle.bp_cache.specs.Cache.{IsIndexIn}
 use Rattle.bp_cache.specs.Changes.{NameStands, WasNamed}

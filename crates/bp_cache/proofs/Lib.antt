@@ -1,3 +1,9 @@
+pub mod Pairs
+pub mod Maps
+pub mod PutLaws
+pub mod FindLaws
+pub mod FreeLaws
+pub mod ChangeLaws
 pub mod Lists
 pub mod IndexLaws
 pub mod HeldLaws

@@ -4,7 +4,7 @@ use Rattle.std.specs.FinMap.{get}
 use Rattle.bp_layout.specs.Words.{Image}
 use Rattle.bp_layout.specs.Hints.{NameIn, Known, AreRight}
 use Rattle.bp_changes.specs.KeepsSlots.{KeepsSlots, KeepsOther, KeepsOthers}
-use Rattle.bp_names.specs.Forgets.{Forgets}
+use Rattle.bp_cache.specs.Forgets.{Forgets}
 use Rattle.bp_cache.specs.Held.{ForgetsBoth}
 
 -- a name that is known is none that is not

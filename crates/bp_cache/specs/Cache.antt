@@ -3,15 +3,15 @@ use Rattle.std.specs.Prelude.{◌≡◌, ℕ, ⊤, List, Contains}
 use Rattle.bp_cache.specs.declared.cache.DirectoryCache.{DirectoryCache}
 use Rattle.bp_cache.specs.declared.held.Held.{Held}
 use Rattle.bp_cache.specs.declared.held.Held.TheVariants.{Indexed, Lost, Unindexed}
-use Rattle.bp_index.specs.Index.{IsIndexOf}
-use Rattle.bp_index.specs.declared.index.Index.{Index}
+use Rattle.bp_cache.specs.Index.{IsIndexOf}
+use Rattle.bp_cache.specs.declared.index.Index.{Index}
 use Rattle.bp_layout.specs.Hints.{AreRight}
 use Rattle.bp_layout.specs.Inode.{IsDirectory, root_of, size_of}
 use Rattle.bp_layout.specs.Reached.{IsReached}
 use Rattle.bp_layout.specs.WellFormed.{IsWellFormed}
 use Rattle.bp_layout.specs.Words.{Image}
-use Rattle.bp_names.specs.Names.{known_of}
-use Rattle.bp_tree.specs.declared.tree.Tree.{Tree}
+use Rattle.bp_cache.specs.Names.{known_of}
+use Rattle.bp_read.specs.declared.tree.Tree.{Tree}
 
 -- If inode `i` is a reachable directory, the index is that of its entries. For any other inode it need not be.
 abbrev pub IsIndexIn : Image → ℕ → Index → Type 0

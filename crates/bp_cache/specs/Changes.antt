@@ -3,7 +3,7 @@ use Rattle.std.specs.Prelude.{◌≡◌, ◌≢◌, ℕ, ◌<◌}
 use Rattle.bp_cache.specs.declared.name_at.NameAt.{NameAt}
 use Rattle.bp_changes.specs.KeepsEntries.{NoSlot, OneSlot, TwoSlots}
 use Rattle.bp_changes.specs.KeepsSlots.{KeepsSlots, KeepsOther, KeepsOthers}
-use Rattle.bp_index.specs.Entries.{HasName, KeepsName}
+use Rattle.bp_cache.specs.Entries.{HasName, KeepsName}
 use Rattle.bp_layout.specs.Directory.{entry_count, inumber_at}
 use Rattle.bp_layout.specs.Hints.{NameIn}
 use Rattle.bp_layout.specs.Inode.{IsDirectory, root_of}

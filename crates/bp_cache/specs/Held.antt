@@ -4,8 +4,8 @@ use Rattle.std.specs.FinMap.{get}
 use Rattle.bp_cache.specs.declared.held.Held.{Held}
 use Rattle.bp_cache.specs.declared.held.Held.TheVariants.{Indexed, Lost, Unindexed}
 use Rattle.bp_cache.specs.declared.name_at.NameAt.{NameAt}
-use Rattle.bp_index.specs.Index.{EntersSlot, LeavesSlot}
-use Rattle.bp_index.specs.declared.index.Index.{Index}
+use Rattle.bp_cache.specs.Index.{EntersSlot, LeavesSlot}
+use Rattle.bp_cache.specs.declared.index.Index.{Index}
 use Rattle.bp_layout.specs.Hints.{NameIn, Known}
 
 -- If an index is held, the property holds for it.

@@ -1,3 +1,10 @@
+pub mod Names
+pub mod Same
+pub mod Forgets
+pub mod Entries
+pub mod Hashes
+pub mod Index
+pub mod Slots
 pub mod Held
 pub mod Cache
 pub mod Changes

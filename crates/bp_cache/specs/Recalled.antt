@@ -2,12 +2,12 @@
 use Rattle.std.specs.Prelude.{◌≡◌, ⊤, Option, IfSome}
 use Rattle.bp_cache.specs.declared.recalled.Recalled.{Recalled}
 use Rattle.bp_cache.specs.declared.recalled.Recalled.TheVariants.{Known, Unknown}
-use Rattle.bp_dirs.specs.Spots.{found_slot}
-use Rattle.bp_dirs.specs.declared.spot.Found.{Found}
+use Rattle.bp_read.specs.Spots.{found_slot}
+use Rattle.bp_read.specs.declared.spot.Found.{Found}
 use Rattle.bp_layout.specs.Directory.{inumber_in, slot_named_in}
 use Rattle.bp_layout.specs.Paths.{Name}
 use Rattle.bp_layout.specs.Words.{Image}
-use Rattle.bp_tree.specs.declared.tree.Tree.{Tree}
+use Rattle.bp_read.specs.declared.tree.Tree.{Tree}
 
 -- The result of a search for the name in the directory with this tree.
 pub record IsSearch (image : Image) (tree : Tree) (name : Name) (found : Option Found) : Type 0 where

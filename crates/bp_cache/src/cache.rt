@@ -5,7 +5,7 @@ ghost use Rattle.bp_cache.specs.Cache.{HasTree, IsCacheOf};
 ghost use Rattle.bp_cache.specs.Changes.{NameEnters, NameLeaves, NameMoves, NameReplaces, name_in_directory};
 ghost use Rattle.bp_cache.specs.Held.{ChangesOne, Enters, ForgetsBoth, Leaves};
 ghost use Rattle.bp_cache.specs.Recalled.{IsRecalled};
-ghost use Rattle.bp_dirs.specs.Spots.{FreeIs, found_slot, named_slot};
+ghost use Rattle.bp_read.specs.Spots.{FreeIs, found_slot, named_slot};
 ghost use Rattle.bp_layout.specs.Directory.{empty_slot, inumber_at, slot_named};
 ghost use Rattle.bp_layout.specs.Hints.{IsSlotOf};
 ghost use Rattle.bp_layout.specs.Inode.{IsDirectory, root_of, size_of};
@@ -13,18 +13,18 @@ ghost use Rattle.bp_layout.specs.Reached.{IsReached};
 ghost use Rattle.bp_layout.specs.WellFormed.{IsWellFormed};
 ghost use Rattle.bp_layout.specs.Words.{Image};
 ghost use Rattle.bp_limits.specs.CallLimits.{max_name};
-ghost use Rattle.bp_names.specs.Names.{known_of};
+ghost use Rattle.bp_cache.specs.Names.{known_of};
 ghost use Rattle.pm_region.specs.Memory.{words_in};
 
 use crate::held::Held;
 use crate::name_at::NameAt;
+use crate::names::Names;
 use crate::recalled::Recalled;
 use crate::searches::Searches;
-use bp_dirs::{Both, Finder, Found, Spot, find_both, find_entry, find_or_free, inumber};
 use bp_layout::Hints;
 use bp_limits::ENTRY_SIZE;
-use bp_names::Names;
-use bp_tree::Tree;
+use bp_read::directory::{find_both, find_entry, find_or_free, inumber};
+use bp_read::{Both, Finder, Found, Spot, Tree};
 use lru::LruCache;
 use pm_region::Region;
 use std::alloc::{AllocError, Global};
@@ -205,7 +205,7 @@ impl DirectoryCache {
         self.is_held(dir) || self.make_held(region, dir, tree)
     }
 
-    /// Returns what [`bp_dirs::find_or_free`] returns for a directory, given its inode and its tree.
+    /// Returns what [`bp_read::directory::find_or_free`] returns for a directory, given its inode and its tree.
     pub fn find_or_free<R: Region>(&mut self, region: &R, dir: u32, tree: Tree, name: &[u8]) -> Spot
         requires well { IsWellFormed (words_in R.memory region.now) }
         requires reached { IsReached (words_in R.memory region.now) dir }

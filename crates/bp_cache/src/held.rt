@@ -3,17 +3,17 @@
 ghost use Rattle.std.specs.Prelude.{◌≡◌, ◌≤◌, length};
 ghost use Rattle.bp_cache.specs.Held.{Becomes, IndexIs};
 ghost use Rattle.bp_cache.specs.Recalled.{IsRecalled};
-ghost use Rattle.bp_dirs.specs.Spots.{FreeIs, named_slot};
-ghost use Rattle.bp_index.specs.Index.{EntersSlot, IsIndexOf, LeavesSlot};
+ghost use Rattle.bp_read.specs.Spots.{FreeIs, named_slot};
+ghost use Rattle.bp_cache.specs.Index.{EntersSlot, IsIndexOf, LeavesSlot};
 ghost use Rattle.bp_layout.specs.Directory.{empty_slot_in, slot_named_in};
 ghost use Rattle.bp_layout.specs.Tree.{IsSound};
 ghost use Rattle.bp_limits.specs.CallLimits.{max_name};
 ghost use Rattle.pm_region.specs.Memory.{words_in};
 
+use crate::index::Index;
 use crate::recalled::Recalled;
-use bp_dirs::{Spot, find_or_free};
-use bp_index::Index;
-use bp_tree::Tree;
+use bp_read::directory::find_or_free;
+use bp_read::{Spot, Tree};
 use pm_region::Region;
 use std::alloc::Global;
 

@@ -1,15 +1,21 @@
-//! A cache of a volume's directories, by which names are found without a scan: the slots of the names that were found
-//! last, and an index of each large directory that is searched often.
+//! What is remembered of directories: the slots of the names that were looked up last, and indexes of directories.
 //!
-//! The cache is in the memory of the program only. Names that it does not hold are searched for in the image, also if
-//! allocation failed.
+//! All of it is in the memory of the program only. Without it, each name is searched for in its directory.
 #![tactic(auto)]
 
 mod cache;
+mod entry;
+mod hash;
 mod held;
+mod index;
+mod key;
 mod name_at;
+mod names;
 mod recalled;
 mod searches;
+mod slots;
 
 pub use cache::DirectoryCache;
+pub use index::Index;
 pub use name_at::NameAt;
+pub use names::Names;

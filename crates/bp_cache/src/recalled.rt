@@ -1,6 +1,6 @@
 //! What the cache remembers of a name.
 
-use bp_dirs::Found;
+use bp_read::Found;
 
 /// What the cache remembers of a name in a directory.
 #[derive(Clone, Copy)]

@@ -12,8 +12,8 @@ use Rattle.bp_layout.specs.Words.{Image, height_of}
 use Rattle.bp_limits.specs.Limits.{block_words, max_height}
 use Rattle.bp_append.specs.Prepared.{CanPrepare, HasLooseEnd, PreparesWith, need_for}
 use Rattle.bp_append.proofs.StoresLaws.{past_end_whole, room_past_end_whole}
-use Rattle.bp_shapes.specs.Sets.{AreExact}
-use Rattle.bp_commit.specs.Performs.{PerformsThawed, room_for}
+use Rattle.bp_changes.specs.Sets.{AreExact}
+use Rattle.bp_changes.specs.Performs.{PerformsThawed, room_for}
 use Rattle.bp_cow.specs.Commit.{CanCommitIn, CommitsTouched}
 use Rattle.bp_cow.specs.Cover.{LeadsInside, copied_count}
 use Rattle.bp_cow.specs.Found.{AreWaysIn}

@@ -17,9 +17,9 @@ use Rattle.bp_changes.proofs.ChangesOver.{changes_over}
 use Rattle.bp_append.specs.Prepared.{PreparesWith, need_for}
 use Rattle.bp_append.specs.Stores.{prep_stores}
 use Rattle.bp_append.proofs.StoresLaws.{past_end_near}
-use Rattle.bp_shapes.specs.Sets.{AreExact}
-use Rattle.bp_shapes.proofs.FreeSets.{wf_forest}
-use Rattle.bp_commit.specs.Performs.{IsOpen, PerformsThawed, most_stores_thawed}
+use Rattle.bp_changes.specs.Sets.{AreExact}
+use Rattle.bp_changes.proofs.FreeSets.{wf_forest}
+use Rattle.bp_changes.specs.Performs.{IsOpen, PerformsThawed, most_stores_thawed}
 use Rattle.bp_cow.specs.CanCommit.{CanCommit}
 use Rattle.bp_cow.specs.Commit.{CommitsTouched, commit_stores, cover_word}
 use Rattle.bp_cow.specs.Cover.{commit_cover, copied_count}

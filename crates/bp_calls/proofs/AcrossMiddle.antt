@@ -14,7 +14,7 @@ use Rattle.bp_layout.specs.Tree.{IsLivePointer, IsLiveWord, node}
 use Rattle.bp_layout.proofs.Addresses.{address_from-digits}
 use Rattle.bp_layout.proofs.ThawLaws.{loose-on}
 use Rattle.bp_layout.proofs.TreeLaws.{live_above, live_content, live_pointer_word, tree_word-zero}
-use Rattle.bp_tree.proofs.LooseWays.{loose_word}
+use Rattle.bp_read.proofs.LooseWays.{loose_word}
 use Rattle.bp_cow.specs.Commit.{HasLooseCover}
 use Rattle.bp_calls.proofs.WriteTargets.{across_targets}
 use Rattle.bp_layout.specs.Words.{Image, block_of, word, height_of}
@@ -22,13 +22,13 @@ use Rattle.bp_layout.proofs.Reached.{reached-in_file}
 use Rattle.bp_changes.proofs.ReachedOn.{reached_on}
 use Rattle.bp_changes.proofs.SameMeaning as meaning
 use Rattle.bp_append.specs.Prepared.{PreparesWith}
-use Rattle.bp_tree.proofs.Digits.{length-digits}
-use Rattle.bp_shapes.specs.Forest.{along, tree_trail, IsForest, IsTreePointer}
-use Rattle.bp_shapes.specs.Sets.{AreExactFor}
-use Rattle.bp_shapes.specs.Trail.{Trail, block_on, trail_of}
-use Rattle.bp_shapes.proofs.ForestLaws.{word-tree}
-use Rattle.bp_shapes.proofs.FreeSets.{content_prefixes, content_no_pointer}
-use Rattle.bp_shapes.proofs.PathTrails.{length-trail_of}
+use Rattle.bp_read.proofs.Digits.{length-digits}
+use Rattle.bp_changes.specs.Forest.{along, tree_trail, IsForest, IsTreePointer}
+use Rattle.bp_changes.specs.Sets.{AreExactFor}
+use Rattle.bp_changes.specs.Trail.{Trail, block_on, trail_of}
+use Rattle.bp_changes.proofs.ForestLaws.{word-tree}
+use Rattle.bp_changes.proofs.FreeSets.{content_prefixes, content_no_pointer}
+use Rattle.bp_changes.proofs.PathTrails.{length-trail_of}
 use Rattle.bp_cow.specs.CanCommit.{CanCommit, IsRunIn, IsTreeIn}
 use Rattle.bp_cow.specs.Cover.{commit_cover, copied_count}
 use Rattle.bp_cow.specs.Found.{AreWaysIn}

@@ -6,8 +6,8 @@ use Rattle.std.proofs.lemmas.List.{length-drop, take_min}
 use Rattle.std.proofs.lemmas.List.FromFn.{length-map-range_with_len}
 use Rattle.bp_layout.specs.Words.{Image}
 use Rattle.bp_layout.specs.Tree.{byte, content}
-use Rattle.bp_tree.specs.Bytes.{content_part}
-use Rattle.bp_tree.proofs.ContentParts.{content_part-is}
+use Rattle.bp_read.specs.Bytes.{content_part}
+use Rattle.bp_read.proofs.ContentParts.{content_part-is}
 
 -- as many bytes as there are from an offset on
 pub read_part : (image : Image) (root size offset len count : ℕ) → count ≡ min len (size - offset) → content_part image root offset count ≡ take len (drop offset (content image root size))

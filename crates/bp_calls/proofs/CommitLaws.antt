@@ -15,7 +15,7 @@ use Rattle.bp_free.specs.declared.parts.Parts.{Parts}
 use Rattle.bp_layout.specs.Need.{Change, need}
 use Rattle.bp_layout.specs.Thaw.{targets, thawed}
 use Rattle.bp_layout.specs.Words.{Image}
-use Rattle.bp_shapes.specs.Sets.{IsExact, in_snapshot_of}
+use Rattle.bp_changes.specs.Sets.{IsExact, in_snapshot_of}
 use Rattle.pm_region.specs.Memory.{Memory, current_words}
 
 -- the change is done, so there were blocks for it

@@ -18,7 +18,7 @@ use Rattle.bp_layout.specs.WellFormed.{IsWellFormed}
 use Rattle.bp_layout.specs.Words.{Image, block_count}
 use Rattle.bp_layout.proofs.FewLeaves.{few_inodes}
 use Rattle.bp_layout.proofs.Reached.{reached-in_file}
-use Rattle.bp_shapes.specs.Sets.{AreExact, IsExact, in_snapshot_of}
+use Rattle.bp_changes.specs.Sets.{AreExact, IsExact, in_snapshot_of}
 
 -- ---- the parts
 

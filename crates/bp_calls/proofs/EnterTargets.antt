@@ -20,8 +20,8 @@ use Rattle.bp_layout.proofs.MemberLaws.{has-after, has-prefix}
 use Rattle.bp_layout.proofs.ThawLaws.{loose-on}
 use Rattle.bp_layout.proofs.TreeLaws.{live_above, live_content}
 use Rattle.bp_thaw.specs.Prefixes.{IsWayIn}
-use Rattle.bp_tree.proofs.ExistingPaths.{AllThere, content_path-there, cover_of-one}
-use Rattle.bp_tree.proofs.LooseWays.{loose_inode_word, loose_word}
+use Rattle.bp_read.proofs.ExistingPaths.{AllThere, content_path-there, cover_of-one}
+use Rattle.bp_read.proofs.LooseWays.{loose_inode_word, loose_word}
 use Rattle.bp_calls.specs.Steps.{HasLooseEntry, HasLooseWord}
 use Rattle.bp_calls.proofs.Refusals.{found_empty}
 use Rattle.bp_calls.proofs.TargetPaths.{content_way, end_way, inode_path-now, inode_way, or_none, root_way, there_as}

@@ -18,9 +18,9 @@ use Rattle.bp_layout.specs.Reached.IsReached.{inode_file}
 use Rattle.bp_layout.specs.Same.{Same}
 use Rattle.bp_layout.specs.WellFormed.{IsWellFormed}
 use Rattle.bp_limits.specs.Limits.{block_size, super_size}
-use Rattle.bp_commit.specs.Performs.{AddsTaking}
-use Rattle.bp_commit.specs.Performs.IsOpen.{at_size}
-use Rattle.bp_commit.proofs.PerformsLaws.{same_equivalence, taking_twice}
+use Rattle.bp_changes.specs.Performs.{AddsTaking}
+use Rattle.bp_changes.specs.Performs.IsOpen.{at_size}
+use Rattle.bp_changes.proofs.PerformsLaws.{same_equivalence, taking_twice}
 use Rattle.pm_epochs.specs.declared.event.Event.TheVariants.{Store, Barrier}
 use Rattle.pm_epochs.proofs.MayLaws.{quiet_links}
 use Rattle.pm_epochs.proofs.PieceLaws.{IsPiece-append, IsPiece-barrier, IsPiece-more, IsPiece-store}

@@ -21,8 +21,8 @@ use Rattle.bp_layout.proofs.Finding.{find-passes}
 use Rattle.bp_layout.proofs.Reached.{reached-in_file}
 use Rattle.bp_layout.proofs.TreeLaws.{live_above, live_content, live_pointer_word, tree_word-zero}
 use Rattle.bp_limits.specs.Limits.{block_size}
-use Rattle.bp_tree.proofs.Digits.{length-digits}
-use Rattle.bp_tree.proofs.ExistingPaths.{AllThere, there-append, reads-inodes, reads-tree, node-there, number-digits, cover-one, copied-one}
+use Rattle.bp_read.proofs.Digits.{length-digits}
+use Rattle.bp_read.proofs.ExistingPaths.{AllThere, there-append, reads-inodes, reads-tree, node-there, number-digits, cover-one, copied-one}
 use Rattle.bp_calls.specs.Growth.{growth_need}
 use Rattle.bp_calls.proofs.GrowthNodes.{grown_there}
 use Rattle.bp_calls.proofs.GrowthRoom.{inodes_end_fits}

@@ -9,8 +9,8 @@ use Rattle.bp_layout.specs.Reached.{IsReached, IsFreeBlock}
 use Rattle.bp_layout.specs.WellFormed.{IsWellFormed}
 use Rattle.bp_layout.specs.WordPaths.{address}
 use Rattle.bp_layout.specs.Words.{Image}
-use Rattle.bp_commit.specs.Performs.{PerformsThawed, PerformsWithin, most_stores_thawed}
-use Rattle.bp_commit.proofs.PerformsLaws.{performs_twice}
+use Rattle.bp_changes.specs.Performs.{PerformsThawed, PerformsWithin, most_stores_thawed}
+use Rattle.bp_changes.proofs.PerformsLaws.{performs_twice}
 use Rattle.pm_region.specs.Memory.{Memory, current_words}
 use Rattle.bp_calls.specs.Growth.{GrowsInodes, growth_need, growth_stores, stores_after_growth}
 use Rattle.bp_calls.proofs.GrowthCover.{longer_cover, longer_need}

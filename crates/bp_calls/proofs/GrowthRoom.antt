@@ -14,10 +14,10 @@ use Rattle.bp_layout.specs.WellFormed.{IsWellFormed}
 use Rattle.bp_layout.specs.Words.{Image, block_count}
 use Rattle.bp_limits.specs.Limits.{block_size, inode_size, max_height, super_size}
 use Rattle.bp_limits.specs.CallLimits.{greatest_size}
-use Rattle.bp_commit.specs.Performs.{room_for}
-use Rattle.bp_tree.proofs.RegionWords.{length_now}
+use Rattle.bp_changes.specs.Performs.{room_for}
+use Rattle.bp_read.proofs.RegionWords.{length_now}
 use Rattle.bp_layout.specs.WordPaths.{WordPath}
-use Rattle.bp_shapes.specs.Sets.{AreExact}
+use Rattle.bp_changes.specs.Sets.{AreExact}
 use Rattle.pm_epochs.specs.declared.event.Event.TheVariants.{Store, Barrier}
 use Rattle.pm_region.specs.Memory.{Memory, Adds, current_words, room_in}
 use Rattle.pm_region.proofs.MemoryLaws.{base-adds, length-current_words, room_in-piece}

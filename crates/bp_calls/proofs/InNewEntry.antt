@@ -3,7 +3,7 @@ use Rattle.std.proofs.Common.{◌≡◌, ◌⊎◌, ℕ, Bool, false, ◌+◌, �
 use Rattle.bp_changes.specs.SameMeaning.{SameMeaning}
 use Rattle.bp_changes.proofs.AddsNames.{reached_cases, reached_stays}
 use Rattle.bp_free.specs.Set.{Set, members, without}
-use Rattle.bp_inodes.specs.Filled.{FillsInode}
+use Rattle.bp_read.specs.Filled.{FillsInode}
 use Rattle.bp_layout.specs.Paths.{Name}
 use Rattle.bp_layout.specs.Fields.{kind_word}
 use Rattle.bp_layout.specs.Free.{IsFreeInode}
@@ -17,9 +17,9 @@ use Rattle.bp_layout.specs.WellFormed.{IsWellFormed}
 use Rattle.bp_layout.specs.Words.{Image, word}
 use Rattle.bp_layout.specs.declared.fields.Kind.{Kind}
 use Rattle.bp_layout.proofs.SmallTrees.{empty_has_none}
-use Rattle.bp_shapes.specs.Sets.{AreExact}
-use Rattle.bp_commit.specs.Performs.{PerformsWithin}
-use Rattle.bp_tree.specs.Within.{IsWithin}
+use Rattle.bp_changes.specs.Sets.{AreExact}
+use Rattle.bp_changes.specs.Performs.{PerformsWithin}
+use Rattle.bp_read.specs.Within.{IsWithin}
 use Rattle.pm_epochs.specs.Crash.{commit}
 use Rattle.pm_epochs.specs.May.{AnyAt}
 use Rattle.pm_region.specs.Memory.{Memory, current_words, Adds}

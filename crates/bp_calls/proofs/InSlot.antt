@@ -5,7 +5,7 @@ use Rattle.bp_calls.specs.Created.{CountsName, EntersName}
 use Rattle.bp_layout.specs.Need.Change.{enters as gains}
 use Rattle.bp_layout.specs.Need.Entrant.{taken}
 use Rattle.bp_changes.proofs.AddsNames.{reached_stays}
-use Rattle.bp_commit.specs.Performs.{IsOpen, PerformsWithin}
+use Rattle.bp_changes.specs.Performs.{IsOpen, PerformsWithin}
 use Rattle.bp_calls.specs.Growth.{stores_after_growth}
 use Rattle.bp_layout.specs.Free.{IsFreeInode}
 use Rattle.bp_calls.proofs.OpenPlaces.{content_open}
@@ -13,12 +13,12 @@ use Rattle.bp_calls.proofs.EnteredOver.{adds_over, enters_well_formed, enters_ov
 use Rattle.bp_layout.specs.Directory.{empty_slot, entry_count, slot_named}
 use Rattle.bp_layout.specs.Paths.{Name}
 use Rattle.bp_layout.specs.Inode.{ContentStandsAt, root_of, inode_count}
-use Rattle.bp_shapes.specs.Sets.{AreExact}
+use Rattle.bp_changes.specs.Sets.{AreExact}
 use Rattle.bp_calls.specs.Spare.{IsSpare}
 use Rattle.bp_calls.specs.Steps.{CanName, HasLooseWord, name_need}
-use Rattle.bp_dirs.specs.Written.{HasNameAt}
-use Rattle.bp_inodes.specs.Filled.{FillsInode}
-use Rattle.bp_tree.specs.Within.{IsWithin}
+use Rattle.bp_read.specs.Written.{HasNameAt}
+use Rattle.bp_read.specs.Filled.{FillsInode}
+use Rattle.bp_read.specs.Within.{IsWithin}
 use Rattle.bp_free.specs.Set.{Set, without}
 use Rattle.bp_layout.specs.Fields.{kind_word}
 use Rattle.bp_layout.specs.Reached.{IsReached}

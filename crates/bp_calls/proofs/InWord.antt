@@ -9,7 +9,7 @@ use Rattle.bp_layout.specs.Nodes.{height_with}
 use Rattle.bp_layout.specs.WellFormed.{IsWellFormed}
 use Rattle.bp_layout.specs.Words.{Image, height_of}
 use Rattle.bp_layout.proofs.TreeLaws.{live_content}
-use Rattle.bp_tree.proofs.ExistingPaths.{AllThere, copied-one, word_path-there}
+use Rattle.bp_read.proofs.ExistingPaths.{AllThere, copied-one, word_path-there}
 
 module _ (image : Image) (wf : IsWellFormed image) (n offset len : ℕ) (lies : LiesInWord image (suc n) offset len) where
   abbrev change : Change

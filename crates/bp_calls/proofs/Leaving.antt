@@ -34,12 +34,12 @@ use Rattle.bp_layout.specs.Words.{Image, block_count, height_of}
 use Rattle.bp_layout.proofs.Reached.{reached-in_file}
 use Rattle.bp_layout.proofs.SameLaws.{same_self}
 use Rattle.bp_layout.proofs.TreeLaws.{KeepsPointers, has_block-kept, has_block-stays, sound-kept}
-use Rattle.bp_shapes.specs.Freed.{IsTruncated}
-use Rattle.bp_shapes.specs.Sets.{AreExact, IsExact, in_snapshot_of}
-use Rattle.bp_shapes.proofs.Freed.{freed_blocks, remove_frees, removed_inode}
-use Rattle.bp_commit.specs.Performs.{PerformsThawed}
-use Rattle.bp_tree.proofs.ExistingPaths.{AllThere, content_path-there, copied-one, cover-one}
-use Rattle.bp_commit.proofs.PerformsLaws.{performs_committed, takes_none}
+use Rattle.bp_changes.specs.Freed.{IsTruncated}
+use Rattle.bp_changes.specs.Sets.{AreExact, IsExact, in_snapshot_of}
+use Rattle.bp_changes.proofs.Freed.{freed_blocks, remove_frees, removed_inode}
+use Rattle.bp_changes.specs.Performs.{PerformsThawed}
+use Rattle.bp_read.proofs.ExistingPaths.{AllThere, content_path-there, copied-one, cover-one}
+use Rattle.bp_changes.proofs.PerformsLaws.{performs_committed, takes_none}
 use Rattle.pm_epochs.specs.Crash.{commit}
 use Rattle.pm_epochs.proofs.CrashLaws.{quiet_none}
 use Rattle.pm_epochs.proofs.PieceLaws.{IsPiece-commit}
@@ -48,8 +48,8 @@ use Rattle.pm_region.proofs.MemoryLaws.{current_words-adds}
 use Rattle.bp_layout.specs.Thaw.{targets, thawed}
 use Rattle.bp_layout.specs.Members.{Has}
 use Rattle.bp_layout.proofs.ThawLaws.{loose-on}
-use Rattle.bp_tree.proofs.LooseWays.{loose_word}
-use Rattle.bp_commit.specs.Performs.IsOpen.{in_live}
+use Rattle.bp_read.proofs.LooseWays.{loose_word}
+use Rattle.bp_changes.specs.Performs.IsOpen.{in_live}
 use Rattle.bp_calls.proofs.Trees.{live_leaf}
 use Rattle.bp_calls.proofs.TargetPaths.{leaving_targets}
 use Rattle.bp_calls.proofs.SetLaws.{free_blocks_stay, free_inodes_stay}

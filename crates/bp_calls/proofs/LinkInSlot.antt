@@ -3,15 +3,15 @@ use Rattle.std.proofs.Common.{◌≡◌, ℕ, Bool, false, ◌+◌, ◌*◌, ◌
 use Rattle.bp_calls.specs.Entered.{IsReadyEntry}
 use Rattle.bp_layout.specs.Need.Change.{enters as gains}
 use Rattle.bp_layout.specs.Need.Entrant.{linked}
-use Rattle.bp_commit.specs.Performs.{PerformsWithin}
+use Rattle.bp_changes.specs.Performs.{PerformsWithin}
 use Rattle.bp_calls.specs.Growth.{stores_after_growth}
 use Rattle.bp_layout.specs.Directory.{empty_slot, slot_named}
 use Rattle.bp_layout.specs.Paths.{Name}
 use Rattle.bp_layout.specs.Inode.{kind_of, ContentStandsAt}
-use Rattle.bp_shapes.specs.Sets.{AreExact}
+use Rattle.bp_changes.specs.Sets.{AreExact}
 use Rattle.bp_calls.specs.Steps.{name_need, CanLink, HasLooseWord}
-use Rattle.bp_dirs.specs.Written.{HasNameAt}
-use Rattle.bp_tree.specs.Within.{IsWithin}
+use Rattle.bp_read.specs.Written.{HasNameAt}
+use Rattle.bp_read.specs.Within.{IsWithin}
 use Rattle.bp_free.specs.Set.{Set}
 use Rattle.bp_layout.specs.Reached.{IsReached}
 use Rattle.bp_layout.specs.WellFormed.{IsWellFormed}

@@ -8,8 +8,8 @@ use Rattle.bp_layout.specs.Need.Change.{enters as gains}
 use Rattle.bp_layout.specs.Reached.{IsReached}
 use Rattle.bp_layout.specs.WellFormed.{IsWellFormed}
 use Rattle.bp_layout.specs.Words.{Image}
-use Rattle.bp_shapes.specs.Sets.{AreExact}
-use Rattle.bp_commit.specs.Performs.{PerformsWithin}
+use Rattle.bp_changes.specs.Sets.{AreExact}
+use Rattle.bp_changes.specs.Performs.{PerformsWithin}
 use Rattle.pm_epochs.specs.Crash.{commit}
 use Rattle.pm_epochs.specs.May.{AnyAt}
 use Rattle.pm_region.specs.Memory.{Memory, current_words, Adds}

@@ -6,8 +6,8 @@ use Rattle.std.specs.Cmp.Lexicographic.{same_text}
 use Rattle.std.proofs.lemmas.Bool.{cases_eq}
 use Rattle.bp_calls.specs.Removed.{IsFoundAt}
 use Rattle.bp_changes.specs.Effects.{CanUnlink}
-use Rattle.bp_dirs.specs.Names.{name_count}
-use Rattle.bp_dirs.proofs.Counting.{is_none, is_some, none_counted, some_counted}
+use Rattle.bp_read.specs.Names.{name_count}
+use Rattle.bp_read.proofs.Counting.{is_none, is_some, none_counted, some_counted}
 use Rattle.bp_layout.specs.Directory.{EntryNames, entry_count, inumber_at, is_named, lookup_in, name_at}
 use Rattle.bp_layout.specs.Paths.{Name, Path}
 use Rattle.bp_layout.specs.Inode.{kind_of, root_of, size_of}

@@ -15,7 +15,7 @@ use Rattle.bp_layout.specs.Need.Entrant.{linked}
 use Rattle.bp_layout.specs.WordPaths.{inode_path, tree_path}
 use Rattle.bp_layout.proofs.Finding.{find-passes}
 use Rattle.bp_append.specs.Prepared.{need_for}
-use Rattle.bp_tree.proofs.ExistingPaths.{AllThere, inode_path-there, content_path-there, cover-one, copied-one}
+use Rattle.bp_read.proofs.ExistingPaths.{AllThere, inode_path-there, content_path-there, cover-one, copied-one}
 
 -- ---- a new name in a directory
 

@@ -15,8 +15,8 @@ use Rattle.bp_layout.specs.WellFormed.{IsWellFormed}
 use Rattle.bp_layout.specs.Words.{Image}
 use Rattle.bp_layout.specs.declared.fields.Kind.{Kind}
 use Rattle.bp_layout.proofs.Reached.{reached-in_file}
-use Rattle.bp_shapes.specs.Sets.{AreExact}
-use Rattle.bp_commit.specs.Performs.{PerformsThawed, PerformsWithin, most_stores_thawed, room_for}
+use Rattle.bp_changes.specs.Sets.{AreExact}
+use Rattle.bp_changes.specs.Performs.{PerformsThawed, PerformsWithin, most_stores_thawed, room_for}
 use Rattle.pm_region.specs.Memory.{Memory, current_words, room_in}
 use Rattle.bp_calls.specs.Created.{EntersName}
 use Rattle.bp_calls.specs.Entrant.{entrant_of}
@@ -28,7 +28,7 @@ use Rattle.bp_calls.proofs.GrowthLaws.{longer_reached, longer_well_formed, short
 use Rattle.bp_calls.proofs.GrowthMemory.{room_after_growth}
 use Rattle.bp_calls.proofs.GrowthNeed.{need_growing}
 use Rattle.bp_calls.proofs.GrowthPerforms.{grown_need, performs_grown}
-use Rattle.bp_commit.proofs.PerformsLaws.{within_more}
+use Rattle.bp_changes.proofs.PerformsLaws.{within_more}
 use Rattle.bp_calls.proofs.NeedLaws.{need_past_end}
 use Rattle.bp_calls.proofs.Refusals.{has_members, is_least, not_none, not_some, reports}
 use Rattle.bp_calls.proofs.EnteredOver.{entered_over}

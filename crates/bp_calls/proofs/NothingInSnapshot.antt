@@ -5,8 +5,8 @@ use Rattle.bp_calls.specs.Mounted.{IsMounted}
 use Rattle.bp_calls.specs.Space.{HasRoomThawed, HasRoomWhereFree, LacksBlocks, LacksSpace}
 use Rattle.bp_calls.proofs.ThawedParts.{nothing_in_snapshot}
 use Rattle.bp_changes.specs.Thawed.{AfterThaw, SameShape}
-use Rattle.bp_commit.specs.Performs.{Performs, PerformsThawed}
-use Rattle.bp_commit.proofs.PerformsLaws.{performs_unthawed}
+use Rattle.bp_changes.specs.Performs.{Performs, PerformsThawed}
+use Rattle.bp_changes.proofs.PerformsLaws.{performs_unthawed}
 use Rattle.bp_free.specs.Set.{members}
 use Rattle.bp_free.specs.declared.parts.NoSpace.{NoSpace}
 use Rattle.bp_free.specs.declared.parts.Parts.{Parts}
@@ -14,7 +14,7 @@ use Rattle.bp_layout.specs.Need.{Change, need}
 use Rattle.bp_layout.specs.Thaw.{full_need, targets, thawed}
 use Rattle.bp_layout.specs.WellFormed.{IsWellFormed}
 use Rattle.bp_layout.specs.Words.{Image}
-use Rattle.bp_shapes.specs.Sets.{in_snapshot_of}
+use Rattle.bp_changes.specs.Sets.{in_snapshot_of}
 use Rattle.pm_region.specs.Memory.{Memory, current_words}
 
 -- an image has its own shape

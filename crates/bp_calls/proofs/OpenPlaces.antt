@@ -11,8 +11,8 @@ use Rattle.bp_layout.proofs.Addresses.{address_from-digits, address-tree_path}
 use Rattle.bp_changes.proofs.ContentStore.{word-elsewhere}
 use Rattle.bp_layout.proofs.Reached.{reached-in_file}
 use Rattle.bp_layout.proofs.TreeLaws.{KeepsPointers, node-kept, live_content, live_pointer_word}
-use Rattle.bp_commit.specs.Performs.{IsOpen}
-use Rattle.bp_commit.specs.Performs.IsOpen.{in_live}
+use Rattle.bp_changes.specs.Performs.{IsOpen}
+use Rattle.bp_changes.specs.Performs.IsOpen.{in_live}
 use Rattle.pm_epochs.specs.May.{AnyAt, EachMay}
 use Rattle.bp_layout.specs.Directory.{empty_slot}
 use Rattle.bp_layout.specs.Need.{cover}

@@ -27,10 +27,10 @@ use Rattle.bp_layout.specs.WellFormed.{IsWellFormed}
 use Rattle.bp_layout.specs.WordPaths.{address}
 use Rattle.bp_layout.specs.Words.{Image, word, height_of}
 use Rattle.bp_layout.proofs.Reached.{reached-in_file}
-use Rattle.bp_shapes.specs.Sets.{AreExact}
-use Rattle.bp_commit.specs.Performs.{AddsTaking, IsOpen, PerformsWithin, TakesBlocks}
-use Rattle.bp_commit.specs.Performs.IsOpen.{in_taken, in_live, at_root, at_size}
-use Rattle.bp_commit.proofs.PerformsLaws.{same_equivalence, takes_twice, within_committed, within_more}
+use Rattle.bp_changes.specs.Sets.{AreExact}
+use Rattle.bp_changes.specs.Performs.{AddsTaking, IsOpen, PerformsWithin, TakesBlocks}
+use Rattle.bp_changes.specs.Performs.IsOpen.{in_taken, in_live, at_root, at_size}
+use Rattle.bp_changes.proofs.PerformsLaws.{same_equivalence, takes_twice, within_committed, within_more}
 use Rattle.bp_append.proofs.StoresLaws.{past_end_one}
 use Rattle.pm_epochs.specs.Crash.{commit}
 use Rattle.pm_epochs.specs.Log.{words_after}

@@ -18,9 +18,9 @@ use Rattle.bp_changes.proofs.Overwrites.{keeps}
 use Rattle.bp_changes.proofs.ReachedOn.{reached_on}
 use Rattle.bp_changes.proofs.SameMeaning.{well_formed-same as meant_well_formed}
 use Rattle.bp_changes.proofs.ShapeLaws.{IsOfReached, need-shape}
-use Rattle.bp_shapes.specs.Sets.{AreExact, in_snapshot_of}
+use Rattle.bp_changes.specs.Sets.{AreExact, in_snapshot_of}
 use Rattle.bp_free.specs.declared.parts.Parts.{Parts}
-use Rattle.bp_commit.specs.Performs.{IsOpen, PerformsThawed, room_for}
+use Rattle.bp_changes.specs.Performs.{IsOpen, PerformsThawed, room_for}
 use Rattle.pm_region.specs.Memory.{Memory, current_words, room_in}
 use Rattle.bp_cow.specs.declared.touched.Run.{Run}
 use Rattle.bp_cow.specs.declared.touched.Touched.{Touched}

@@ -17,12 +17,12 @@ use Rattle.bp_layout.proofs.TreeLaws.{live_content}
 use Rattle.bp_changes.specs.Commits.{Commits, CommitsOnly}
 use Rattle.bp_changes.specs.Overwrites.{OverwritesFiles, Patch, patched, patched_by}
 use Rattle.bp_changes.proofs.Committed.{commit_overwrites}
-use Rattle.bp_shapes.specs.Forest.{along, root_trail, IsTreePointer}
-use Rattle.bp_shapes.specs.Trail.{Trail, trail_of, word_on}
-use Rattle.bp_shapes.proofs.ForestLaws.{word-tree}
+use Rattle.bp_changes.specs.Forest.{along, root_trail, IsTreePointer}
+use Rattle.bp_changes.specs.Trail.{Trail, trail_of, word_on}
+use Rattle.bp_changes.proofs.ForestLaws.{word-tree}
 use Rattle.pm_words.specs.Overlay.{byte_over}
 use Rattle.bp_stands.proofs.OverwriteStands.{byte_before, byte_elsewhere, byte_past}
-use Rattle.bp_tree.proofs.ExistingPaths.{number-digits}
+use Rattle.bp_read.proofs.ExistingPaths.{number-digits}
 use Rattle.bp_cow.specs.declared.touched.Run.{Run}
 use Rattle.bp_cow.specs.declared.touched.Touched.{Touched}
 use Rattle.bp_cow.specs.CanCommit.{CanCommit}

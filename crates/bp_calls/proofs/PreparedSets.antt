@@ -18,9 +18,9 @@ use Rattle.bp_changes.proofs.SameMeaning as meaning
 use Rattle.bp_append.specs.Prepared.{PreparesWith}
 use Rattle.bp_append.proofs.FillLaws.{apart_parts}
 use Rattle.bp_append.proofs.OtherTrees.{other_block_back, other_block_on}
-use Rattle.bp_shapes.specs.Forest.{IsForest}
-use Rattle.bp_shapes.specs.Sets.{AreExact, AreExactFor}
-use Rattle.bp_shapes.proofs.FreeSets.{wf_forest}
+use Rattle.bp_changes.specs.Forest.{IsForest}
+use Rattle.bp_changes.specs.Sets.{AreExact, AreExactFor}
+use Rattle.bp_changes.proofs.FreeSets.{wf_forest}
 use Rattle.pm_region.specs.Memory.{Memory, current_words}
 use Rattle.bp_calls.proofs.SetLaws.{free_inodes_stay}
 use Rattle.bp_calls.proofs.TakenBlocks.{has_either, in_members, members_apart, of_members}

@@ -1,10 +1,10 @@
 -- What was written is read: a new inode, and a name in an entry; and what one more name makes of the image and its tree.
 use Rattle.std.proofs.Common.{◌≡◌, ℕ, ◌+◌, ◌*◌, ◌/◌, ◌%◌, ◌<◌, ◌≤◌, length, get_or, ◌∙◌, ap, arith}
 use Rattle.bp_calls.specs.Entered.{IsNewInode}
-use Rattle.bp_dirs.specs.Written.{HasNameAt}
-use Rattle.bp_inodes.specs.Filled.{HasInodeAt}
-use Rattle.bp_tree.specs.Within.{IsWithin}
-use Rattle.bp_inodes.proofs.InodeWords.{kind_word-of, size_word-of}
+use Rattle.bp_read.specs.Written.{HasNameAt}
+use Rattle.bp_read.specs.Filled.{HasInodeAt}
+use Rattle.bp_read.specs.Within.{IsWithin}
+use Rattle.bp_read.proofs.InodeWords.{kind_word-of, size_word-of}
 use Rattle.bp_layout.specs.Directory.{name_in}
 use Rattle.bp_layout.specs.Paths.{Name}
 use Rattle.bp_layout.specs.Fields.{kind_word}

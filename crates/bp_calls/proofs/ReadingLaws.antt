@@ -16,7 +16,7 @@ use Rattle.bp_layout.specs.declared.fields.Kind.{Kind}
 use Rattle.bp_layout.specs.declared.fields.Kind.TheVariants.{File, Dir}
 use Rattle.bp_layout.specs.WellFormed.{IsWellFormed}
 use Rattle.bp_layout.proofs.FewLeaves.{few_inodes}
-use Rattle.bp_dirs.specs.Names.{name_count}
+use Rattle.bp_read.specs.Names.{name_count}
 use Rattle.bp_calls.specs.Asked.{kind_seen, entry_seen, entries_seen}
 
 -- a kind, by its word

@@ -11,7 +11,7 @@ use Rattle.bp_layout.specs.WellFormed.{IsWellFormed}
 use Rattle.bp_layout.specs.Words.{Image, word, height_of, slot_word}
 use Rattle.bp_layout.proofs.Reached.{reached-in_file}
 use Rattle.bp_layout.proofs.TreeLaws.{KeepsPointers, content-kept, slot_word-at, slot_word-same, tree_word-suc, live_pointer_word, live_content, live_above, sound-kept, full-kept, has_block-kept, has_block-stays}
-use Rattle.bp_tree.specs.Within.{IsWithin}
+use Rattle.bp_read.specs.Within.{IsWithin}
 use Rattle.bp_calls.specs.Entered.{IsReadyPastEnd}
 use Rattle.bp_calls.proofs.AfterLaws.{kind_after, reached_after, reached_before, size_after}
 use Rattle.bp_calls.proofs.EnteredLaws.{directory_inode, name_same}

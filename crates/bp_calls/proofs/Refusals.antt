@@ -2,7 +2,7 @@
 use Rattle.std.proofs.Common.{◌≡◌, ◌≢◌, ◌⊎◌, ℕ, zero, suc, ◌<◌, ◌≤◌, List, [], ◌∷◌, length, Bool, true, false, ◌==◌, Option, None, Some, refl, sym, ◌∙◌, ap, subst, arith, inl, inr, true≢false}
 use Rattle.std.proofs.lemmas.Bool.{cases_Bool, cases_lt, eqb-true}
 use Rattle.std.specs.List.{Contains}
-use Rattle.bp_shapes.specs.Sets.{AreExact}
+use Rattle.bp_changes.specs.Sets.{AreExact}
 use Rattle.bp_free.specs.Set.{IsLeast, Set, has, members}
 use Rattle.bp_free.proofs.Members.{members_all, members_has}
 use Rattle.bp_layout.specs.Directory.{empty_slot, inumber_at, entry_count}

@@ -20,13 +20,13 @@ use Rattle.bp_limits.specs.CallLimits.{max_write}
 use Rattle.bp_changes.specs.Effects.{ChangesFile}
 use Rattle.bp_changes.specs.KeepsDirectories.{KeepsDirectories}
 use Rattle.bp_changes.proofs.KeepsDirectories.{reached-back, reached-on}
-use Rattle.bp_shapes.specs.Forest.{IsTreePointer}
-use Rattle.bp_shapes.specs.Sets.{AreExact, AreExactFor}
-use Rattle.bp_shapes.specs.Trail.{trail_of}
-use Rattle.bp_shapes.proofs.FreeSets.{wf_forest}
-use Rattle.bp_tree.proofs.Digits.{length-digits}
-use Rattle.bp_tree.proofs.PathLaws.{small_digits}
-use Rattle.bp_commit.specs.Performs.{IsOpen}
+use Rattle.bp_changes.specs.Forest.{IsTreePointer}
+use Rattle.bp_changes.specs.Sets.{AreExact, AreExactFor}
+use Rattle.bp_changes.specs.Trail.{trail_of}
+use Rattle.bp_changes.proofs.FreeSets.{wf_forest}
+use Rattle.bp_read.proofs.Digits.{length-digits}
+use Rattle.bp_read.proofs.PathLaws.{small_digits}
+use Rattle.bp_changes.specs.Performs.{IsOpen}
 use Rattle.bp_cow.specs.declared.touched.Run.{Run}
 use Rattle.bp_cow.specs.declared.touched.Touched.{Touched}
 use Rattle.bp_cow.specs.CanCommit.{IsRunIn}

@@ -20,7 +20,7 @@ use Rattle.bp_layout.specs.Reached.{IsReached}
 use Rattle.bp_layout.specs.Thaw.{targets, thawed}
 use Rattle.bp_layout.specs.Words.{Image}
 use Rattle.bp_limits.specs.CallLimits.{greatest_size}
-use Rattle.bp_shapes.specs.Sets.{in_snapshot_of}
+use Rattle.bp_changes.specs.Sets.{in_snapshot_of}
 use Rattle.pm_region.specs.Memory.{Memory, current_words}
 
 -- mounted parts have what is asked of the image and the sets

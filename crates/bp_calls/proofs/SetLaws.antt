@@ -17,7 +17,7 @@ use Rattle.bp_changes.specs.Effects.{AddsNames, KeepsBlocks, LinksName}
 use Rattle.bp_changes.proofs.AddsNames.{reached_cases, reached_stays}
 use Rattle.bp_changes.proofs.LinksName as linking
 use Rattle.bp_calls.specs.Entered.{IsNewInode, IsReadyEntry}
-use Rattle.bp_shapes.specs.Sets.{AreExact}
+use Rattle.bp_changes.specs.Sets.{AreExact}
 use Rattle.bp_calls.proofs.EnteredLaws.{entered, entered_blocks, entered_file, linked}
 use Rattle.bp_calls.proofs.AfterLaws.{IsPrepared, reached_before, reached_after}
 

@@ -28,18 +28,18 @@ use Rattle.bp_layout.specs.Words.{Image, block_count, height_of}
 use Rattle.bp_layout.proofs.Reached.{reached-in_file}
 use Rattle.bp_layout.proofs.SameLaws.{same_self}
 use Rattle.bp_layout.proofs.TreeLaws.{KeepsPointers, node-kept, sound-kept, has_block-kept, live_content, live_pointer_word}
-use Rattle.bp_shapes.specs.Sets.{AreExact}
-use Rattle.bp_shapes.specs.Freed.{IsTruncated}
-use Rattle.bp_shapes.proofs.Freed.{freed_blocks, resize_frees}
-use Rattle.bp_commit.specs.Performs.{PerformsThawed}
-use Rattle.bp_tree.proofs.ExistingPaths.{AllThere, inode_path-there, cover-one, copied-one}
-use Rattle.bp_commit.proofs.PerformsLaws.{performs_committed, takes_none}
+use Rattle.bp_changes.specs.Sets.{AreExact}
+use Rattle.bp_changes.specs.Freed.{IsTruncated}
+use Rattle.bp_changes.proofs.Freed.{freed_blocks, resize_frees}
+use Rattle.bp_changes.specs.Performs.{PerformsThawed}
+use Rattle.bp_read.proofs.ExistingPaths.{AllThere, inode_path-there, cover-one, copied-one}
+use Rattle.bp_changes.proofs.PerformsLaws.{performs_committed, takes_none}
 use Rattle.pm_epochs.specs.Crash.{commit}
 use Rattle.pm_epochs.proofs.CrashLaws.{quiet_none}
 use Rattle.pm_epochs.proofs.PieceLaws.{IsPiece-commit}
 use Rattle.pm_region.specs.Memory.{Memory, Adds, current_words}
 use Rattle.pm_region.proofs.MemoryLaws.{current_words-adds}
-use Rattle.bp_commit.specs.Performs.IsOpen.{in_live}
+use Rattle.bp_changes.specs.Performs.IsOpen.{in_live}
 
 -- a tree is sound under a smaller size too
 pub sound_smaller : (image : Image) (root size less : ℕ) → less ≤ size → IsSound image root size → IsSound image root less

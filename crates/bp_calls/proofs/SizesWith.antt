@@ -9,7 +9,7 @@ use Rattle.bp_layout.specs.WellFormed.{IsWellFormed}
 use Rattle.bp_layout.specs.WordPaths.{inode_path}
 use Rattle.bp_layout.specs.Words.{Image, height_of}
 use Rattle.bp_layout.proofs.TreeLaws.{live_content}
-use Rattle.bp_tree.proofs.ExistingPaths.{number-digits}
+use Rattle.bp_read.proofs.ExistingPaths.{number-digits}
 use Rattle.bp_cow.specs.Touched.{path_of, word_paths, word_values}
 use Rattle.bp_cow.specs.declared.touched.Touched.{Touched}
 

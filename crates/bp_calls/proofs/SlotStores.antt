@@ -5,9 +5,9 @@ use Rattle.bp_layout.specs.Need.{cover, need, Change}
 use Rattle.bp_layout.specs.Need.Change.{enters as gains}
 use Rattle.bp_layout.specs.Need.Entrant.{linked}
 use Rattle.bp_layout.specs.WordPaths.{address, tree_path}
-use Rattle.bp_commit.specs.Performs.{IsOpen, PerformsWithin}
+use Rattle.bp_changes.specs.Performs.{IsOpen, PerformsWithin}
 use Rattle.bp_calls.specs.Growth.{stores_after_growth}
-use Rattle.bp_commit.proofs.PerformsLaws.{within_stores, within_more}
+use Rattle.bp_changes.proofs.PerformsLaws.{within_stores, within_more}
 use Rattle.bp_calls.proofs.NeedLaws.{cover_in_slot, need_in_slot}
 use Rattle.bp_calls.proofs.OpenPlaces.{content_open, each_weaker, stands_stored, root_word_stays, content_address}
 use Rattle.bp_changes.proofs.ContentStore.{root_stays}
@@ -16,8 +16,8 @@ use Rattle.bp_layout.specs.Paths.{Name}
 use Rattle.bp_layout.specs.Inode.{kind_of, size_of, ContentStandsAt, root_of, inode_count}
 use Rattle.bp_calls.specs.Spare.{IsSpare}
 use Rattle.bp_calls.specs.Steps.{name_need, LacksName}
-use Rattle.bp_dirs.specs.Written.{HasNameAt}
-use Rattle.bp_tree.specs.Within.{IsWithin}
+use Rattle.bp_read.specs.Written.{HasNameAt}
+use Rattle.bp_read.specs.Within.{IsWithin}
 use Rattle.bp_layout.specs.Reached.{IsReached}
 use Rattle.bp_layout.proofs.Reached.{reached-in_file}
 use Rattle.bp_layout.specs.Reached.IsReached.{inode_file}

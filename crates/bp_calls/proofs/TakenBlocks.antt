@@ -13,7 +13,7 @@ use Rattle.bp_changes.specs.Effects.{ChangesFile}
 use Rattle.bp_changes.proofs.ChangesFile as changed
 use Rattle.bp_append.specs.Filled.{IsUsable}
 use Rattle.bp_append.proofs.FillLaws.{apart_parts}
-use Rattle.bp_shapes.specs.Sets.{AreExact}
+use Rattle.bp_changes.specs.Sets.{AreExact}
 use Rattle.bp_calls.proofs.SetLaws.{free_inodes_stay, in_room}
 
 -- ---- members

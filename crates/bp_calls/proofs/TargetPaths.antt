@@ -24,8 +24,8 @@ use Rattle.bp_thaw.specs.Prefixes.{HasDigits, IsWayIn}
 use Rattle.bp_layout.specs.Tree.{node, span}
 use Rattle.bp_layout.proofs.TreeLaws.{span-is}
 use Rattle.bp_layout.proofs.ThawLaws.{loose-on}
-use Rattle.bp_tree.proofs.LooseWays.{loose_inode_word}
-use Rattle.bp_tree.proofs.ExistingPaths.{AllThere, content_path-there, cover_of-one, inode_path-there}
+use Rattle.bp_read.proofs.LooseWays.{loose_inode_word}
+use Rattle.bp_read.proofs.ExistingPaths.{AllThere, content_path-there, cover_of-one, inode_path-there}
 
 -- a directory is not the inode file
 pub directory_some : (image : Image) (t : ℕ) → kind_of image t ≡ 2 → 1 ≤ t

@@ -9,7 +9,7 @@ use Rattle.bp_calls.proofs.FreeCounts.{free_members}
 use Rattle.bp_calls.proofs.ThawedParts.{thawed_clear}
 use Rattle.bp_calls.proofs.ThawedRoom.{enough_left, lacks_all, nothing, room_left, room_to_thaw, room_unthawed, unthawed}
 use Rattle.bp_changes.proofs.ShapeLaws.{IsOfReached, need-shape}
-use Rattle.bp_commit.specs.Performs.{room_for}
+use Rattle.bp_changes.specs.Performs.{room_for}
 use Rattle.bp_free.specs.Set.{members}
 use Rattle.bp_free.specs.declared.parts.NoSpace.{NoSpace}
 use Rattle.bp_free.specs.declared.parts.Parts.{Parts}
@@ -18,7 +18,7 @@ use Rattle.bp_layout.specs.Need.{Change, need}
 use Rattle.bp_layout.specs.Thaw.{targets}
 use Rattle.bp_layout.specs.WordPaths.{WordPath}
 use Rattle.bp_layout.specs.Words.{Image}
-use Rattle.bp_shapes.specs.Sets.{in_snapshot_of}
+use Rattle.bp_changes.specs.Sets.{in_snapshot_of}
 use Rattle.bp_thaw.specs.Prefixes.{IsWayIn}
 use Rattle.pm_region.specs.Memory.{Memory, current_words, room_in}
 

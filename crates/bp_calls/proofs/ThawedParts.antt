@@ -10,8 +10,8 @@ use Rattle.bp_changes.proofs.Named.{meaning_counts}
 use Rattle.bp_changes.proofs.ReachedOn.{reached_on}
 use Rattle.bp_changes.proofs.SameMeaning.{reached-back, well_formed-same}
 use Rattle.bp_changes.proofs.ShapeLaws.{IsOfReached, targets-shape}
-use Rattle.bp_commit.specs.Performs.{Performs, PerformsThawed}
-use Rattle.bp_commit.proofs.PerformsLaws.{performs_thawed}
+use Rattle.bp_changes.specs.Performs.{Performs, PerformsThawed}
+use Rattle.bp_changes.proofs.PerformsLaws.{performs_thawed}
 use Rattle.bp_free.specs.Set.{Set, has, members}
 use Rattle.bp_free.specs.declared.parts.Parts.{Parts}
 use Rattle.bp_free.proofs.Summary.{none_in}
@@ -24,7 +24,7 @@ use Rattle.bp_layout.specs.Same.{Same}
 use Rattle.bp_layout.specs.Thaw.{proper_prefixes_of, is_in_snapshot_at, is_there_now, targets, thawed, thawed_on}
 use Rattle.bp_layout.specs.WordPaths.{WordPath, address}
 use Rattle.bp_layout.specs.Words.{Image, block_of, word}
-use Rattle.bp_shapes.specs.Sets.{AreExact, in_snapshot_of}
+use Rattle.bp_changes.specs.Sets.{AreExact, in_snapshot_of}
 use Rattle.bp_thaw.specs.Prefixes.{IsWayIn}
 use Rattle.bp_thaw.specs.Thaws.{Thaws}
 use Rattle.bp_thaw.proofs.Whole.{thaws_nothing}

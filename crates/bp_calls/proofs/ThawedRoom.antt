@@ -9,7 +9,7 @@ use Rattle.bp_calls.specs.Space.{HasRoomWhereFree, LacksBlocks, LacksSpace}
 use Rattle.bp_calls.specs.ThawsFor.{HasRoomToThaw, ThawsFor, thaw_count}
 use Rattle.bp_calls.proofs.ThawedParts.{nothing_in_snapshot, room_thawed, thaws_none}
 use Rattle.bp_changes.proofs.ShapeLaws.{IsOfReached}
-use Rattle.bp_commit.specs.Performs.{room_for}
+use Rattle.bp_changes.specs.Performs.{room_for}
 use Rattle.bp_free.specs.Set.{has, members}
 use Rattle.bp_free.specs.declared.parts.NoSpace.{NoSpace}
 use Rattle.bp_free.specs.declared.parts.Parts.{Parts}
@@ -20,7 +20,7 @@ use Rattle.bp_layout.specs.Need.{Change, need}
 use Rattle.bp_layout.specs.Thaw.{full_need, targets}
 use Rattle.bp_layout.specs.WordPaths.{WordPath}
 use Rattle.bp_layout.specs.Words.{Image}
-use Rattle.bp_shapes.specs.Sets.{in_snapshot_of}
+use Rattle.bp_changes.specs.Sets.{in_snapshot_of}
 use Rattle.bp_thaw.specs.Prefixes.{IsWayIn}
 use Rattle.pm_region.specs.Memory.{Memory, current_words, room_in}
 

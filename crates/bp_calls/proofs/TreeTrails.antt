@@ -5,9 +5,9 @@ use Rattle.bp_layout.specs.Reached.{IsReached}
 use Rattle.bp_layout.specs.Tree.{IsLivePointer}
 use Rattle.bp_layout.specs.Words.{Image, word, height_of}
 use Rattle.bp_layout.proofs.TreeLaws.{live_above, live_content}
-use Rattle.bp_shapes.specs.Forest.{IsForest, along, root_trail, tree_trail}
-use Rattle.bp_shapes.specs.Trail.{Trail}
-use Rattle.bp_shapes.proofs.ForestLaws.{same_along, same_trail, short}
+use Rattle.bp_changes.specs.Forest.{IsForest, along, root_trail, tree_trail}
+use Rattle.bp_changes.specs.Trail.{Trail}
+use Rattle.bp_changes.proofs.ForestLaws.{same_along, same_trail, short}
 
 -- the trail of word k of tree t
 abbrev pub word_trail : Image → ℕ → ℕ → Trail

@@ -9,7 +9,7 @@ use Rattle.bp_layout.specs.Words.{Image, block_count, block_of, height_of}
 use Rattle.bp_layout.proofs.Addresses.{present_above}
 use Rattle.bp_layout.proofs.Pieces.{InChild, sound_shape, joined_block, child_block, splits}
 use Rattle.bp_layout.proofs.TreeLaws.{first_index, tree_word-zero}
-use Rattle.bp_shapes.specs.Freed.{IsTruncated}
+use Rattle.bp_changes.specs.Freed.{IsTruncated}
 use Rattle.bp_append.proofs.TallyLaws.{span-positive, div_order}
 use Rattle.bp_calls.specs.Truncated.{IsTopTruncated, IsTruncatedIn}
 use Rattle.bp_calls.specs.Truncated.IsTruncatedIn.{top, below}

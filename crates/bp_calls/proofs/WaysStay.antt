@@ -3,8 +3,8 @@ use Rattle.std.proofs.Common.{◌≡◌, ◌≢◌, ℕ, zero, suc, ◌+◌, ◌
 use Rattle.bp_layout.specs.Members.{Has}
 use Rattle.bp_layout.specs.WordPaths.{WordPath}
 use Rattle.bp_layout.specs.Words.{Image}
-use Rattle.bp_shapes.specs.Trail.{IsPlaced, block_on, place_on, trail_of}
-use Rattle.bp_shapes.specs.Trail.IsPlaced.{at_top, in_block}
+use Rattle.bp_changes.specs.Trail.{IsPlaced, block_on, place_on, trail_of}
+use Rattle.bp_changes.specs.Trail.IsPlaced.{at_top, in_block}
 use Rattle.bp_cow.specs.Cover.{BeginAlike, end_path}
 use Rattle.bp_cow.specs.Found.{AreWaysIn}
 use Rattle.bp_cow.specs.Touched.{IsTouched, all_paths}

@@ -15,7 +15,7 @@ use Rattle.bp_cow.specs.declared.touched.Touched.{Touched}
 use Rattle.bp_free.specs.declared.parts.NoSpace.{NoSpace}
 use Rattle.bp_free.specs.declared.parts.Parts.{Parts}
 use Rattle.bp_layout.specs.Need.Change.{overwrites, writes}
-use Rattle.bp_shapes.specs.Sets.{IsExact, in_snapshot_of}
+use Rattle.bp_changes.specs.Sets.{IsExact, in_snapshot_of}
 use Rattle.pm_region.specs.Memory.{Memory, current_words}
 
 -- of one file

@@ -18,7 +18,7 @@ use Rattle.pm_epochs.specs.Crash.{commit}
 use Rattle.pm_region.specs.Memory.{Memory, current_words, room_in, Adds}
 use Rattle.pm_region.proofs.MemoryLaws.{base-adds, length-current_words}
 use Rattle.pm_region.proofs.SafeLaws.{room_after_quiet}
-use Rattle.bp_commit.specs.Performs.{PerformsThawed, room_for}
+use Rattle.bp_changes.specs.Performs.{PerformsThawed, room_for}
 use Rattle.bp_append.specs.Stores.{prep_stores}
 use Rattle.bp_append.proofs.LaidLaws.{given-before, given-there}
 use Rattle.bp_append.proofs.StoresLaws.{past_end_whole, room_past_end_whole}
@@ -26,7 +26,7 @@ use Rattle.bp_append.specs.Prepared.{HasLooseEnd, CanPrepare, PreparesWith, need
 use Rattle.bp_append.proofs.GrowsTree.{OnlyGrows, GrowsTree, only_need, grown_size, grown_performs}
 use Rattle.bp_append.proofs.GrownEffect.{grown_changes, grown_bytes, grown_live, grown_stays, grown_taken}
 use Rattle.bp_calls.specs.CanWrite.{CanWriteThawed}
-use Rattle.bp_shapes.specs.Sets.{AreExact}
+use Rattle.bp_changes.specs.Sets.{AreExact}
 use Rattle.bp_calls.specs.WritesFile.{WritesFile, written_byte}
 use Rattle.bp_append.proofs.EndWays.{loose_end}
 use Rattle.bp_calls.proofs.TakenBlocks.{exact_taken, members_free, usable_members}

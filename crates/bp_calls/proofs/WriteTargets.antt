@@ -17,7 +17,7 @@ use Rattle.bp_layout.specs.Words.{Image}
 use Rattle.bp_layout.proofs.MemberLaws.{has-after}
 use Rattle.bp_cow.proofs.LeafCover.{leaf_path}
 use Rattle.bp_thaw.specs.Prefixes.{IsWayIn}
-use Rattle.bp_tree.proofs.ExistingPaths.{AllThere, cover_of-one, existing-all}
+use Rattle.bp_read.proofs.ExistingPaths.{AllThere, cover_of-one, existing-all}
 use Rattle.bp_calls.proofs.TargetPaths.{content_way, cover_way, end_way, inode_path-now, inode_way, root_way}
 
 -- ---- what paths have in common

@@ -2,7 +2,7 @@
 use Rattle.std.specs.Prelude.{ℕ, List, ◌==◌, Option, None, Some, if◌then◌else◌}
 use Rattle.std.specs.List.{filter_map, range_with_len}
 use Rattle.std.specs.List.Sorted.{IsPermutation, IsSortedBy}
-use Rattle.bp_dirs.specs.Names.{name_count}
+use Rattle.bp_read.specs.Names.{name_count}
 use Rattle.bp_limits.specs.Limits.{file_kind}
 use Rattle.bp_layout.specs.Listing.{comes_before}
 use Rattle.bp_layout.specs.Words.{Image}

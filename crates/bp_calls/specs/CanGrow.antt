@@ -7,7 +7,7 @@ use Rattle.bp_layout.specs.Reached.{IsReached}
 use Rattle.bp_layout.specs.WellFormed.{IsWellFormed}
 use Rattle.bp_layout.specs.Formatted.{version_of}
 use Rattle.bp_limits.specs.CallLimits.{greatest_size}
-use Rattle.bp_shapes.specs.Sets.{AreExact}
+use Rattle.bp_changes.specs.Sets.{AreExact}
 use Rattle.bp_calls.specs.Space.{HasRoomThawed}
 use Rattle.pm_region.specs.Memory.{Memory, current_words}
 use Rattle.bp_layout.specs.Thaw.{thawed}

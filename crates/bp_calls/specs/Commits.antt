@@ -4,7 +4,7 @@ use Rattle.bp_calls.specs.Created.{EntersName}
 use Rattle.bp_calls.specs.Entrant.{ForCreation}
 use Rattle.bp_calls.specs.Space.{LacksBlocks, LacksSpace, LacksSpaceToCreate}
 use Rattle.bp_changes.specs.Thawed.{AfterThaw}
-use Rattle.bp_commit.specs.Performs.{Performs, PerformsThawed}
+use Rattle.bp_changes.specs.Performs.{Performs, PerformsThawed}
 use Rattle.bp_free.specs.Set.{members}
 use Rattle.bp_free.specs.declared.parts.NoSpace.{NoSpace}
 use Rattle.bp_free.specs.declared.parts.Parts.{Parts}
@@ -12,7 +12,7 @@ use Rattle.bp_layout.specs.Paths.{Name}
 use Rattle.bp_layout.specs.Need.{Change, need}
 use Rattle.bp_layout.specs.Words.{Image}
 use Rattle.bp_layout.specs.declared.fields.Kind.{Kind}
-use Rattle.bp_shapes.specs.Sets.{IsExact, in_snapshot_of}
+use Rattle.bp_changes.specs.Sets.{IsExact, in_snapshot_of}
 use Rattle.pm_region.specs.Memory.{Memory, current_words}
 
 -- The change is made, and no block was left to thaw before it. The sets and counts of the new parts are exactly those

@@ -8,7 +8,7 @@ use Rattle.bp_layout.specs.Paths.{Name}
 use Rattle.bp_layout.specs.Inode.{root_of, size_of}
 use Rattle.bp_layout.specs.Words.{byte_of}
 use Rattle.bp_limits.specs.Limits.{entry_size}
-use Rattle.bp_shapes.specs.Sets.{in_snapshot_of}
+use Rattle.bp_changes.specs.Sets.{in_snapshot_of}
 use Rattle.pm_region.specs.Memory.{Memory, current_words}
 
 -- A byte of an entry: eight bytes of the inode number, least significant first, eight of the name's length, and then

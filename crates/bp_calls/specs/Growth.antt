@@ -13,8 +13,8 @@ use Rattle.bp_layout.specs.Tree.{byte, node, tree_word, HasBlock, IsLivePointer,
 use Rattle.bp_layout.specs.WellFormed.{IsWellFormed}
 use Rattle.bp_layout.specs.Words.{Image, height_of}
 use Rattle.bp_limits.specs.Limits.{block_size, block_words}
-use Rattle.bp_shapes.specs.Sets.{AreExact}
-use Rattle.bp_commit.specs.Performs.{AddsTaking, room_for}
+use Rattle.bp_changes.specs.Sets.{AreExact}
+use Rattle.bp_changes.specs.Performs.{AddsTaking, room_for}
 use Rattle.pm_region.specs.Memory.{Memory, current_words, room_in}
 use Rattle.bp_append.specs.Prepared.{HasLooseEnd}
 

@@ -2,7 +2,7 @@
 use Rattle.bp_free.specs.declared.parts.Parts.{Parts}
 use Rattle.bp_layout.specs.WellFormed.{IsWellFormed}
 use Rattle.bp_layout.specs.Words.{Image}
-use Rattle.bp_shapes.specs.Sets.{IsExact}
+use Rattle.bp_changes.specs.Sets.{IsExact}
 use Rattle.pm_region.specs.Memory.{Memory, current_words}
 
 -- The image in the region of these parts; `memory` maps a region to its memory.

@@ -5,7 +5,7 @@ use Rattle.bp_layout.specs.Need.Change.{resizes, writes}
 use Rattle.bp_layout.specs.Thaw.{root_path_now, targets}
 use Rattle.bp_layout.specs.WordPaths.{WordPath}
 use Rattle.bp_layout.specs.Words.{Image}
-use Rattle.bp_tree.specs.declared.tree.Tree.{Tree}
+use Rattle.bp_read.specs.declared.tree.Tree.{Tree}
 
 -- The property holds of each tree of an image that has this root word, this size, and this path to its root word.
 abbrev pub ForTree : WordPath → Tree → (Image → ℕ → Type 0) → Type 0

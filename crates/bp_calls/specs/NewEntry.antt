@@ -5,7 +5,7 @@ use Rattle.bp_calls.specs.Created.{EntersName, LinksEntry}
 use Rattle.bp_calls.specs.Entrant.{ForCreation, entrant_of}
 use Rattle.bp_calls.specs.Growth.{stores_after_growth}
 use Rattle.bp_calls.specs.Steps.{HasLooseWord, name_need}
-use Rattle.bp_commit.specs.Performs.{PerformsThawed, PerformsWithin}
+use Rattle.bp_changes.specs.Performs.{PerformsThawed, PerformsWithin}
 use Rattle.bp_free.specs.Set.{Set, without}
 use Rattle.bp_layout.specs.Paths.{Name}
 use Rattle.bp_layout.specs.Free.{IsLeastFree}
@@ -15,7 +15,7 @@ use Rattle.bp_layout.specs.Need.Entrant.{linked, taken}
 use Rattle.bp_layout.specs.Words.{Image}
 use Rattle.bp_layout.specs.declared.fields.Kind.{Kind}
 use Rattle.bp_limits.specs.Limits.{entry_words, inode_words}
-use Rattle.bp_shapes.specs.Sets.{AreExact}
+use Rattle.bp_changes.specs.Sets.{AreExact}
 use Rattle.pm_region.specs.Memory.{Memory, current_words}
 
 -- The new entry of directory `i` is made in as many blocks as a name for an existing inode takes, with 5 barriers and

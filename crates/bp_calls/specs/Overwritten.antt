@@ -11,7 +11,7 @@ use Rattle.bp_layout.specs.Thaw.{thawed}
 use Rattle.bp_layout.specs.WellFormed.{IsWellFormed}
 use Rattle.bp_layout.specs.Words.{Image}
 use Rattle.bp_changes.specs.Overwrites.{Patch}
-use Rattle.bp_shapes.specs.Sets.{AreExact}
+use Rattle.bp_changes.specs.Sets.{AreExact}
 use Rattle.bp_free.specs.Set.{Set}
 use Rattle.bp_cow.specs.declared.touched.Run.{Run}
 use Rattle.bp_calls.specs.declared.batches.Patch.{Patch as GivenPatch}

@@ -1,6 +1,6 @@
 -- Preconditions for a call that removes a name from a directory.
 use Rattle.std.specs.Prelude.{◌≡◌, ℕ, [], ◌∷◌, ◌++◌, Some}
-use Rattle.bp_dirs.specs.Names.{name_count}
+use Rattle.bp_read.specs.Names.{name_count}
 use Rattle.bp_layout.specs.Directory.{slot_named}
 use Rattle.bp_layout.specs.Paths.{Name, Path}
 use Rattle.bp_layout.specs.Inode.{root_of, size_of}

@@ -7,7 +7,7 @@ use Rattle.bp_layout.specs.Free.{HasFree}
 use Rattle.bp_layout.specs.Need.{Change, need}
 use Rattle.bp_layout.specs.Thaw.{full_need}
 use Rattle.bp_layout.specs.Words.{Image}
-use Rattle.bp_commit.specs.Performs.{HasRoomFor, room_for}
+use Rattle.bp_changes.specs.Performs.{HasRoomFor, room_for}
 use Rattle.pm_region.specs.Memory.{Memory, current_words, room_in}
 
 -- Fewer blocks are free than the wanted number, and the error holds both numbers.

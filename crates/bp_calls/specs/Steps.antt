@@ -15,7 +15,7 @@ use Rattle.bp_layout.specs.Words.{Image}
 use Rattle.bp_calls.specs.Growth.{stores_after_growth}
 use Rattle.bp_calls.specs.ThawedFor.{IsThawedFor}
 use Rattle.bp_limits.specs.Limits.{block_words, entry_size, entry_words, inode_words}
-use Rattle.bp_shapes.specs.Sets.{AreExact}
+use Rattle.bp_changes.specs.Sets.{AreExact}
 use Rattle.pm_region.specs.Memory.{Memory, current_words, room_in}
 
 -- Directory `i` is reachable and does not have this name.

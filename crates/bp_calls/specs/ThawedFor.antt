@@ -4,8 +4,8 @@ use Rattle.bp_free.specs.Set.{Set, members}
 use Rattle.bp_free.specs.declared.parts.Parts.{Parts}
 use Rattle.bp_layout.specs.Need.{Change, need}
 use Rattle.bp_layout.specs.Thaw.{thawed}
-use Rattle.bp_commit.specs.Performs.{room_for}
-use Rattle.bp_shapes.specs.Sets.{in_snapshot_of}
+use Rattle.bp_changes.specs.Performs.{room_for}
+use Rattle.bp_changes.specs.Sets.{in_snapshot_of}
 use Rattle.pm_region.specs.Memory.{Memory, current_words, room_in}
 
 -- No block is left to thaw, as many blocks are free as the change needs, and the log has room for it.

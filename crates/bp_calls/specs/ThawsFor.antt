@@ -7,8 +7,8 @@ use Rattle.bp_free.specs.declared.parts.Parts.{Parts}
 use Rattle.bp_layout.specs.Need.{Change}
 use Rattle.bp_layout.specs.Thaw.{targets, thawed_on}
 use Rattle.bp_layout.specs.WordPaths.{WordPath}
-use Rattle.bp_commit.specs.Performs.{room_for}
-use Rattle.bp_shapes.specs.Sets.{IsExact, in_snapshot_of}
+use Rattle.bp_changes.specs.Performs.{room_for}
+use Rattle.bp_changes.specs.Sets.{IsExact, in_snapshot_of}
 use Rattle.bp_thaw.specs.Thaws.{Thaws}
 use Rattle.pm_region.specs.Memory.{Memory, current_words, room_in}
 

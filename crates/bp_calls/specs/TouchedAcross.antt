@@ -13,7 +13,7 @@ use Rattle.bp_layout.specs.Nodes.{height_with}
 use Rattle.bp_layout.specs.WordPaths.{inode_path}
 use Rattle.bp_layout.specs.Words.{Image, height_of}
 use Rattle.bp_limits.specs.Limits.{root_field, size_field}
-use Rattle.bp_shapes.specs.Sets.{in_snapshot_of}
+use Rattle.bp_changes.specs.Sets.{in_snapshot_of}
 use Rattle.bp_calls.specs.CanWrite.{CanWriteInto}
 use Rattle.bp_calls.specs.declared.writes.across.Plan.{Plan}
 use Rattle.pm_region.specs.Memory.{Memory, current_words}

@@ -3,7 +3,7 @@ use Rattle.std.specs.Prelude.{◌≡◌, ◌-◌, ◌*◌, ◌<◌, ℕ}
 use Rattle.bp_layout.specs.Pieces.{child, piece}
 use Rattle.bp_layout.specs.Tree.{span}
 use Rattle.bp_layout.specs.Words.{Image, block_of}
-use Rattle.bp_shapes.specs.Freed.{IsTruncated}
+use Rattle.bp_changes.specs.Freed.{IsTruncated}
 
 -- The topmost block, if nothing is left of the tree.
 pub record IsTopTruncated (top shorter block : ℕ) : Type 0 where

@@ -8,7 +8,7 @@ ghost use Rattle.bp_calls.specs.Space.{HasRoomWhereFree, LacksSpace};
 ghost use Rattle.bp_calls.specs.ThawsFor.{ThawsBefore};
 ghost use Rattle.bp_calls.specs.TouchedBelow.{IsRunFor};
 ghost use Rattle.bp_changes.specs.Overwrites.{OverwritesFiles};
-ghost use Rattle.bp_commit.specs.Performs.{room_for};
+ghost use Rattle.bp_changes.specs.Performs.{room_for};
 ghost use Rattle.bp_cow.specs.Cover.{LeadsInside, commit_cover};
 ghost use Rattle.bp_cow.specs.Touched.{IsTouched};
 ghost use Rattle.bp_free.specs.Set.{members};
@@ -16,7 +16,7 @@ ghost use Rattle.bp_layout.specs.Members.{Each};
 ghost use Rattle.bp_layout.specs.Need.{need};
 ghost use Rattle.bp_layout.specs.WellFormed.{IsWellFormed};
 ghost use Rattle.bp_limits.specs.Limits.{block_words, max_pieces};
-ghost use Rattle.bp_shapes.specs.Sets.{in_snapshot_of};
+ghost use Rattle.bp_changes.specs.Sets.{in_snapshot_of};
 ghost use Rattle.bp_thaw.specs.Thaws.{paths_in};
 ghost use Rattle.pm_region.specs.Memory.{words_in, room_in};
 
@@ -26,8 +26,8 @@ use crate::thaw::thaw_before;
 use arrayvec::ArrayVec;
 use bp_cow::{Run, Touched, cover, need_cover};
 use bp_free::{NoSpace, Parts};
-use bp_inodes::tree_of;
 use bp_limits::MAX_PIECES;
+use bp_read::inodes::tree_of;
 use pm_region::Region;
 
 /// Bytes for a file, below its size.

@@ -9,13 +9,13 @@ ghost use Rattle.bp_cow.specs.Found.{AreWaysIn};
 ghost use Rattle.bp_layout.specs.Inode.{root_of, size_of};
 ghost use Rattle.bp_layout.specs.WellFormed.{IsWellFormed};
 ghost use Rattle.bp_layout.specs.Words.{block_count};
-ghost use Rattle.bp_shapes.specs.Sets.{in_snapshot_of};
+ghost use Rattle.bp_changes.specs.Sets.{in_snapshot_of};
 ghost use Rattle.pm_region.specs.Memory.{words_in};
 
 use bp_cow::{FoundWays, Run, Touched, commit_at, copies_below, find_ways};
 use bp_free::{NoSpace, Parts};
-use bp_inodes::root_path;
-use bp_tree::Tree;
+use bp_read::Tree;
+use bp_read::inodes::root_path;
 use pm_region::Region;
 
 /// Returns the run of bytes that lie below the size of a file, in its tree.

@@ -21,7 +21,7 @@ ghost use Rattle.bp_layout.specs.Need.Entrant.{grown};
 ghost use Rattle.bp_layout.specs.Reached.{IsReached};
 ghost use Rattle.bp_layout.specs.Thaw.{targets};
 ghost use Rattle.bp_layout.specs.WellFormed.{IsWellFormed};
-ghost use Rattle.bp_shapes.specs.Sets.{in_snapshot_of};
+ghost use Rattle.bp_changes.specs.Sets.{in_snapshot_of};
 ghost use Rattle.bp_thaw.specs.Thaws.{paths_in};
 ghost use Rattle.pm_region.specs.Memory.{words_in};
 
@@ -30,12 +30,12 @@ use crate::new_entry::{enter_past_end, enter_slot, entering};
 use crate::targets::{Targets, push_end};
 use crate::thaw::thaw_before;
 use bp_append::need_prep;
-use bp_dirs::free_slot;
 use bp_free::{Inodes, NoSpace, Parts};
-use bp_inodes::{inode_file, tree_of};
 use bp_layout::Kind;
 use bp_limits::{ENTRY_SIZE, INODE_SIZE};
-use bp_tree::{Slots, word_path};
+use bp_read::directory::free_slot;
+use bp_read::inodes::{inode_file, tree_of};
+use bp_read::{Slots, word_path};
 use pm_region::Region;
 
 /// Returns the number of blocks that a name for an existing inode takes, given its directory's least empty slot. If no

@@ -6,14 +6,14 @@ ghost use Rattle.bp_calls.specs.Growth.{CanGrowInodes, GrowsInodes, growth_need}
 ghost use Rattle.bp_calls.specs.Mounted.{image_in, IsExactIn};
 ghost use Rattle.bp_free.specs.Set.{members};
 ghost use Rattle.bp_layout.specs.WellFormed.{IsWellFormed};
-ghost use Rattle.bp_shapes.specs.Sets.{in_snapshot_of};
+ghost use Rattle.bp_changes.specs.Sets.{in_snapshot_of};
 ghost use Rattle.pm_region.specs.Memory.{words_in};
 
 use bp_append::{need_prep, stage_append};
 use bp_free::Parts;
-use bp_inodes::inode_file;
 use bp_limits::{BLOCK_SIZE, INODE_SIZE, SUPER_SIZE};
-use bp_tree::Slots;
+use bp_read::Slots;
+use bp_read::inodes::inode_file;
 use pm_region::Region;
 
 /// Returns the number of blocks that [`grow`] takes.

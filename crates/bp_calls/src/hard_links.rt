@@ -16,18 +16,18 @@ ghost use Rattle.bp_layout.specs.Inode.{IsDirectory, IsFile};
 ghost use Rattle.bp_layout.specs.Need.Change.{enters};
 ghost use Rattle.bp_layout.specs.Need.Entrant.{linked};
 ghost use Rattle.bp_layout.specs.Reached.{IsReached};
-ghost use Rattle.bp_shapes.specs.Sets.{in_snapshot_of};
+ghost use Rattle.bp_changes.specs.Sets.{in_snapshot_of};
 ghost use Rattle.pm_region.specs.Memory.{words_in, room_in};
 
 use crate::creation::entry_need;
 use crate::new_entry::{append_entry, entering};
 use crate::thaw::thaw_before;
-use bp_dirs::{entry_place, put_name};
 use bp_free::{NoSpace, Parts};
-use bp_inodes::{place, tree_of};
-use bp_inplace::commit_word;
 use bp_limits::{ENTRY_SIZE, SIZE_FIELD};
-use pm_region::Region;
+use bp_read::directory::entry_place;
+use bp_read::inodes::{place, tree_of};
+use bp_read::put_name;
+use pm_region::{Region, commit_word};
 
 /// Enters a name for an existing file in an empty entry of a directory, if the block of the entry is not in the
 /// snapshot.

@@ -9,11 +9,11 @@ ghost use Rattle.bp_layout.specs.Reached.{IsReached};
 ghost use Rattle.bp_layout.specs.WellFormed.{IsWellFormed};
 ghost use Rattle.pm_region.specs.Memory.{words_in};
 
-use bp_dirs::{EntryView, count};
-use bp_inodes::{get, tree_of};
 use bp_layout::Listing;
 use bp_limits::{BLOCK_ENTRIES, ENTRY_SIZE, ENTRY_WORDS, MAX_NAME};
-use bp_tree::leaf_words;
+use bp_read::directory::count;
+use bp_read::inodes::{get, tree_of};
+use bp_read::{EntryView, leaf_words};
 use pm_region::Region;
 use std::alloc::{AllocError, Global};
 

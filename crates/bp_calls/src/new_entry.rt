@@ -2,7 +2,7 @@
 
 ghost use Rattle.std.specs.Prelude.{Some, ◌≡◌, ◌≤◌, length};
 ghost use Rattle.bp_free.specs.Parts.{KeepsSets};
-ghost use Rattle.bp_shapes.specs.Sets.{in_snapshot_of};
+ghost use Rattle.bp_changes.specs.Sets.{in_snapshot_of};
 ghost use Rattle.bp_calls.specs.Created.{CountsName, EntersName};
 ghost use Rattle.bp_calls.specs.Entries.{AreEntryBytes, PutsEntry, entry_byte};
 ghost use Rattle.bp_calls.specs.NewEntry.{EntersInSlot, PerformsEntry, TakesFreeInode, TakesOnlyInode};
@@ -20,14 +20,13 @@ ghost use Rattle.pm_region.specs.Memory.{words_in, room_in};
 
 use crate::targets::{Targets, entry_path, push_end};
 use bp_append::stage_append;
-use bp_dirs::{entry_place, put_name};
 use bp_free::Parts;
-use bp_inodes::{fill, place, root_path, size_path, tree_of};
-use bp_inplace::commit_word;
 use bp_layout::Kind;
 use bp_limits::{ENTRY_SIZE, SIZE_FIELD, WORD_SIZE};
-use bp_tree::{Tree, content_word};
-use pm_region::Region;
+use bp_read::directory::entry_place;
+use bp_read::inodes::{fill, place, root_path, size_path, tree_of};
+use bp_read::{Tree, content_word, put_name};
+use pm_region::{Region, commit_word};
 
 /// The size of a word of an entry in bytes. The first word is the inode number, the second the length of the name.
 const WORD: usize = WORD_SIZE as usize;

@@ -9,11 +9,11 @@ ghost use Rattle.bp_layout.specs.Reached.{IsReached};
 ghost use Rattle.bp_layout.specs.WellFormed.{IsWellFormed};
 ghost use Rattle.pm_region.specs.Memory.{words_in};
 
-use bp_dirs::count;
 use bp_free::Parts;
-use bp_inodes::{get, tree_of};
 use bp_layout::{Kind, Stat};
-use bp_tree::Tree;
+use bp_read::Tree;
+use bp_read::directory::count;
+use bp_read::inodes::{get, tree_of};
 use pm_region::Region;
 
 /// Reads bytes of a file from an offset on, and returns their number: as many as `into` has room for and the file has
@@ -27,7 +27,7 @@ pub fn read<R: Region>(region: &R, ino: u32, offset: u64, into: &mut [u8]) -> us
     ensures fits { result ≤ length into.new }
     ensures rest { drop result into.new ≡ drop result into.old }
 {
-    bp_tree::read(region, tree_of(region, ino), offset, into)
+    bp_read::read(region, tree_of(region, ino), offset, into)
 }
 
 /// Returns the size in bytes of a file, or the number of names of a directory.

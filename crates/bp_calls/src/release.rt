@@ -6,11 +6,11 @@ ghost use Rattle.bp_calls.specs.GivenBack.{GivesBack};
 ghost use Rattle.bp_free.specs.Set.{has};
 ghost use Rattle.bp_layout.specs.Tree.{HasBlock, IsSound, span};
 ghost use Rattle.bp_layout.specs.Words.{block_count};
-ghost use Rattle.bp_shapes.specs.Freed.{IsTruncated};
+ghost use Rattle.bp_changes.specs.Freed.{IsTruncated};
 ghost use Rattle.pm_region.specs.Memory.{words_in};
 
 use bp_free::Blocks;
-use bp_tree::{Tree, child};
+use bp_read::{Tree, child};
 use pm_region::Region;
 use pm_words::span;
 

@@ -9,17 +9,16 @@ ghost use Rattle.bp_changes.specs.Effects.{CanUnlink, RemovesEntry};
 ghost use Rattle.bp_layout.specs.Directory.{inumber_at};
 ghost use Rattle.bp_layout.specs.Need.Change.{leaves};
 ghost use Rattle.bp_layout.specs.Thaw.{thawed};
-ghost use Rattle.bp_shapes.specs.Sets.{in_snapshot_of};
+ghost use Rattle.bp_changes.specs.Sets.{in_snapshot_of};
 ghost use Rattle.pm_region.specs.Memory.{room_in};
 
 use crate::release::free_tree;
 use crate::targets::leaving;
 use crate::thaw::thaw_before;
-use bp_dirs::{entry_place, inumber};
 use bp_free::{NoSpace, Parts};
-use bp_inodes::tree_of;
-use bp_inplace::commit_word;
-use pm_region::Region;
+use bp_read::directory::{entry_place, inumber};
+use bp_read::inodes::tree_of;
+use pm_region::{Region, commit_word};
 
 /// Thaws the blocks of the snapshot on the path to the inode number of an entry.
 ///

@@ -15,7 +15,7 @@ ghost use Rattle.bp_layout.specs.Need.Change.{resizes};
 ghost use Rattle.bp_layout.specs.Reached.{IsReached};
 ghost use Rattle.bp_layout.specs.Formatted.{version_of};
 ghost use Rattle.bp_limits.specs.CallLimits.{greatest_size};
-ghost use Rattle.bp_shapes.specs.Sets.{in_snapshot_of};
+ghost use Rattle.bp_changes.specs.Sets.{in_snapshot_of};
 ghost use Rattle.pm_region.specs.Memory.{room_in};
 
 use crate::release::free_tree;
@@ -23,10 +23,9 @@ use crate::targets::{lengthening, shrinking};
 use crate::thaw::{enough_free, thaw_before};
 use bp_append::{need_prep, stage_append};
 use bp_free::{NoSpace, Parts};
-use bp_inodes::{place, root_path, tree_of};
-use bp_inplace::commit_word;
 use bp_limits::SIZE_FIELD;
-use pm_region::Region;
+use bp_read::inodes::{place, root_path, tree_of};
+use pm_region::{Region, commit_word};
 
 /// Makes a file longer, with zeros after its bytes, once no block is left to thaw and enough blocks are free. A
 /// preparation makes its tree high enough and clears the rest of its last leaf, and then the size is stored.

@@ -21,9 +21,9 @@ use crate::commit::{run_for, touched_by};
 use arrayvec::ArrayVec;
 use bp_cow::cover;
 use bp_free::Parts;
-use bp_inodes::{root_path, size_path, tree_of};
 use bp_limits::ENTRY_SIZE;
-use bp_tree::{Slots, Tree, word_path};
+use bp_read::inodes::{root_path, size_path, tree_of};
+use bp_read::{Slots, Tree, word_path};
 use pm_region::Region;
 use pm_words::span;
 

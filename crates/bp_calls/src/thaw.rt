@@ -7,7 +7,7 @@ ghost use Rattle.bp_calls.specs.ThawsFor.{HasRoomToThaw, LacksBlocksToThaw, Thaw
 ghost use Rattle.bp_free.specs.Set.{members};
 ghost use Rattle.bp_layout.specs.Members.{Has};
 ghost use Rattle.bp_layout.specs.WordPaths.{WordPath};
-ghost use Rattle.bp_shapes.specs.Sets.{in_snapshot_of};
+ghost use Rattle.bp_changes.specs.Sets.{in_snapshot_of};
 ghost use Rattle.bp_thaw.specs.Prefixes.{IsWayIn};
 ghost use Rattle.bp_thaw.specs.Thaws.{paths_in};
 

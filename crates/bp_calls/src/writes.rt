@@ -5,7 +5,7 @@ ghost use Rattle.bp_calls.specs.Commits.{CommitsChange, CommitsOrLacksBlocks, Co
 ghost use Rattle.bp_calls.specs.CanWrite.{CanWrite, CanWriteThawed};
 ghost use Rattle.bp_calls.specs.FewBlocks.{most_for_write};
 ghost use Rattle.bp_calls.specs.Mounted.{image_in, IsExactIn, IsMountedIn};
-ghost use Rattle.bp_shapes.specs.Sets.{in_snapshot_of};
+ghost use Rattle.bp_changes.specs.Sets.{in_snapshot_of};
 ghost use Rattle.bp_calls.specs.Space.{HasRoomThawed, HasRoomWhereFree, LacksSpace};
 ghost use Rattle.bp_calls.specs.ThawsFor.{ThawsBefore};
 ghost use Rattle.bp_free.specs.Set.{members};
@@ -24,12 +24,11 @@ use crate::writes::across::{need_across, write_across};
 use bp_append::{need_prep, stage_append};
 use bp_cow::{Run, find_ways, need_cover};
 use bp_free::{NoSpace, Parts};
-use bp_inodes::{place, root_path, tree_of};
-use bp_inplace::commit_word;
 use bp_limits::SIZE_FIELD;
+use bp_read::Tree;
+use bp_read::inodes::{place, root_path, tree_of};
 use bp_thaw::thaw_need;
-use bp_tree::Tree;
-use pm_region::Region;
+use pm_region::{Region, commit_word};
 
 /// Returns the number of blocks that bytes take that begin at or past the size of a file, given its tree.
 fn need_past_end<R: Region>(

@@ -1,4 +1,5 @@
 -- The plain words of a format are taken, and give what they say: a walk over them, word by word.
+use Rattle.bp_limits.specs.Limits.{max_file_blocks, min_blocks}
 use Rattle.std.proofs.Common.{◌≡◌, ℕ, List, [], ◌∷◌, true, false, nat_eq, refl, ◌∙◌, ap}
 use Rattle.std.specs.Prelude.{Option, None, Some, codes}
 use Rattle.clap.specs.Simple.{Shape}
@@ -27,7 +28,7 @@ blocks_value : (rows : List Row) (d : ℕ) (ds : Text) → nat_eq d 45 ≡ false
 unfolding clap_on_literals
 blocks_value rows d ds k = record { passes = simp k refl; goes = simp k refl }
 
-version_turn : (name blocks : Text) → accepts false (vp.Unsigned 8 65536) blocks ≡ true →
+version_turn : (name blocks : Text) → accepts false (vp.Unsigned min_blocks max_file_blocks) blocks ≡ true →
     Turn format (following (row file_arg name ∷ []) (codes "blocks") (blocks ∷ []) idle) (codes "--version") (following (row file_arg name ∷ row blocks_arg blocks ∷ []) (codes "version") [] (option (codes "version")))
 unfolding clap_on_literals
 version_turn name blocks a = record { passes = simp a refl; goes = refl }
@@ -38,7 +39,7 @@ version_value rows v l = record { passes = simp l refl; goes = simp l refl }
 
 -- ---- the words
 
-module _ (x d : ℕ) (xs ds : Text) (h : nat_eq x 45 ≡ false) (k : nat_eq d 45 ≡ false) (a : accepts false (vp.Unsigned 8 65536) (d ∷ ds) ≡ true) where
+module _ (x d : ℕ) (xs ds : Text) (h : nat_eq x 45 ≡ false) (k : nat_eq d 45 ≡ false) (a : accepts false (vp.Unsigned min_blocks max_file_blocks) (d ∷ ds) ≡ true) where
   -- what the words give where the walk over them stands here
   abbrev parts_at : Walk → Option (Text × Option Text × Numbers)
   parts_at w = parts (Some (codes "format", finished format.rules w.held))

@@ -1,4 +1,5 @@
 -- Plain words are taken.
+use Rattle.bp_limits.specs.Limits.{max_file_blocks, min_blocks}
 use Rattle.std.proofs.Common.{◌≡◌, ℕ, ◌≤◌, inl, inr, List, [], ◌∷◌, false, nat_eq, refl, sym, subst, arith}
 use Rattle.std.specs.Prelude.{codes, decimal}
 use Rattle.std.proofs.lemmas.Bool.{ne_eqb}
@@ -27,10 +28,10 @@ unfolding IsTaken clap_on_literals
 taken_export called x xs h = let n = some_name x xs in simp (h, n) refl
 
 module _ (called : Text) where
-  named_version : (x blocks : ℕ) (xs : Text) (version : Version) → nat_eq x 45 ≡ false → 8 ≤ blocks → blocks ≤ 65536 →
+  named_version : (x blocks : ℕ) (xs : Text) (version : Version) → nat_eq x 45 ≡ false → min_blocks ≤ blocks → blocks ≤ max_file_blocks →
       IsTaken (all_words called x xs (decimal blocks) (version_words version))
   named_version x blocks xs version h least most =
-      let digits = digits_of 8 65536 blocks least most (omega (arith, most)) in
+      let digits = digits_of min_blocks max_file_blocks blocks least most (omega (arith, most)) in
       let digit = digit_of version in
       subst (λ (w : List Text). IsTaken (all_words called x xs (decimal blocks) w)) (sym digit.1.words)
       (
@@ -38,9 +39,9 @@ module _ (called : Text) where
       (taken_format x digits.0 xs digits.1 h digits.2.plain digits.2.passes digit.0 digit.1.plain digit.1.passes called)
       )
 
-  no_version : (x blocks : ℕ) (xs : Text) → nat_eq x 45 ≡ false → 8 ≤ blocks → blocks ≤ 65536 → IsTaken (blocks_words called x xs (decimal blocks))
+  no_version : (x blocks : ℕ) (xs : Text) → nat_eq x 45 ≡ false → min_blocks ≤ blocks → blocks ≤ max_file_blocks → IsTaken (blocks_words called x xs (decimal blocks))
   no_version x blocks xs h least most =
-      let digits = digits_of 8 65536 blocks least most (omega (arith, most)) in
+      let digits = digits_of min_blocks max_file_blocks blocks least most (omega (arith, most)) in
       subst (λ (t : Text). IsTaken (blocks_words called x xs t)) (sym digits.2.is) (taken_short x digits.0 xs digits.1 h digits.2.plain digits.2.passes called)
 
   taken : (program : Program) → IsProper program → IsTaken (called ∷ program_words program)

@@ -1,4 +1,5 @@
 -- Plain words give the program that they ask for, and no other.
+use Rattle.bp_limits.specs.Limits.{max_file_blocks, min_blocks}
 use Rattle.std.proofs.Common.{◌≡◌, ℕ, ◌≤◌, inl, inr, List, [], ◌∷◌, false, nat_eq, Option, None, Some, refl, sym, ◌∙◌, ap, ap₂, subst, arith}
 use Rattle.std.specs.Prelude.{codes, decimal}
 use Rattle.std.specs.Str.Parse.{digits_value, without_leading_plus}
@@ -98,10 +99,10 @@ module _ (called : Text) where
 
   -- a format of these values asks for these numbers
   values_of_format : (x blocks : ℕ) (xs : Text) (version : Version) (rows : List Row) (p : Program) (d : ℕ) (ds digit : Text) →
-      AreDigits 8 65536 blocks d ds → version_numbered (digits_value 10 (without_leading_plus digit)) ≡ version → GivesFormat rows (x ∷ xs) (d ∷ ds) digit →
+      AreDigits min_blocks max_file_blocks blocks d ds → version_numbered (digits_value 10 (without_leading_plus digit)) ≡ version → GivesFormat rows (x ∷ xs) (d ∷ ds) digit →
       Names (codes "format") rows p → p ≡ formats (x ∷ xs) blocks version
   values_of_format x blocks xs version rows (formats name given asked) d ds digit are value gives n =
-      let same : given ≡ blocks = same_value 8 65536 blocks given d ds n.2.digits are (inside (sym n.2.given ∙ gives.blocks)) n.2.value in
+      let same : given ≡ blocks = same_value min_blocks max_file_blocks blocks given d ds n.2.digits are (inside (sym n.2.given ∙ gives.blocks)) n.2.value in
       let digits : n.3.gives.digits ≡ digit = inside (sym n.3.gives.given ∙ gives.version) in
       let read = sym n.3.gives.value ∙ ap (λ (t : Text). digits_value 10 (without_leading_plus t)) digits in
       let one : asked ≡ version = n.3.is ∙ ap version_numbered read ∙ value in
@@ -111,10 +112,10 @@ module _ (called : Text) where
   values_of_format x blocks xs version rows (plays name seed count) d ds digit are value gives n = absurd (apart (codes "format") (codes "play") refl n.0)
   values_of_format x blocks xs version rows (exports name) d ds digit are value gives n = absurd (apart (codes "format") (codes "export") refl n.0)
 
-  only_format : (x blocks : ℕ) (xs : Text) (version : Version) (other : Program) → nat_eq x 45 ≡ false → 8 ≤ blocks → blocks ≤ 65536 →
+  only_format : (x blocks : ℕ) (xs : Text) (version : Version) (other : Program) → nat_eq x 45 ≡ false → min_blocks ≤ blocks → blocks ≤ max_file_blocks →
       Requests (all_words called x xs (decimal blocks) (version_words version)) other → other ≡ formats (x ∷ xs) blocks version
   only_format x blocks xs version other h least most asked =
-      let digits = digits_of 8 65536 blocks least most (omega (arith, most)) in
+      let digits = digits_of min_blocks max_file_blocks blocks least most (omega (arith, most)) in
       let digit = digit_of version in
       let half : Requests (all_words called x xs (digits.0 ∷ digits.1) (version_words version)) other =
       subst (λ (t : Text). Requests (all_words called x xs t (version_words version)) other) digits.2.is asked in
@@ -125,10 +126,10 @@ module _ (called : Text) where
       values_of_format x blocks xs version words.rows other digits.0 digits.1 (digit.0 ∷ []) digits.2 digit.1.value
       (record { file = n.0; blocks = ap (λ (p : Numbers). p.0) n.1; version = ap (λ (p : Numbers). p.1) n.1 }) n.2
 
-  only_first : (x blocks : ℕ) (xs : Text) (other : Program) → nat_eq x 45 ≡ false → 8 ≤ blocks → blocks ≤ 65536 →
+  only_first : (x blocks : ℕ) (xs : Text) (other : Program) → nat_eq x 45 ≡ false → min_blocks ≤ blocks → blocks ≤ max_file_blocks →
       Requests (blocks_words called x xs (decimal blocks)) other → other ≡ formats (x ∷ xs) blocks One
   only_first x blocks xs other h least most asked =
-      let digits = digits_of 8 65536 blocks least most (omega (arith, most)) in
+      let digits = digits_of min_blocks max_file_blocks blocks least most (omega (arith, most)) in
       let words : Requests (blocks_words called x xs (digits.0 ∷ digits.1)) other = subst (λ (t : Text). Requests (blocks_words called x xs t) other) digits.2.is asked in
       let met = met_short x digits.0 xs digits.1 h digits.2.plain digits.2.passes called in
       let n = named_by _ (codes "format") (x ∷ xs) (Some (digits.0 ∷ digits.1), Some (codes "1"), None, None) other words.verb words.rows met words.is words.names in

@@ -1,4 +1,5 @@
 -- The command line of the program, in terms of `clap`.
+use Rattle.bp_limits.specs.Limits.{max_file_blocks, min_blocks}
 use Rattle.std.specs.Prelude.{◌≡◌, ◌∷◌, [], ⊤, false, Option, List, Some, true, codes}
 use Rattle.clap.specs.declared.builder.command.Command.TheViews.{out-Command}
 use Rattle.clap.specs.declared.builder.arg.Arg.{Arg}
@@ -18,7 +19,7 @@ blocks_rule = record (new_rule (codes "blocks")) {
   long = Some (codes "blocks");
   value_names = 1;
   required = true;
-  parser = Some (vp.Unsigned 8 65536);
+  parser = Some (vp.Unsigned min_blocks max_file_blocks);
 }
 
 -- The version of a new file system, 1 if the arguments give none.

@@ -5,10 +5,10 @@ use Rattle.std.specs.List.{slice_index}
 use Rattle.std.proofs.Math.Nat.{div-eq_of_lt}
 use Rattle.std.proofs.lemmas.Bool.{cases_eq, cases_lt}
 use Rattle.bp_layout.specs.WordPaths.{WordPath}
-use Rattle.bp_shapes.specs.Forest.{along}
-use Rattle.bp_shapes.specs.Trail.{Trail, trail_of}
-use Rattle.bp_shapes.proofs.ForestLaws.{HasFewDigits, same_along}
-use Rattle.bp_shapes.proofs.PathTrails.{prefix-trail_of, slot-trail_of, trail_of-next}
+use Rattle.bp_changes.specs.Forest.{along}
+use Rattle.bp_changes.specs.Trail.{Trail, trail_of}
+use Rattle.bp_changes.proofs.ForestLaws.{HasFewDigits, same_along}
+use Rattle.bp_changes.proofs.PathTrails.{prefix-trail_of, slot-trail_of, trail_of-next}
 use Rattle.bp_cow.specs.declared.touched.Run.{Run}
 use Rattle.bp_cow.specs.declared.touched.Touched.{Touched}
 use Rattle.bp_cow.specs.Cover.{end_path, ends, BeginAlike, BothBegin}

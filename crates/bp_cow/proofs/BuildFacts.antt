@@ -5,8 +5,8 @@ use Rattle.std.proofs.lemmas.List.{length-set}
 use Rattle.std.proofs.lemmas.Slice.Eq.{bytes_eq-Decides}
 use Rattle.std.specs.Str.{bytes_eq}
 use Rattle.bp_layout.specs.Words.{Image, word, block_count, block_of}
-use Rattle.bp_shapes.specs.Trail.{Trail, word_on, block_on, place_on, ArePointers}
-use Rattle.bp_shapes.proofs.PathTrails.{word-placed, low-placed, length-trail_of}
+use Rattle.bp_changes.specs.Trail.{Trail, word_on, block_on, place_on, ArePointers}
+use Rattle.bp_changes.proofs.PathTrails.{word-placed, low-placed, length-trail_of}
 use Rattle.bp_cow.specs.Stage.{IsBuilding}
 use Rattle.bp_cow.specs.Job.{Job, prefix, end_of, word_trail, value_upto, laid_upto, laid_on, IsBegun, IsRenewed}
 use Rattle.bp_cow.specs.Job.IsRenewed.{is_cover, is_begun, is_proper_prefix}

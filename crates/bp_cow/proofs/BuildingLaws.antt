@@ -4,16 +4,16 @@ use Rattle.std.proofs.lemmas.Bool.{cases_eq}
 use Rattle.std.proofs.lemmas.List.{length-set, set_comm}
 use Rattle.bp_layout.specs.Words.{Image, word, block_count, block_of, slot_word}
 use Rattle.bp_layout.proofs.TreeLaws.{slot_word-same}
-use Rattle.bp_shapes.specs.Trail.{Trail, word_on, block_on, place_on, ArePointers, IsSkeleton, IsPlaced}
-use Rattle.bp_shapes.specs.Trail.IsPlaced.{at_top, in_block}
-use Rattle.bp_shapes.specs.Forest.{IsExactSet}
+use Rattle.bp_changes.specs.Trail.{Trail, word_on, block_on, place_on, ArePointers, IsSkeleton, IsPlaced}
+use Rattle.bp_changes.specs.Trail.IsPlaced.{at_top, in_block}
+use Rattle.bp_changes.specs.Forest.{IsExactSet}
 use Rattle.bp_layout.specs.Stores.{EqualBut}
-use Rattle.bp_shapes.proofs.PathTrails.{word-placed, low-placed}
+use Rattle.bp_changes.proofs.PathTrails.{word-placed, low-placed}
 use Rattle.bp_cow.specs.Stage.{IsBuilding}
 use Rattle.bp_free.specs.Set.{TakesNumber}
 use Rattle.bp_cow.specs.Copies.{WordPatch, TurnsTo, pointing_to}
-use Rattle.bp_shapes.proofs.TrailLaws.{word_on-slot, Turns, pointer-turned}
-use Rattle.bp_shapes.proofs.StoreLaws.{store_turns, copy-kept}
+use Rattle.bp_changes.proofs.TrailLaws.{word_on-slot, Turns, pointer-turned}
+use Rattle.bp_changes.proofs.StoreLaws.{store_turns, copy-kept}
 use Rattle.bp_cow.proofs.StageLaws.{stage_start, stage_copy, stage_word}
 
 -- a place in a block at or below a trail is not its own

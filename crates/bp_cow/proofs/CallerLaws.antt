@@ -6,9 +6,9 @@ use Rattle.bp_layout.specs.Words.{Image, word, height_of}
 use Rattle.bp_layout.specs.Inode.{root_of, size_of}
 use Rattle.bp_layout.specs.Reached.{IsReached}
 use Rattle.bp_layout.specs.WellFormed.{IsWellFormed}
-use Rattle.bp_shapes.specs.Forest.{tree_trail, IsForest, IsTreePointer}
-use Rattle.bp_shapes.specs.Trail.{trail_of}
-use Rattle.bp_shapes.proofs.FreeSets.{wf_forest, content_prefixes, content_no_pointer}
+use Rattle.bp_changes.specs.Forest.{tree_trail, IsForest, IsTreePointer}
+use Rattle.bp_changes.specs.Trail.{trail_of}
+use Rattle.bp_changes.proofs.FreeSets.{wf_forest, content_prefixes, content_no_pointer}
 use Rattle.bp_cow.specs.declared.touched.Run.{Run}
 use Rattle.bp_cow.specs.declared.touched.Touched.{Touched}
 use Rattle.bp_cow.specs.declared.touched.TreeSize.{TreeSize}

@@ -12,10 +12,10 @@ use Rattle.bp_free.specs.Set.{Set, has, members}
 use Rattle.bp_layout.specs.Words.{Image, word}
 use Rattle.bp_layout.specs.WellFormed.{IsWellFormed}
 use Rattle.bp_layout.specs.Same.{Same}
-use Rattle.bp_shapes.specs.Forest.{IsExactSet, IsTreePointer}
-use Rattle.bp_shapes.specs.Trail.{Trail, word_on, block_on, place_on, trail_of}
+use Rattle.bp_changes.specs.Forest.{IsExactSet, IsTreePointer}
+use Rattle.bp_changes.specs.Trail.{Trail, word_on, block_on, place_on, trail_of}
 use Rattle.bp_layout.proofs.SameLaws.{same_self}
-use Rattle.bp_shapes.proofs.ExactSets.{unheld_exact}
+use Rattle.bp_changes.proofs.ExactSets.{unheld_exact}
 use Rattle.bp_cow.specs.Counting.{IsTreeWord}
 use Rattle.bp_cow.specs.declared.touched.Touched.{Touched}
 use Rattle.bp_cow.specs.declared.covers.FoundCover.{FoundCover}

@@ -11,13 +11,13 @@ use Rattle.bp_layout.specs.Reached.IsReached.{inode_file}
 use Rattle.bp_changes.specs.Commits.{Commits}
 use Rattle.bp_changes.proofs.Formatted.{version_stays}
 use Rattle.bp_layout.proofs.TreeLaws.{live_above, live_content}
-use Rattle.bp_shapes.specs.Trail.{Trail, word_on, block_on, LeadsTo}
-use Rattle.bp_shapes.specs.Forest.{root_trail, tree_trail, IsForest, IsTreePointer}
+use Rattle.bp_changes.specs.Trail.{Trail, word_on, block_on, LeadsTo}
+use Rattle.bp_changes.specs.Forest.{root_trail, tree_trail, IsForest, IsTreePointer}
 use Rattle.bp_cow.specs.Counting.{IsTreeWord}
 use Rattle.bp_cow.specs.Job.{Job}
 use Rattle.bp_cow.specs.Committed.{after_commit, changes_of, IsCommitted}
-use Rattle.bp_shapes.proofs.TrailLaws.{word_on-top}
-use Rattle.bp_shapes.proofs.ForestLaws.{HasFewDigits, word-root, word-tree, same_trail, same_pointer, pointers, short}
+use Rattle.bp_changes.proofs.TrailLaws.{word_on-top}
+use Rattle.bp_changes.proofs.ForestLaws.{HasFewDigits, word-root, word-tree, same_trail, same_pointer, pointers, short}
 
 -- ---- the words of a leaf
 

@@ -17,14 +17,14 @@ use Rattle.bp_layout.specs.Reached.{IsReached, HoldsBlock, IsLiveBlock, IsFreeBl
 use Rattle.bp_layout.specs.WellFormed.{IsWellFormed}
 use Rattle.bp_layout.specs.WordPaths.{WordPath, address}
 use Rattle.bp_layout.specs.Words.{Image, block_of, block_count}
-use Rattle.bp_shapes.specs.Forest.{IsTreePointer}
-use Rattle.bp_shapes.specs.Trail.{Trail, block_on, place_on, trail_of}
-use Rattle.bp_shapes.proofs.ExactSets.{exact-unheld, led_held}
-use Rattle.bp_shapes.proofs.FreeSets.{wf_forest}
-use Rattle.bp_shapes.proofs.PathTrails.{address-on, length-trail_of}
-use Rattle.bp_commit.specs.Performs.{IsOpen, AddsTaking, PerformsThawed, most_stores_thawed}
-use Rattle.bp_commit.specs.Performs.IsOpen.{in_live, at_root}
-use Rattle.bp_commit.proofs.PerformsLaws.{performs_committed, performs_twice}
+use Rattle.bp_changes.specs.Forest.{IsTreePointer}
+use Rattle.bp_changes.specs.Trail.{Trail, block_on, place_on, trail_of}
+use Rattle.bp_changes.proofs.ExactSets.{exact-unheld, led_held}
+use Rattle.bp_changes.proofs.FreeSets.{wf_forest}
+use Rattle.bp_changes.proofs.PathTrails.{address-on, length-trail_of}
+use Rattle.bp_changes.specs.Performs.{IsOpen, AddsTaking, PerformsThawed, most_stores_thawed}
+use Rattle.bp_changes.specs.Performs.IsOpen.{in_live, at_root}
+use Rattle.bp_changes.proofs.PerformsLaws.{performs_committed, performs_twice}
 use Rattle.bp_cow.specs.Counting.{IsTreeWord}
 use Rattle.bp_cow.specs.declared.touched.Touched.{Touched}
 use Rattle.bp_cow.specs.CanCommit.{CanCommit}

@@ -7,9 +7,9 @@ use Rattle.bp_layout.proofs.MemberLaws.{apart-more, apart-within, has-after, has
 use Rattle.bp_layout.specs.Words.{Image}
 use Rattle.bp_layout.specs.Members.{AreApart, Has}
 use Rattle.bp_layout.specs.Need.{prefixes_of}
-use Rattle.bp_shapes.specs.Trail.{trail_of}
+use Rattle.bp_changes.specs.Trail.{trail_of}
 use Rattle.bp_layout.specs.WordPaths.{digits}
-use Rattle.bp_shapes.specs.Forest.{IsTreePointer}
+use Rattle.bp_changes.specs.Forest.{IsTreePointer}
 use Rattle.bp_layout.specs.WellFormed.{IsWellFormed}
 use Rattle.bp_cow.specs.declared.touched.Run.{Run}
 use Rattle.bp_cow.specs.declared.touched.Touched.{Touched}

@@ -4,10 +4,10 @@ use Rattle.std.specs.List.{slice_index}
 use Rattle.std.proofs.Math.ListN.{get_or-append}
 use Rattle.std.proofs.lemmas.Bool.{cases_eq, cases_lt}
 use Rattle.bp_layout.specs.Words.{Image, word, block_count}
-use Rattle.bp_shapes.specs.Trail.{word_on, block_on, place_on, trail_of, IsPlaced}
-use Rattle.bp_shapes.specs.Trail.IsPlaced.{at_top, in_block}
+use Rattle.bp_changes.specs.Trail.{word_on, block_on, place_on, trail_of, IsPlaced}
+use Rattle.bp_changes.specs.Trail.IsPlaced.{at_top, in_block}
 use Rattle.bp_layout.specs.WordPaths.{digits}
-use Rattle.bp_shapes.proofs.PathTrails.{trail_of-next, word-placed}
+use Rattle.bp_changes.proofs.PathTrails.{trail_of-next, word-placed}
 use Rattle.bp_cow.specs.declared.touched.Run.{Run}
 use Rattle.bp_cow.specs.declared.touched.Touched.{Touched}
 use Rattle.bp_cow.specs.declared.covers.FoundCover.{FoundCover}

@@ -9,9 +9,9 @@ use Rattle.bp_layout.specs.Need.{common_all, prefixes_of}
 use Rattle.bp_layout.specs.WordPaths.{WordPath, address, is_pointed}
 use Rattle.bp_layout.specs.Words.{Image, word, block_of}
 use Rattle.bp_layout.proofs.TreeLaws.{slot_word-at}
-use Rattle.bp_shapes.specs.Trail.{block_on, word_on, place_on, trail_of}
-use Rattle.bp_shapes.proofs.PathTrails.{AreNodes, address-on, prefix-trail_of}
-use Rattle.bp_shapes.proofs.TrailLaws.{word_on-top, word_on-slot}
+use Rattle.bp_changes.specs.Trail.{block_on, word_on, place_on, trail_of}
+use Rattle.bp_changes.proofs.PathTrails.{AreNodes, address-on, prefix-trail_of}
+use Rattle.bp_changes.proofs.TrailLaws.{word_on-top, word_on-slot}
 use Rattle.bp_cow.specs.declared.touched.Touched.{Touched}
 use Rattle.bp_cow.specs.Cover.{end_path, ends, BeginAlike, CoverHas, IsCover, commit_cover, copied_count}
 use Rattle.bp_cow.specs.Job.{copies_at}

@@ -7,8 +7,8 @@ use Rattle.std.proofs.lemmas.Slice.Eq.{bytes_eq-Decides}
 use Rattle.bp_layout.specs.Members.{Has, AreApart}
 use Rattle.bp_layout.proofs.MemberLaws.{apart-append, apart-filter, apart-more, filter-has, has-after, has-either, has-filter, has-prefix}
 use Rattle.bp_layout.specs.Need.{is_prefix, prefixes_from, prefixes_of}
-use Rattle.bp_shapes.specs.Trail.{trail_of}
-use Rattle.bp_shapes.proofs.PathTrails.{slot-trail_of}
+use Rattle.bp_changes.specs.Trail.{trail_of}
+use Rattle.bp_changes.proofs.PathTrails.{slot-trail_of}
 use Rattle.bp_cow.specs.Touched.{NoneBegins}
 
 -- ---- prefixes

@@ -3,11 +3,11 @@ use Rattle.std.proofs.Common.{◌≡◌, ◌≢◌, ◌⊎◌, ℕ, zero, suc, �
 use Rattle.std.proofs.lemmas.Bool.{cases_eq, cases_lt}
 use Rattle.bp_layout.specs.Words.{Image, word}
 use Rattle.bp_layout.proofs.TreeLaws.{slot_word-same}
-use Rattle.bp_shapes.specs.Trail.{Trail, block_on}
-use Rattle.bp_shapes.specs.Forest.{IsExactSet, IsTreePointer}
-use Rattle.bp_shapes.proofs.ForestLaws.{skeleton}
-use Rattle.bp_shapes.proofs.TrailLaws.{cases_trail}
-use Rattle.bp_shapes.proofs.PathTrails.{length-trail_of}
+use Rattle.bp_changes.specs.Trail.{Trail, block_on}
+use Rattle.bp_changes.specs.Forest.{IsExactSet, IsTreePointer}
+use Rattle.bp_changes.proofs.ForestLaws.{skeleton}
+use Rattle.bp_changes.proofs.TrailLaws.{cases_trail}
+use Rattle.bp_changes.proofs.PathTrails.{length-trail_of}
 use Rattle.bp_cow.specs.Counting.{IsTreeWord}
 use Rattle.bp_cow.specs.Stage.{IsStage}
 use Rattle.bp_cow.specs.Job.{Job, ways, prefix, value_upto, laid_on, IsBegun, IsRenewed}

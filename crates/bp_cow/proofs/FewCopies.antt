@@ -8,9 +8,9 @@ use Rattle.bp_layout.specs.Members.{Has}
 use Rattle.bp_layout.specs.WellFormed.{IsWellFormed}
 use Rattle.bp_layout.specs.WordPaths.{digits}
 use Rattle.bp_layout.specs.Words.{Image}
-use Rattle.bp_tree.proofs.Digits.{length-digits}
-use Rattle.bp_shapes.specs.Trail.{trail_of}
-use Rattle.bp_shapes.proofs.PathTrails.{length-trail_of}
+use Rattle.bp_read.proofs.Digits.{length-digits}
+use Rattle.bp_changes.specs.Trail.{trail_of}
+use Rattle.bp_changes.proofs.PathTrails.{length-trail_of}
 use Rattle.bp_cow.specs.CanCommit.{CanCommit}
 use Rattle.bp_cow.specs.Cover.{commit_cover, copied_count}
 use Rattle.bp_cow.specs.Job.{Job, prefix, ways, begins, copies_at, turned_for, turned_upto}

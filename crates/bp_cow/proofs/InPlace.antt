@@ -5,17 +5,17 @@ use Rattle.std.proofs.lemmas.Bool.{cases_lt}
 use Rattle.bp_layout.specs.Members.{Has}
 use Rattle.bp_layout.specs.Words.{Image, block_count}
 use Rattle.bp_layout.specs.WellFormed.{IsWellFormed}
-use Rattle.bp_shapes.specs.Trail.{Trail, word_on, block_on, trail_of, IsSkeleton}
-use Rattle.bp_shapes.specs.Trail.IsPlaced.{in_block}
-use Rattle.bp_shapes.specs.Forest.{IsTreePointer}
-use Rattle.bp_shapes.proofs.ForestLaws.{pointers, skeleton}
+use Rattle.bp_changes.specs.Trail.{Trail, word_on, block_on, trail_of, IsSkeleton}
+use Rattle.bp_changes.specs.Trail.IsPlaced.{in_block}
+use Rattle.bp_changes.specs.Forest.{IsTreePointer}
+use Rattle.bp_changes.proofs.ForestLaws.{pointers, skeleton}
 use Rattle.bp_cow.specs.declared.touched.Run.{Run}
 use Rattle.bp_cow.specs.declared.touched.Touched.{Touched}
 use Rattle.bp_cow.specs.Touched.{run_end, job_of, only_of, only_value, run_word, laid_word}
 use Rattle.bp_cow.specs.Job.{word_trail, value_upto, laid_on}
 use Rattle.bp_cow.specs.Committed.{IsCommitted, after_commit}
-use Rattle.bp_shapes.proofs.TrailLaws.{Turns, cases_trail, pointer-turned, word-turned, skeleton-turned}
-use Rattle.bp_shapes.proofs.StoreLaws.{store_turns}
+use Rattle.bp_changes.proofs.TrailLaws.{Turns, cases_trail, pointer-turned, word-turned, skeleton-turned}
+use Rattle.bp_changes.proofs.StoreLaws.{store_turns}
 use Rattle.bp_cow.proofs.BuildFacts.{value-here, value-none, laid-other}
 use Rattle.bp_cow.specs.Cover.{end_path}
 use Rattle.bp_cow.specs.Counting.{IsTreeWord}

@@ -5,8 +5,8 @@ use Rattle.std.proofs.lemmas.Bool.{cases_eq, leb-true, le-leb}
 use Rattle.std.proofs.lemmas.List.{length-take}
 use Rattle.bp_layout.proofs.MemberLaws.{apart-append, has-after, has-either, has-prefix}
 use Rattle.bp_layout.specs.Members.{AreApart, Has}
-use Rattle.bp_shapes.specs.Trail.{Trail, trail_of}
-use Rattle.bp_shapes.proofs.PathTrails.{length-trail_of}
+use Rattle.bp_changes.specs.Trail.{Trail, trail_of}
+use Rattle.bp_changes.proofs.PathTrails.{length-trail_of}
 use Rattle.bp_cow.specs.Job.{Job, prefix, begins, turns_at, turned_for, turned_upto}
 use Rattle.bp_cow.proofs.NeedLaws.{begun-begins, begins-begun}
 use Rattle.bp_cow.proofs.RunPrefixes.{trail_of-take}

@@ -2,8 +2,8 @@
 use Rattle.std.proofs.Common.{◌≡◌, ◌≢◌, ◌⊎◌, ℕ, suc, ◌+◌, ◌<◌, ◌≤◌, ◌∷◌, length, Bool, true, false, ◌==◌, refl, sym, ◌∙◌, subst, arith, inl, inr, eq-eqb}
 use Rattle.std.specs.Prelude.{nat_lt, slice_index}
 use Rattle.std.proofs.lemmas.Bool.{cases_eq, cases_lt, eqb-true, ltb-true, lt-ltb}
-use Rattle.bp_shapes.specs.Trail.{Trail, word_on}
-use Rattle.bp_shapes.specs.Forest.{IsTreePointer}
+use Rattle.bp_changes.specs.Trail.{Trail, word_on}
+use Rattle.bp_changes.specs.Forest.{IsTreePointer}
 use Rattle.bp_cow.specs.Job.{Job, ways, prefix, laid_on, patch_at, IsBegun}
 use Rattle.bp_cow.specs.Plan.{Plan, CanMake}
 use Rattle.bp_cow.proofs.BuildFacts.{laid-other, laid-leaf}

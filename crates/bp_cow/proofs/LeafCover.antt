@@ -18,12 +18,12 @@ use Rattle.bp_layout.specs.WordPaths.{WordPath, digits, inode_path}
 use Rattle.bp_layout.specs.Words.{Image, block_count, block_of, height_of}
 use Rattle.bp_layout.proofs.Addresses.{IsUnderNodes}
 use Rattle.bp_layout.proofs.TreeLaws.{live_above, live_content, live_pointer_word}
-use Rattle.bp_shapes.specs.Forest.{along}
-use Rattle.bp_shapes.specs.Trail.{Trail, block_on, trail_of}
-use Rattle.bp_shapes.proofs.ForestLaws.{word-tree}
-use Rattle.bp_tree.proofs.Digits.{length-digits}
-use Rattle.bp_tree.proofs.ExistingPaths.{AllThere, existing-all, inodes-there}
-use Rattle.bp_tree.proofs.PathLaws.{small_digits}
+use Rattle.bp_changes.specs.Forest.{along}
+use Rattle.bp_changes.specs.Trail.{Trail, block_on, trail_of}
+use Rattle.bp_changes.proofs.ForestLaws.{word-tree}
+use Rattle.bp_read.proofs.Digits.{length-digits}
+use Rattle.bp_read.proofs.ExistingPaths.{AllThere, existing-all, inodes-there}
+use Rattle.bp_read.proofs.PathLaws.{small_digits}
 use Rattle.bp_cow.specs.Cover.{end_path, end_path_of, ends, ends_of, BeginAlike, CoverHas, LeadsInside, commit_cover, copied_count}
 use Rattle.bp_cow.specs.Touched.{IsRun, IsTouched, NoneBegins, all_paths, leaves_of, path_of, run_end, run_leaves, run_path, word_paths}
 use Rattle.bp_cow.specs.declared.touched.Run.{Run}

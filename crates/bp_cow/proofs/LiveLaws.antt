@@ -6,8 +6,8 @@ use Rattle.std.proofs.Math.Nat.{div-mul-le_self}
 use Rattle.bp_layout.specs.Inode.{root_of}
 use Rattle.bp_layout.specs.Tree.{IsLivePointer}
 use Rattle.bp_layout.specs.Words.{Image, word, height_of}
-use Rattle.bp_shapes.specs.Forest.{along, tree_trail, IsForest, IsTreePointer}
-use Rattle.bp_shapes.specs.Trail.{trail_of}
+use Rattle.bp_changes.specs.Forest.{along, tree_trail, IsForest, IsTreePointer}
+use Rattle.bp_changes.specs.Trail.{trail_of}
 use Rattle.bp_cow.specs.declared.touched.Run.{Run}
 use Rattle.bp_cow.specs.CanCommit.{IsRunIn}
 use Rattle.bp_cow.specs.Counting.{IsTreeWord}

@@ -10,12 +10,12 @@ use Rattle.bp_layout.specs.Tree.{node}
 use Rattle.bp_layout.specs.WellFormed.{IsWellFormed}
 use Rattle.bp_layout.specs.WordPaths.{WordPath, digits, inode_path, tree_path}
 use Rattle.bp_layout.specs.Words.{Image, block_of}
-use Rattle.bp_shapes.specs.Forest.{IsTreePointer, along, tree_trail}
-use Rattle.bp_shapes.specs.Trail.{Trail, block_on, place_on, trail_of}
-use Rattle.bp_shapes.proofs.ForestLaws.{word-tree}
-use Rattle.bp_shapes.proofs.PathTrails.{length-trail_of}
-use Rattle.bp_tree.proofs.Digits.{length-digits}
-use Rattle.bp_tree.proofs.LooseWays.{kept_node, loose-prefix}
+use Rattle.bp_changes.specs.Forest.{IsTreePointer, along, tree_trail}
+use Rattle.bp_changes.specs.Trail.{Trail, block_on, place_on, trail_of}
+use Rattle.bp_changes.proofs.ForestLaws.{word-tree}
+use Rattle.bp_changes.proofs.PathTrails.{length-trail_of}
+use Rattle.bp_read.proofs.Digits.{length-digits}
+use Rattle.bp_read.proofs.LooseWays.{kept_node, loose-prefix}
 use Rattle.bp_cow.specs.Commit.{HasLooseCover}
 use Rattle.bp_cow.specs.Cover.{CoverHas, commit_cover, end_path}
 use Rattle.bp_cow.specs.Touched.{IsTouched, all_paths}

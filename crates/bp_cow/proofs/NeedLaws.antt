@@ -5,8 +5,8 @@ use Rattle.std.proofs.lemmas.Bool.{cases_eq, leb-true, le-leb}
 use Rattle.std.specs.Bool.{Decides}
 use Rattle.std.proofs.lemmas.Bool.Decides.{Decides-and}
 use Rattle.std.proofs.lemmas.Slice.Eq.{bytes_eq-Decides}
-use Rattle.bp_shapes.specs.Trail.{Trail}
-use Rattle.bp_shapes.proofs.PathTrails.{length-trail_of}
+use Rattle.bp_changes.specs.Trail.{Trail}
+use Rattle.bp_changes.proofs.PathTrails.{length-trail_of}
 use Rattle.bp_cow.specs.Job.{Job, prefix, IsBegun, begins, turns_at, turned_for, turned_upto}
 
 Decides-leb : (a b : ℕ) → Decides (nat_le a b) (a ≤ b)

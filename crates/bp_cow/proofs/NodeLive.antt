@@ -7,9 +7,9 @@ use Rattle.bp_layout.specs.Reached.IsReached.{inode_file}
 use Rattle.bp_layout.specs.Tree.{IsLivePointer, covered}
 use Rattle.bp_layout.specs.Words.{Image, word, height_of}
 use Rattle.bp_layout.proofs.TreeLaws.{live_above, live_content, live_pointer_word}
-use Rattle.bp_shapes.specs.Forest.{tree_trail, IsForest, IsTreePointer}
-use Rattle.bp_shapes.specs.Trail.{Trail}
-use Rattle.bp_shapes.proofs.ForestLaws.{HasFewDigits, same_trail, same_pointer, short}
+use Rattle.bp_changes.specs.Forest.{tree_trail, IsForest, IsTreePointer}
+use Rattle.bp_changes.specs.Trail.{Trail}
+use Rattle.bp_changes.proofs.ForestLaws.{HasFewDigits, same_trail, same_pointer, short}
 use Rattle.bp_cow.specs.Counting.{IsTreeWord}
 use Rattle.bp_cow.specs.Touched.{level_live}
 

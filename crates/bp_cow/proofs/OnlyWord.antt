@@ -4,8 +4,8 @@ use Rattle.std.specs.List.{slice_index}
 use Rattle.std.proofs.lemmas.Bool.{cases_eq, cases_lt}
 use Rattle.bp_layout.specs.Members.{Has}
 use Rattle.bp_layout.specs.Words.{Image}
-use Rattle.bp_shapes.specs.Trail.{Trail, word_on, trail_of}
-use Rattle.bp_shapes.specs.Forest.{IsTreePointer}
+use Rattle.bp_changes.specs.Trail.{Trail, word_on, trail_of}
+use Rattle.bp_changes.specs.Forest.{IsTreePointer}
 use Rattle.bp_cow.specs.declared.touched.Run.{Run}
 use Rattle.bp_cow.specs.declared.touched.Touched.{Touched}
 use Rattle.bp_cow.specs.Touched.{run_path, run_way, run_end, leaves_of, path_of, word_paths, job_of, laid_word}

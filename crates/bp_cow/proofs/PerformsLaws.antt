@@ -11,8 +11,8 @@ use Rattle.bp_layout.specs.Free.{numbers_below}
 use Rattle.bp_layout.specs.Members.{Has}
 use Rattle.bp_layout.specs.Reached.{IsFreeBlock}
 use Rattle.bp_layout.specs.Words.{block_count}
-use Rattle.bp_commit.specs.Performs.{InBlock, IsOpen, TakesBlocks}
-use Rattle.bp_commit.specs.Performs.IsOpen.{in_taken}
+use Rattle.bp_changes.specs.Performs.{InBlock, IsOpen, TakesBlocks}
+use Rattle.bp_changes.specs.Performs.IsOpen.{in_taken}
 use Rattle.bp_cow.specs.Adds.{IsTakenWord, AddsCopyCommit}
 
 -- the numbers of one set that are not in another

@@ -6,15 +6,15 @@ use Rattle.pm_epochs.proofs.MayLaws.{quiet_may}
 use Rattle.pm_epochs.proofs.PieceLaws.{IsPiece-append, IsPiece-commit, IsPiece-more}
 use Rattle.pm_region.specs.Memory.{Memory, current_words, Adds}
 use Rattle.pm_region.proofs.MemoryLaws.{adds_both}
-use Rattle.bp_commit.proofs.PerformsLaws.{same_equivalence}
+use Rattle.bp_changes.proofs.PerformsLaws.{same_equivalence}
 use Rattle.bp_layout.specs.Words.{Image, word}
 use Rattle.bp_layout.specs.Inode.{size_of}
 use Rattle.bp_layout.specs.Reached.{IsReached}
 use Rattle.bp_layout.specs.WellFormed.{IsWellFormed}
 use Rattle.bp_layout.specs.Same.{Same}
-use Rattle.bp_shapes.specs.Forest.{IsExactSet, IsForest, IsTreePointer}
+use Rattle.bp_changes.specs.Forest.{IsExactSet, IsForest, IsTreePointer}
 use Rattle.bp_layout.proofs.SameLaws.{same_symmetric}
-use Rattle.bp_shapes.proofs.Unseen.{same_unseen}
+use Rattle.bp_changes.proofs.Unseen.{same_unseen}
 use Rattle.bp_free.specs.Set.{Set, has}
 use Rattle.pm_region.proofs.MayLaws.{may_frame}
 use Rattle.bp_cow.specs.Adds.{IsTakenWord, AddsCopies, MakesCopies, AddsCopyCommit}

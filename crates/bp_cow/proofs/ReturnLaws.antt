@@ -4,11 +4,11 @@ use Rattle.std.proofs.Common.{◌≡◌, ◌≢◌, ◌⊎◌, ℕ, ◌+◌, ◌
 use Rattle.std.specs.List.{slice_index}
 use Rattle.std.proofs.lemmas.Bool.{cases_eq}
 use Rattle.bp_layout.specs.Words.{Image, block_count, slot_word}
-use Rattle.bp_shapes.specs.Trail.{Trail, block_on, IsSkeleton, LeadsTo}
-use Rattle.bp_shapes.specs.Forest.{IsTreePointer}
-use Rattle.bp_shapes.proofs.ForestLaws.{skeleton}
-use Rattle.bp_shapes.proofs.TrailLaws.{word_on-slot}
-use Rattle.bp_shapes.proofs.PathTrails.{trail_of-next, length-trail_of}
+use Rattle.bp_changes.specs.Trail.{Trail, block_on, IsSkeleton, LeadsTo}
+use Rattle.bp_changes.specs.Forest.{IsTreePointer}
+use Rattle.bp_changes.proofs.ForestLaws.{skeleton}
+use Rattle.bp_changes.proofs.TrailLaws.{word_on-slot}
+use Rattle.bp_changes.proofs.PathTrails.{trail_of-next, length-trail_of}
 use Rattle.bp_cow.specs.Job.{ways, prefix, IsBegun, IsRenewed}
 use Rattle.bp_cow.specs.Job.IsRenewed.{is_begun}
 use Rattle.bp_cow.specs.Plan.{Plan, IsOnWay}

@@ -5,11 +5,11 @@ use Rattle.bp_layout.specs.WordPaths.{digits}
 use Rattle.bp_layout.specs.Words.{Image, word, height_of}
 use Rattle.bp_layout.specs.Tree.{IsLivePointer, covered}
 use Rattle.bp_layout.specs.Inode.{root_of}
-use Rattle.bp_shapes.specs.Trail.{Trail, trail_of}
-use Rattle.bp_shapes.specs.Forest.{along, root_trail, tree_trail, IsForest, IsTreePointer}
-use Rattle.bp_shapes.proofs.ForestLaws.{pointers, short, same_pointer, same_trail, HasFewDigits}
-use Rattle.bp_shapes.proofs.FreeSets.{pointer_prefixes}
-use Rattle.bp_shapes.proofs.PathTrails.{length-trail_of}
+use Rattle.bp_changes.specs.Trail.{Trail, trail_of}
+use Rattle.bp_changes.specs.Forest.{along, root_trail, tree_trail, IsForest, IsTreePointer}
+use Rattle.bp_changes.proofs.ForestLaws.{pointers, short, same_pointer, same_trail, HasFewDigits}
+use Rattle.bp_changes.proofs.FreeSets.{pointer_prefixes}
+use Rattle.bp_changes.proofs.PathTrails.{length-trail_of}
 use Rattle.bp_cow.specs.declared.touched.Run.{Run}
 use Rattle.bp_cow.specs.Touched.{IsRun, run_path, run_way, run_end, run_leaves, run_live}
 use Rattle.bp_cow.specs.Counting.{IsTreeWord}

@@ -6,12 +6,12 @@ use Rattle.std.proofs.Math.Seq.{get_or-append_right}
 use Rattle.std.proofs.Math.Nat.{div-div-eq-div-mul, div-mul-le_self, le-div_iff_mul-le, one-le-pow}
 use Rattle.std.proofs.lemmas.List.{get_or-take}
 use Rattle.std.proofs.lemmas.Bool.{cases_lt}
-use Rattle.bp_shapes.specs.Trail.{Trail, trail_of}
+use Rattle.bp_changes.specs.Trail.{Trail, trail_of}
 use Rattle.bp_layout.specs.WordPaths.{digits}
-use Rattle.bp_shapes.specs.Forest.{along}
-use Rattle.bp_shapes.proofs.ForestLaws.{HasFewDigits, same_along}
-use Rattle.bp_shapes.proofs.PathTrails.{trail_of-next}
-use Rattle.bp_tree.proofs.StepDown.{quotient}
+use Rattle.bp_changes.specs.Forest.{along}
+use Rattle.bp_changes.proofs.ForestLaws.{HasFewDigits, same_along}
+use Rattle.bp_changes.proofs.PathTrails.{trail_of-next}
+use Rattle.bp_read.proofs.StepDown.{quotient}
 use Rattle.bp_cow.specs.declared.touched.Run.{Run}
 use Rattle.bp_cow.specs.Touched.{run_path, run_way}
 use Rattle.bp_cow.proofs.RunLaws.{slot-digits, slot-run_path, length-run_path, length-run_way}

@@ -16,8 +16,8 @@ use Rattle.bp_layout.specs.Words.{Image, word, block_of, height_of}
 use Rattle.bp_layout.proofs.Addresses.{IsUnderNodes, address_from-append, address_from-digits, word-place_of}
 use Rattle.bp_layout.proofs.Reached.{reached-in_file}
 use Rattle.bp_layout.proofs.TreeLaws.{live_above, live_content, live_pointer_word}
-use Rattle.bp_tree.proofs.Digits.{length-digits}
-use Rattle.bp_tree.proofs.ExistingPaths.{node_under, reads-inodes, reads-tree, number-digits}
+use Rattle.bp_read.proofs.Digits.{length-digits}
+use Rattle.bp_read.proofs.ExistingPaths.{node_under, reads-inodes, reads-tree, number-digits}
 use Rattle.bp_cow.specs.Touched.{all_paths, run_end, run_path}
 use Rattle.bp_cow.specs.declared.touched.Run.{Run}
 use Rattle.bp_cow.specs.declared.touched.Touched.{Touched}

@@ -13,10 +13,10 @@ use Rattle.bp_layout.proofs.TreeLaws.{live_above, live_content}
 use Rattle.bp_changes.specs.Commits.{Commits, CommitsOnly, changed_word}
 use Rattle.bp_changes.specs.Effects.{ChangesFile}
 use Rattle.bp_changes.proofs.Committed.{commit_writes}
-use Rattle.bp_shapes.specs.Forest.{along, root_trail, tree_trail, IsTreePointer}
-use Rattle.bp_shapes.specs.Trail.{Trail, trail_of, word_on}
-use Rattle.bp_shapes.proofs.ForestLaws.{HasFewDigits, same_along, same_trail, short, word-tree}
-use Rattle.bp_tree.proofs.Digits.{length-digits}
+use Rattle.bp_changes.specs.Forest.{along, root_trail, tree_trail, IsTreePointer}
+use Rattle.bp_changes.specs.Trail.{Trail, trail_of, word_on}
+use Rattle.bp_changes.proofs.ForestLaws.{HasFewDigits, same_along, same_trail, short, word-tree}
+use Rattle.bp_read.proofs.Digits.{length-digits}
 use Rattle.bp_cow.specs.Counting.{IsTreeWord}
 use Rattle.bp_cow.specs.declared.touched.Run.{Run}
 use Rattle.bp_cow.specs.declared.touched.Touched.{Touched}

@@ -4,7 +4,7 @@ use Rattle.std.proofs.lemmas.Bool.{cases_lt}
 use Rattle.bp_layout.specs.Words.{Image}
 use Rattle.bp_cow.specs.Job.{Job, prefix, ways, turned_for, IsBegun}
 use Rattle.bp_cow.specs.Plan.{CanMake, IsMade, IsOnWay, Plan}
-use Rattle.bp_shapes.specs.Trail.{block_on}
+use Rattle.bp_changes.specs.Trail.{block_on}
 use Rattle.bp_cow.specs.Return.{IsBack, IsLeft}
 use Rattle.bp_cow.specs.Touched.{job_of}
 use Rattle.bp_cow.specs.Ways.{AddsNoBlock}

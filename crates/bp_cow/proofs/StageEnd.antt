@@ -1,8 +1,8 @@
 -- The end of a commit by copies: each word has its value.
 use Rattle.std.proofs.Common.{◌≡◌, ◌≢◌, ◌⊎◌, ℕ, ◌<◌, ◌∷◌, length, Bool, unwrap_or, sym, ◌∙◌, ap, arith, inl, inr}
 use Rattle.bp_layout.specs.Words.{Image}
-use Rattle.bp_shapes.specs.Trail.{Trail, word_on}
-use Rattle.bp_shapes.specs.Forest.{IsTreePointer}
+use Rattle.bp_changes.specs.Trail.{Trail, word_on}
+use Rattle.bp_changes.specs.Forest.{IsTreePointer}
 use Rattle.bp_cow.specs.Job.{ways, end_of, laid_on, IsRenewed}
 use Rattle.bp_cow.specs.Job.IsRenewed.{is_begun}
 use Rattle.bp_cow.specs.Plan.{Plan, CanMake}

@@ -2,11 +2,11 @@
 use Rattle.std.proofs.Common.{◌≡◌, ◌≢◌, ◌⊎◌, ℕ, ◌/◌, ◌%◌, ◌<◌, ◌≤◌, ◌∷◌, Bool, true, false, Option, None, Some, unwrap_or, refl, sym, ◌∙◌, ap, subst, arith, inl, inr}
 use Rattle.std.proofs.lemmas.Bool.{cases_eq}
 use Rattle.bp_layout.specs.Words.{Image, block_count, block_of, slot_word}
-use Rattle.bp_shapes.specs.Forest.{IsExactSet}
-use Rattle.bp_shapes.specs.Trail.{Trail, word_on, block_on, ArePointers, IsSkeleton, LeadsTo}
+use Rattle.bp_changes.specs.Forest.{IsExactSet}
+use Rattle.bp_changes.specs.Trail.{Trail, word_on, block_on, ArePointers, IsSkeleton, LeadsTo}
 use Rattle.bp_cow.specs.Return.{IsGiven}
 use Rattle.bp_cow.specs.Stage.{IsStage}
-use Rattle.bp_shapes.proofs.TrailLaws.{cases_trail, Turns, pointer-turned, word-turned, slot-turned, skeleton-turned}
+use Rattle.bp_changes.proofs.TrailLaws.{cases_trail, Turns, pointer-turned, word-turned, slot-turned, skeleton-turned}
 
 -- nothing is done
 pub stage_start : {in_snapshot : ℕ → Bool} {Counts : Trail → Type 0} (old : Image) (Pointer : Trail → Type 0) (renewed : Trail → Type 0) (value : Trail → Option ℕ) (laid : Trail → ℕ) (free : ℕ → Bool) →

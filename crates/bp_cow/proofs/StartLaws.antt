@@ -1,11 +1,11 @@
 -- The first copy, that of the cover's block.
 use Rattle.std.proofs.Common.{◌≡◌, ℕ, ◌+◌, ◌*◌, ◌/◌, ◌-◌, ◌<◌, ◌≤◌, length, Bool, refl, sym, ◌∙◌, ap, subst, arith}
 use Rattle.bp_layout.specs.Words.{Image, word, block_count, block_of, slot_word}
-use Rattle.bp_shapes.specs.Trail.{Trail, word_on, block_on, IsSkeleton}
+use Rattle.bp_changes.specs.Trail.{Trail, word_on, block_on, IsSkeleton}
 use Rattle.bp_layout.specs.Stores.{EqualBut}
-use Rattle.bp_shapes.specs.Forest.{IsTreePointer}
-use Rattle.bp_shapes.proofs.ForestLaws.{pointers, skeleton}
-use Rattle.bp_shapes.proofs.PathTrails.{word-placed, low-placed}
+use Rattle.bp_changes.specs.Forest.{IsTreePointer}
+use Rattle.bp_changes.proofs.ForestLaws.{pointers, skeleton}
+use Rattle.bp_changes.proofs.PathTrails.{word-placed, low-placed}
 use Rattle.bp_cow.specs.Counting.{IsTreeWord}
 use Rattle.bp_cow.specs.Adds.{IsTakenWord}
 use Rattle.bp_free.specs.Set.{TakesNumber}

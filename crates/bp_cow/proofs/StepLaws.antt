@@ -3,10 +3,10 @@ use Rattle.std.proofs.Common.{◌≡◌, ◌≢◌, ◌⊎◌, ℕ, ◌+◌, ◌
 use Rattle.std.specs.List.{slice_index}
 use Rattle.std.proofs.lemmas.Bool.{cases_eq}
 use Rattle.bp_layout.specs.Words.{Image, word, block_count, block_of}
-use Rattle.bp_shapes.specs.Trail.{Trail, word_on, block_on, ArePointers}
-use Rattle.bp_shapes.specs.Forest.{IsTreePointer}
-use Rattle.bp_shapes.proofs.ForestLaws.{pointers}
-use Rattle.bp_shapes.proofs.PathTrails.{trail_of-next}
+use Rattle.bp_changes.specs.Trail.{Trail, word_on, block_on, ArePointers}
+use Rattle.bp_changes.specs.Forest.{IsTreePointer}
+use Rattle.bp_changes.proofs.ForestLaws.{pointers}
+use Rattle.bp_changes.proofs.PathTrails.{trail_of-next}
 use Rattle.bp_free.specs.Set.{Set, TakesNumber, has}
 use Rattle.pm_region.specs.Memory.{Memory, current_words}
 use Rattle.bp_cow.specs.Counting.{IsTreeWord}

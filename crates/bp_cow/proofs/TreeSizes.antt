@@ -5,8 +5,8 @@ use Rattle.bp_layout.specs.Reached.{IsReached}
 use Rattle.bp_layout.specs.Reached.IsReached.{inode_file}
 use Rattle.bp_layout.specs.WordPaths.{inode_path, WordPath}
 use Rattle.bp_layout.specs.Words.{Image, word, height_of}
-use Rattle.bp_shapes.specs.Forest.{root_trail}
-use Rattle.bp_shapes.specs.Trail.{trail_of}
+use Rattle.bp_changes.specs.Forest.{root_trail}
+use Rattle.bp_changes.specs.Trail.{trail_of}
 use Rattle.bp_cow.specs.declared.touched.TreeSize.{TreeSize}
 use Rattle.bp_cow.specs.CanCommit.{IsTreeIn}
 use Rattle.bp_cow.proofs.RunWrites.{root_path_trail}

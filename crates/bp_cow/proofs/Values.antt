@@ -6,8 +6,8 @@ use Rattle.std.proofs.lemmas.Slice.Eq.{bytes_eq-Decides}
 use Rattle.bp_layout.specs.Words.{Image}
 use Rattle.bp_layout.specs.Members.{Has}
 use Rattle.bp_layout.specs.WellFormed.{IsWellFormed}
-use Rattle.bp_shapes.specs.Trail.{Trail, word_on, trail_of}
-use Rattle.bp_shapes.proofs.TrailLaws.{cases_trail}
+use Rattle.bp_changes.specs.Trail.{Trail, word_on, trail_of}
+use Rattle.bp_changes.proofs.TrailLaws.{cases_trail}
 use Rattle.bp_cow.specs.declared.touched.Run.{Run}
 use Rattle.bp_cow.specs.declared.touched.Touched.{Touched}
 use Rattle.bp_cow.specs.Job.{Job, end_of, word_trail, value_upto, laid_on}

@@ -5,10 +5,10 @@ use Rattle.std.proofs.lemmas.Bool.{cases_lt}
 use Rattle.std.proofs.lemmas.List.{get_or-take}
 use Rattle.bp_layout.specs.Members.{Has}
 use Rattle.bp_layout.specs.Words.{Image}
-use Rattle.bp_shapes.specs.Trail.{trail_of}
-use Rattle.bp_shapes.specs.Forest.{IsTreePointer}
-use Rattle.bp_shapes.proofs.ForestLaws.{short}
-use Rattle.bp_shapes.proofs.PathTrails.{trail_of-next}
+use Rattle.bp_changes.specs.Trail.{trail_of}
+use Rattle.bp_changes.specs.Forest.{IsTreePointer}
+use Rattle.bp_changes.proofs.ForestLaws.{short}
+use Rattle.bp_changes.proofs.PathTrails.{trail_of-next}
 use Rattle.bp_cow.specs.declared.touched.Run.{Run}
 use Rattle.bp_cow.specs.declared.touched.Touched.{Touched}
 use Rattle.bp_cow.specs.Leaves.{IsLeaf}

@@ -5,12 +5,12 @@ use Rattle.std.proofs.lemmas.Bool.{cases_eq}
 use Rattle.bp_layout.specs.Members.{Has}
 use Rattle.bp_layout.specs.Words.{Image, block_count}
 use Rattle.bp_layout.specs.WellFormed.{IsWellFormed}
-use Rattle.bp_shapes.specs.Trail.{block_on, place_on, trail_of, IsPlaced}
-use Rattle.bp_shapes.specs.Trail.IsPlaced.{at_top, in_block}
-use Rattle.bp_shapes.specs.Forest.{IsTreePointer}
-use Rattle.bp_shapes.proofs.ForestLaws.{skeleton}
-use Rattle.bp_shapes.proofs.ExactSets.{unheld_exact}
-use Rattle.bp_shapes.proofs.PathTrails.{prefix-trail_of}
+use Rattle.bp_changes.specs.Trail.{block_on, place_on, trail_of, IsPlaced}
+use Rattle.bp_changes.specs.Trail.IsPlaced.{at_top, in_block}
+use Rattle.bp_changes.specs.Forest.{IsTreePointer}
+use Rattle.bp_changes.proofs.ForestLaws.{skeleton}
+use Rattle.bp_changes.proofs.ExactSets.{unheld_exact}
+use Rattle.bp_changes.proofs.PathTrails.{prefix-trail_of}
 use Rattle.bp_cow.specs.declared.touched.Run.{Run}
 use Rattle.bp_cow.specs.declared.touched.Touched.{Touched}
 use Rattle.bp_cow.specs.Touched.{run_path, run_way, run_end, run_leaves, leaves_of, way_of, above, path_of, word_paths, job_of}

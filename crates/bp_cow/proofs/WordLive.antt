@@ -9,9 +9,9 @@ use Rattle.std.proofs.lemmas.Slice.Eq.{bytes_eq-Decides}
 use Rattle.bp_layout.specs.Members.{Has}
 use Rattle.bp_layout.specs.WordPaths.{WordPath}
 use Rattle.bp_layout.specs.Words.{Image, word, height_of}
-use Rattle.bp_shapes.specs.Forest.{along, tree_trail, IsForest, IsTreePointer}
-use Rattle.bp_shapes.specs.Trail.{Trail, trail_of}
-use Rattle.bp_shapes.proofs.ForestLaws.{HasFewDigits}
+use Rattle.bp_changes.specs.Forest.{along, tree_trail, IsForest, IsTreePointer}
+use Rattle.bp_changes.specs.Trail.{Trail, trail_of}
+use Rattle.bp_changes.proofs.ForestLaws.{HasFewDigits}
 use Rattle.bp_cow.specs.declared.touched.TreeSize.{TreeSize}
 use Rattle.bp_cow.specs.CanCommit.{IsTreeIn}
 use Rattle.bp_cow.specs.Counting.{IsTreeWord}

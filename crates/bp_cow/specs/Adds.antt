@@ -5,7 +5,7 @@ use Rattle.pm_epochs.specs.May.{AnyAt, StoresMay}
 use Rattle.bp_layout.specs.Same.{Same}
 use Rattle.pm_region.specs.Memory.{Memory}
 use Rattle.bp_free.specs.Set.{Set, has, members}
-use Rattle.bp_commit.specs.Performs.{InBlock}
+use Rattle.bp_changes.specs.Performs.{InBlock}
 use Rattle.pm_region.specs.Safe.{AddsMay, AddsCommit}
 
 -- the word is in this block, or it is the word at this place

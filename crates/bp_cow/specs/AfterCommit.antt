@@ -7,8 +7,8 @@ use Rattle.bp_layout.specs.Members.{Has}
 use Rattle.bp_layout.specs.Reached.{IsReached}
 use Rattle.bp_layout.specs.Tree.{HasBlock, IsFull}
 use Rattle.bp_layout.specs.Words.{Image, height_of, word}
-use Rattle.bp_shapes.specs.Forest.{IsTreePointer, tree_trail}
-use Rattle.bp_shapes.specs.Trail.{LeadsTo, Trail, word_on}
+use Rattle.bp_changes.specs.Forest.{IsTreePointer, tree_trail}
+use Rattle.bp_changes.specs.Trail.{LeadsTo, Trail, word_on}
 use Rattle.bp_cow.specs.Committed.{after_commit, changes_of}
 use Rattle.bp_cow.specs.Touched.{end_trail, job_of, laid_word, run_end, run_path, touched_trail}
 use Rattle.bp_cow.specs.declared.touched.Run.{Run}

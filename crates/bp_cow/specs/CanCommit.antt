@@ -8,8 +8,8 @@ use Rattle.bp_layout.specs.Inode.{root_of, size_of}
 use Rattle.bp_layout.specs.Reached.{IsReached}
 use Rattle.bp_layout.specs.WordPaths.{inode_path}
 use Rattle.bp_limits.specs.Limits.{root_field, super_root}
-use Rattle.bp_shapes.specs.Forest.{root_trail, tree_trail, IsForest, IsTreePointer}
-use Rattle.bp_shapes.specs.Trail.{trail_of}
+use Rattle.bp_changes.specs.Forest.{root_trail, tree_trail, IsForest, IsTreePointer}
+use Rattle.bp_changes.specs.Trail.{trail_of}
 use Rattle.bp_cow.specs.Touched.{IsTouched, run_end, run_path, path_of, word_paths, end_trail, touched_trail}
 use Rattle.bp_cow.specs.declared.touched.Run.{Run}
 use Rattle.bp_cow.specs.declared.touched.Touched.{Touched}

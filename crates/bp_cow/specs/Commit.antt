@@ -12,9 +12,9 @@ use Rattle.bp_layout.specs.Same.{Same}
 use Rattle.bp_layout.specs.WellFormed.{IsWellFormed}
 use Rattle.bp_layout.specs.WordPaths.{address}
 use Rattle.bp_layout.specs.Words.{Image, block_count}
-use Rattle.bp_shapes.specs.Forest.{IsForest, IsTreePointer}
-use Rattle.bp_shapes.specs.Sets.{in_snapshot_of}
-use Rattle.bp_commit.specs.Performs.{TakesBlocks}
+use Rattle.bp_changes.specs.Forest.{IsForest, IsTreePointer}
+use Rattle.bp_changes.specs.Sets.{in_snapshot_of}
+use Rattle.bp_changes.specs.Performs.{TakesBlocks}
 use Rattle.bp_cow.specs.CanCommit.{CanCommit}
 use Rattle.bp_cow.specs.Committed.{IsCommitted, after_commit}
 use Rattle.bp_cow.specs.Counting.{IsTreeWord}

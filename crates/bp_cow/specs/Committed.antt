@@ -3,8 +3,8 @@ use Rattle.std.specs.Prelude.{◌≡◌, ◌≢◌, ◌⊎◌, ℕ, suc, ◌%◌
 use Rattle.bp_limits.specs.Limits.{block_size, block_words, super_root}
 use Rattle.bp_layout.specs.Words.{Image, word, height_of}
 use Rattle.bp_layout.specs.Inode.{root_of}
-use Rattle.bp_shapes.specs.Trail.{Trail, word_on, block_on, IsSkeleton, LeadsTo}
-use Rattle.bp_shapes.specs.Forest.{tree_trail}
+use Rattle.bp_changes.specs.Trail.{Trail, word_on, block_on, IsSkeleton, LeadsTo}
+use Rattle.bp_changes.specs.Forest.{tree_trail}
 use Rattle.bp_cow.specs.Job.{Job, value_upto, laid_on}
 
 -- the new value of a touched word; for any other word its old value, with the bytes of the runs written over it

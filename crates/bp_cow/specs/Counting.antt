@@ -4,8 +4,8 @@ use Rattle.bp_limits.specs.Limits.{super_root}
 use Rattle.bp_layout.specs.Inode.{root_of}
 use Rattle.bp_layout.specs.Reached.{IsReached}
 use Rattle.bp_layout.specs.Words.{Image, word, height_of}
-use Rattle.bp_shapes.specs.Forest.{tree_trail}
-use Rattle.bp_shapes.specs.Trail.{Trail}
+use Rattle.bp_changes.specs.Forest.{tree_trail}
+use Rattle.bp_changes.specs.Trail.{Trail}
 
 -- a content word of a reachable tree that begins below the tree's size in `bound`
 pub record IsTreeWord (image : Image) (bound : ℕ → ℕ) (q : Trail) : Type 0 where

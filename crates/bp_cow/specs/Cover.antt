@@ -1,7 +1,7 @@
 -- The cover of touched words.
 use Rattle.std.specs.Prelude.{◌≡◌, ◌≢◌, ℕ, zero, suc, ◌+◌, ◌-◌, ◌/◌, ◌<◌, ◌≤◌, List, [], ◌∷◌, length, take}
 use Rattle.bp_layout.specs.Words.{Image, block_count}
-use Rattle.bp_shapes.specs.Trail.{block_on, trail_of}
+use Rattle.bp_changes.specs.Trail.{block_on, trail_of}
 use Rattle.bp_layout.specs.Need.{cover_of, copies_of}
 use Rattle.bp_layout.specs.WordPaths.{WordPath, is_pointed}
 use Rattle.bp_cow.specs.Touched.{run_path, run_end, path_of, word_paths, all_paths}

@@ -1,7 +1,7 @@
 -- A common prefix of all touched paths and the place of its word; and the results of a search of all ways.
 use Rattle.std.specs.Prelude.{◌≡◌, ◌≢◌, ℕ, ◌<◌, length}
 use Rattle.bp_layout.specs.Words.{Image}
-use Rattle.bp_shapes.specs.Trail.{block_on, place_on, trail_of, IsPlaced}
+use Rattle.bp_changes.specs.Trail.{block_on, place_on, trail_of, IsPlaced}
 use Rattle.bp_cow.specs.Cover.{end_path, BeginAlike, CoverHas}
 use Rattle.bp_cow.specs.declared.touched.Touched.{Touched}
 use Rattle.bp_cow.specs.Ways.{AreShared}

@@ -1,7 +1,7 @@
 -- The task of a commit, independent of the code's types.
 use Rattle.std.specs.Prelude.{◌≡◌, ℕ, zero, suc, ◌+◌, ◌<◌, ◌≤◌, List, [], ◌∷◌, length, Bool, false, ◌&&◌, ◌||◌, ◌==◌, nat_le, nat_lt, Option, None, Some, bytes_eq, if◌then◌else◌}
 use Rattle.bp_layout.specs.Words.{Image}
-use Rattle.bp_shapes.specs.Trail.{Trail, word_on, trail_of}
+use Rattle.bp_changes.specs.Trail.{Trail, word_on, trail_of}
 use Rattle.bp_cow.specs.Copies.{WordPatch}
 
 -- The task of a commit. A way is the path of the pointer to a block with touched words: first come the ways to the

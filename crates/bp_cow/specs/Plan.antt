@@ -4,8 +4,8 @@ use Rattle.pm_region.specs.Memory.{Memory, current_words}
 use Rattle.bp_limits.specs.Limits.{block_words}
 use Rattle.bp_free.specs.Set.{Set, has, members}
 use Rattle.bp_layout.specs.Words.{Image, word, block_count}
-use Rattle.bp_shapes.specs.Trail.{block_on, place_on, IsPlaced}
-use Rattle.bp_shapes.specs.Forest.{IsExactSet, IsForest, IsTreePointer}
+use Rattle.bp_changes.specs.Trail.{block_on, place_on, IsPlaced}
+use Rattle.bp_changes.specs.Forest.{IsExactSet, IsForest, IsTreePointer}
 use Rattle.bp_cow.specs.Copies.{pointing_to}
 use Rattle.bp_cow.specs.Counting.{IsTreeWord}
 use Rattle.bp_cow.specs.Job.{Job, ways, prefix, end_of, word_trail, IsRenewed, value_upto, laid_on, turned_for, turned_upto}

@@ -3,8 +3,8 @@ use Rattle.std.specs.Prelude.{◌≡◌, ◌≢◌, ◌⊎◌, ℕ, ◌<◌, ◌
 use Rattle.bp_free.specs.Set.{Set, has}
 use Rattle.bp_limits.specs.Limits.{block_words}
 use Rattle.bp_layout.specs.Words.{Image, block_count, slot_word}
-use Rattle.bp_shapes.specs.Trail.{Trail, block_on, LeadsTo}
-use Rattle.bp_shapes.specs.Forest.{IsTreePointer}
+use Rattle.bp_changes.specs.Trail.{Trail, block_on, LeadsTo}
+use Rattle.bp_changes.specs.Forest.{IsTreePointer}
 use Rattle.bp_cow.specs.Job.{IsRenewed}
 use Rattle.bp_cow.specs.Plan.{Plan, CanMake, IsOnWay}
 

@@ -2,7 +2,7 @@
 use Rattle.std.specs.Prelude.{◌≡◌, ◌≢◌, ◌⊎◌, ℕ, ◌%◌, ◌<◌, ◌≤◌, ◌∷◌, length, Bool, true, false, Option, None, unwrap_or, slice_set}
 use Rattle.bp_limits.specs.Limits.{block_size, block_words, super_root}
 use Rattle.bp_layout.specs.Words.{Image, word, block_count}
-use Rattle.bp_shapes.specs.Trail.{Trail, word_on, block_on, place_on, IsSkeleton, IsPlaced, LeadsTo}
+use Rattle.bp_changes.specs.Trail.{Trail, word_on, block_on, place_on, IsSkeleton, IsPlaced, LeadsTo}
 
 -- The state of an image while a commit makes its copies. `Counts`: the content words that count. `renewed`: the pointers
 -- that lead to a block taken by this commit. `value`: the values of the touched words. `laid`: the other words of the

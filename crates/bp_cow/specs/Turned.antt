@@ -5,7 +5,7 @@ use Rattle.bp_free.specs.Set.{Set, has, members}
 use Rattle.bp_layout.specs.Inode.{size_of}
 use Rattle.bp_layout.specs.Reached.{IsReached}
 use Rattle.bp_layout.specs.WellFormed.{IsWellFormed}
-use Rattle.bp_shapes.specs.Forest.{IsTreePointer}
+use Rattle.bp_changes.specs.Forest.{IsTreePointer}
 use Rattle.bp_cow.specs.Adds.{AddsCopyCommit}
 use Rattle.bp_cow.specs.Counting.{IsTreeWord}
 use Rattle.bp_cow.specs.Job.{ways, copies, value_upto, laid_on, IsRenewed}

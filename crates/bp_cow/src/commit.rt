@@ -5,7 +5,7 @@ ghost use Rattle.bp_free.specs.Set.{Set, has};
 ghost use Rattle.bp_free.specs.Parts.{KeepsSets};
 ghost use Rattle.bp_limits.specs.Limits.{block_words};
 ghost use Rattle.bp_layout.specs.Words.{word, block_count};
-ghost use Rattle.bp_shapes.specs.Forest.{IsExactSet, IsTreePointer};
+ghost use Rattle.bp_changes.specs.Forest.{IsExactSet, IsTreePointer};
 ghost use Rattle.pm_epochs.specs.Crash.{commit};
 ghost use Rattle.pm_region.specs.Memory.{words_in, room_in, Adds};
 ghost use Rattle.bp_cow.specs.CanCommit.{IsSetOfSnapshot};
@@ -15,7 +15,7 @@ ghost use Rattle.bp_cow.specs.Plan.{Plan};
 ghost use Rattle.bp_cow.specs.Touched.{IsTouched, only_value};
 ghost use Rattle.bp_cow.specs.Turned.{CanTurn, HasTurned};
 ghost use Rattle.bp_cow.specs.Ways.{AreShared};
-ghost use Rattle.bp_shapes.specs.Sets.{in_snapshot_of};
+ghost use Rattle.bp_changes.specs.Sets.{in_snapshot_of};
 
 use crate::build::copy_subtree;
 use crate::covers::FoundWays;
@@ -23,9 +23,8 @@ use crate::release::free_replaced;
 use crate::touched::Touched;
 use crate::ways::Shared;
 use bp_free::{Blocks, Parts};
-use bp_inplace::commit_word;
 use bp_limits::BLOCK_SIZE;
-use pm_region::Region;
+use pm_region::{Region, commit_word};
 
 /// Copies the blocks from the cover down with the touched words in place, and sets the cover's pointer to the copies.
 /// The old blocks are not free yet.

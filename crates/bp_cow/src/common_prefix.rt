@@ -1,7 +1,7 @@
 //! The number of slots that a path shares with the ways to some leaves of a run.
 
 ghost use Rattle.std.specs.Prelude.{◌≡◌, ◌≢◌, ◌↔◌, ℕ, ◌+◌, ◌-◌, ◌*◌, ◌/◌, ◌^◌, ◌<◌, ◌≤◌, length, slice_index, IsTrue};
-ghost use Rattle.bp_shapes.specs.Trail.{trail_of};
+ghost use Rattle.bp_changes.specs.Trail.{trail_of};
 ghost use Rattle.bp_cow.specs.Touched.{IsRun, run_leaves, run_way};
 ghost use Rattle.bp_cow.specs.Ways.{IsShared};
 

@@ -10,7 +10,7 @@ ghost use Rattle.bp_cow.specs.Found.{AreWaysIn, IsCoverIn};
 use crate::touched::{Run, Touched};
 use crate::ways::Shared;
 use bp_limits::{BLOCK_WORDS, SUPER_ROOT};
-use bp_tree::Slots;
+use bp_read::Slots;
 use pm_region::Region;
 
 impl Run<'_> {

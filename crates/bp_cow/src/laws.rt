@@ -5,7 +5,7 @@ ghost use Rattle.bp_layout.specs.Free.{AreFreeBlocks};
 ghost use Rattle.bp_layout.specs.Inode.{size_of};
 ghost use Rattle.bp_layout.specs.Members.{Has};
 ghost use Rattle.bp_layout.specs.Reached.{IsReached};
-ghost use Rattle.bp_shapes.specs.Trail.{Trail};
+ghost use Rattle.bp_changes.specs.Trail.{Trail};
 ghost use Rattle.bp_layout.specs.WordPaths.{WordPath};
 ghost use Rattle.bp_layout.specs.Words.{byte_of};
 ghost use Rattle.bp_layout.specs.WellFormed.{IsWellFormed};

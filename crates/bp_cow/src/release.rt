@@ -2,7 +2,7 @@
 
 ghost use Rattle.std.specs.Prelude.{◌≡◌, ◌+◌, ◌<◌, ◌≤◌, length, true, false};
 ghost use Rattle.bp_free.specs.Set.{TakesNumber, has};
-ghost use Rattle.bp_shapes.specs.Trail.{block_on};
+ghost use Rattle.bp_changes.specs.Trail.{block_on};
 ghost use Rattle.bp_layout.specs.Words.{block_count};
 ghost use Rattle.pm_region.specs.Memory.{words_in};
 ghost use Rattle.bp_cow.specs.CanCommit.{IsSetOfSnapshot};
@@ -16,7 +16,7 @@ use crate::copies::give;
 use crate::touched::Touched;
 use crate::ways::{Shared, Way, is_new};
 use bp_free::Blocks;
-use bp_tree::load_slot;
+use bp_read::load_slot;
 use pm_region::Region;
 
 /// Frees a block, unless it is in the snapshot.

@@ -1,6 +1,7 @@
 //! Tests of real files. Rows over the devices in memory show the rest (docs/rows.md).
 
-use bp_io::{DiskFiles, FairSource, MemSink, StdSink, StdSource};
+use bp_disk::{DiskFiles, StdSink, StdSource};
+use bp_io::{FairSource, MemSink};
 use bp_shell::{Status, run};
 use std::fs;
 

@@ -6,10 +6,10 @@ use Rattle.bp_limits.specs.Limits.{block_size}
 use Rattle.bp_layout.specs.Words.{Image, height_of}
 use Rattle.bp_layout.specs.Tree.{byte, content, node}
 use Rattle.bp_plain.specs.Export.{is_zeros, stretch, stretches}
-use Rattle.bp_tree.specs.Bytes.{content_part}
-use Rattle.bp_tree.specs.Leaves.{HasNoLeafFrom, IsNextLeaf}
-use Rattle.bp_tree.proofs.ContentParts.{content_part-is}
-use Rattle.bp_tree.proofs.StoredBytes.{null_part}
+use Rattle.bp_read.specs.Bytes.{content_part}
+use Rattle.bp_read.specs.Leaves.{HasNoLeafFrom, IsNextLeaf}
+use Rattle.bp_read.proofs.ContentParts.{content_part-is}
+use Rattle.bp_read.proofs.StoredBytes.{null_part}
 
 pub length_content : (image : Image) (root size : ℕ) → length (content image root size) ≡ size
 length_content image root size = length-map-range_with_len (byte image root) 0 size

@@ -6,7 +6,7 @@ use Rattle.bp_layout.specs.Words.{Image}
 use Rattle.bp_plain.specs.Calls.{Call}
 use Rattle.bp_plain.specs.PlainTree.{PathMap}
 use Rattle.bp_replies.specs.Gathering.{waiting}
-use Rattle.bp_tree.specs.declared.tree.Tree.{Tree}
+use Rattle.bp_read.specs.declared.tree.Tree.{Tree}
 use Rattle.bp_export.specs.Report.{calls_to_make}
 use Rattle.bp_export.specs.Walking.{Place, Tours, WalkStandsAt, itself}
 use Rattle.bp_export.specs.declared.fault.Fault.{Fault}

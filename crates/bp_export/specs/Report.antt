@@ -13,7 +13,7 @@ use Rattle.bp_replies.specs.Gathering.{PassesOn, waiting}
 use Rattle.bp_replies.specs.Taking.{TakesPart}
 use Rattle.bp_replies.specs.declared.replies.Replies.{Replies}
 use Rattle.bp_script.specs.Export.{call_lines}
-use Rattle.bp_tree.specs.declared.tree.Tree.{Tree}
+use Rattle.bp_read.specs.declared.tree.Tree.{Tree}
 use Rattle.pm_region.specs.Memory.{Memory, current_words}
 
 -- The lines of these calls were added to those that wait for a sink; or the sink failed, and took a proper prefix of

@@ -9,9 +9,9 @@ ghost use Rattle.bp_layout.specs.WellFormed.{IsWellFormed};
 ghost use Rattle.pm_region.specs.Memory.{words_in};
 
 use crate::rows::{ENTRY, entry_row, leaf_count};
-use bp_dirs::EntryView;
-use bp_inodes::{get, tree_of};
 use bp_layout::Kind;
+use bp_read::EntryView;
+use bp_read::inodes::{get, tree_of};
 use pm_region::Region;
 
 /// Whether some path below directory `i` has more than `left` bytes. It allocates no memory, and descends no further

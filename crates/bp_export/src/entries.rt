@@ -12,9 +12,10 @@ ghost use Rattle.bp_limits.specs.CallLimits.{max_name};
 ghost use Rattle.pm_region.specs.Memory.{words_in};
 
 use crate::rows::{ENTRY, entry_row, leaf_count};
-use bp_dirs::{EntryView, count};
-use bp_inodes::tree_of;
 use bp_limits::MAX_NAME;
+use bp_read::EntryView;
+use bp_read::directory::count;
+use bp_read::inodes::tree_of;
 use pm_region::Region;
 use std::alloc::{AllocError, Global};
 use std::marker::Model;

@@ -12,8 +12,8 @@ use crate::lines::report;
 use bp_io::{Failed, Sink};
 use bp_limits::BLOCK_SIZE;
 use bp_plain::Call;
+use bp_read::{Tree, next_leaf, read};
 use bp_replies::Replies;
-use bp_tree::{Tree, next_leaf, read};
 use pm_region::Region;
 
 /// Whether all of these bytes are 0.

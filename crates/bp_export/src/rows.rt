@@ -7,7 +7,7 @@ ghost use Rattle.bp_limits.specs.Limits.{block_entries, entry_size};
 ghost use Rattle.pm_region.specs.Memory.{words_in};
 
 use bp_limits::{BLOCK_ENTRIES, ENTRY_SIZE, ENTRY_WORDS};
-use bp_tree::{Tree, leaf_words};
+use bp_read::{Tree, leaf_words};
 use pm_region::Region;
 
 /// The number of words of an entry, as a length.

@@ -24,12 +24,12 @@ use crate::files::export_file;
 use crate::lines::report;
 use crate::work::Work;
 use bp_free::Counts;
-use bp_inodes::get;
 use bp_io::Sink;
 use bp_layout::Kind;
 use bp_limits::{MAX_PATH, ROOT_INUMBER};
 use bp_plain::Call;
-use bp_tree::Tree;
+use bp_read::Tree;
+use bp_read::inodes::get;
 use pm_region::Region;
 use std::alloc::{AllocError, Global};
 

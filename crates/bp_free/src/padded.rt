@@ -36,8 +36,8 @@ impl Blank for u64 {
 }
 
 /// A list of a fixed length. Memory for all entries is reserved when it is made. The entries up to the last one that
-/// was ever set are stored, and the others are blank. So if only entries in prefix are set, little of that memory is
-/// touched.
+/// was ever set are stored, and the others are blank. So if only low entries are set, little of that
+/// memory is touched.
 #[derive(Drop)]
 pub(crate) struct Padded<T: Blank> {
     stored: Vec<T>,

@@ -16,7 +16,7 @@ impl Access {
     ghost use Rattle.bp_io.specs.Files.{makes, may_change};
 
     /// Returns whether an attached file may be written.
-    pub(crate) fn may_change(self) -> bool
+    pub fn may_change(self) -> bool
         ensures { result ≡ may_change self }
     {
         match self {
@@ -26,7 +26,7 @@ impl Access {
     }
 
     /// Returns whether a name that does not exist gets a file.
-    pub(crate) fn makes(self) -> bool
+    pub fn makes(self) -> bool
         ensures { result ≡ makes self }
     {
         match self {

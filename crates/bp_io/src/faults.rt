@@ -3,57 +3,18 @@
 ghost use Rattle.std.specs.Prelude.{◌≡◌, ◌≤◌, ◌↔◌, IsErr};
 ghost use Rattle.bp_io.specs.Causes.{HasCause, Rose};
 
-use std::io;
-
 /// Error: the environment failed in this call. The object counted the fault: its count of faults rose by at least one,
 /// or is at `u64::MAX`, where it stops.
 #[derive(Clone, Copy, Debug, PartialEq, Eq)]
 pub struct Failed;
 
 /// Counts a fault.
-pub(crate) fn raise(faults: &mut u64) -> Failed
+pub fn raise(faults: &mut u64) -> Failed
     ensures later { faults.old ≤ faults.new }
     ensures rose { Rose faults.old faults.new }
 {
     *faults = faults.saturating_add(1);
     Failed
-}
-
-/// The faults of a device of the system: their number, and the last one.
-#[derive(Drop)]
-pub(crate) struct SystemFaults {
-    pub(crate) count: u64,
-    pub(crate) last: Option<io::Error>,
-}
-
-impl SystemFaults {
-    pub(crate) fn none() -> Self
-        ensures { result.count ≡ 0 }
-    {
-        SystemFaults {
-            count: 0,
-            last: None,
-        }
-    }
-
-    /// Counts and stores a fault.
-    pub(crate) fn raise(&mut self, error: io::Error) -> Failed
-        ensures later { self.old.count ≤ self.new.count }
-        ensures rose { Rose self.old.count self.new.count }
-    {
-        self.last = Some(error);
-        raise(&mut self.count)
-    }
-
-    /// Turns an error of std into a fault.
-    pub(crate) fn or_fault(&mut self, done: io::Result<()>) -> Result<(), Failed>
-        ensures { HasCause self.old.count self.new.count result }
-    {
-        match done {
-            Ok(()) => Ok(()),
-            Err(error) => Err(self.raise(error)),
-        }
-    }
 }
 
 /// The calls of an object in memory, of which those fail whose numbers are in a list.

@@ -18,11 +18,10 @@ ghost use Rattle.bp_path.specs.FoundEntries.{FailsAt, FindsParent, IsEntryOf, Wa
 
 use crate::names::{split_first, split_last};
 use crate::path::Path;
-use bp_dirs::{Finder, Hinted, Scan};
-use bp_inodes::get;
 use bp_layout::{Hints, Kind};
 use bp_limits::ROOT_INUMBER;
-use bp_tree::Tree;
+use bp_read::inodes::get;
+use bp_read::{Finder, Hinted, Scan, Tree};
 use pm_region::Region;
 
 /// The directory entry that a path finds, and the inode to which it refers. The path `/` has an inode and no entry.

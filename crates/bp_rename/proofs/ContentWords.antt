@@ -14,12 +14,12 @@ use Rattle.bp_layout.specs.WellFormed.{IsWellFormed}
 use Rattle.bp_layout.specs.WordPaths.{WordPath, digits, inode_path, tree_path}
 use Rattle.bp_layout.specs.Words.{Image, word, height_of}
 use Rattle.bp_changes.specs.Commits.{CommitsOnly}
-use Rattle.bp_shapes.specs.Forest.{along, root_trail, tree_trail, IsForest, IsTreePointer}
-use Rattle.bp_shapes.specs.Trail.{Trail, trail_of}
-use Rattle.bp_shapes.proofs.ForestLaws.{skeleton, word-tree}
-use Rattle.bp_shapes.proofs.FreeSets.{content_prefixes, content_no_pointer}
-use Rattle.bp_tree.proofs.Digits.{length-digits}
-use Rattle.bp_tree.proofs.PathLaws.{small_digits}
+use Rattle.bp_changes.specs.Forest.{along, root_trail, tree_trail, IsForest, IsTreePointer}
+use Rattle.bp_changes.specs.Trail.{Trail, trail_of}
+use Rattle.bp_changes.proofs.ForestLaws.{skeleton, word-tree}
+use Rattle.bp_changes.proofs.FreeSets.{content_prefixes, content_no_pointer}
+use Rattle.bp_read.proofs.Digits.{length-digits}
+use Rattle.bp_read.proofs.PathLaws.{small_digits}
 use Rattle.bp_cow.specs.CanCommit.{CanCommit, IsTreeIn}
 use Rattle.bp_cow.specs.Committed.{IsCommitted, after_commit, changes_of}
 use Rattle.bp_cow.specs.Counting.{IsTreeWord}

@@ -9,11 +9,11 @@ use Rattle.pm_region.specs.Memory.{Adds, Memory, current_words}
 use Rattle.pm_region.specs.Safe.{AddsMay}
 use Rattle.pm_region.proofs.MayLaws.{each_after, may_weaker}
 use Rattle.pm_region.proofs.MemoryLaws.{adds_both, current_words-adds}
-use Rattle.bp_commit.proofs.PerformsLaws.{same_equivalence}
-use Rattle.bp_dirs.specs.Written.{HasNameAt}
-use Rattle.bp_tree.specs.Within.{IsWithin}
-use Rattle.bp_commit.specs.Performs.{AddsTaking, IsOpen}
-use Rattle.bp_commit.specs.Performs.IsOpen.{in_live}
+use Rattle.bp_changes.proofs.PerformsLaws.{same_equivalence}
+use Rattle.bp_read.specs.Written.{HasNameAt}
+use Rattle.bp_read.specs.Within.{IsWithin}
+use Rattle.bp_changes.specs.Performs.{AddsTaking, IsOpen}
+use Rattle.bp_changes.specs.Performs.IsOpen.{in_live}
 use Rattle.bp_layout.specs.Directory.{EntryNames, empty_slot, entry_count, inumber_at, name_at}
 use Rattle.bp_layout.specs.Inode.{ContentStandsAt, kind_of, root_of, size_of}
 use Rattle.bp_layout.specs.Reached.{IsReached}

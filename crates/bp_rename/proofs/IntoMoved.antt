@@ -5,9 +5,9 @@ use Rattle.pm_epochs.specs.May.{AnyAt}
 use Rattle.pm_region.specs.Memory.{Adds, Memory, current_words, room_in}
 use Rattle.pm_region.specs.Safe.{AddsMay}
 use Rattle.pm_region.proofs.SafeLaws.{room_after_quiet}
-use Rattle.bp_dirs.specs.Written.{HasNameAt}
-use Rattle.bp_tree.specs.Within.{IsWithin}
-use Rattle.bp_commit.specs.Performs.{PerformsThawed, room_for}
+use Rattle.bp_read.specs.Written.{HasNameAt}
+use Rattle.bp_read.specs.Within.{IsWithin}
+use Rattle.bp_changes.specs.Performs.{PerformsThawed, room_for}
 use Rattle.bp_free.specs.Set.{Set, has}
 use Rattle.bp_layout.specs.Directory.{empty_slot, entry_count, name_at}
 use Rattle.bp_layout.specs.Inode.{ContentStandsAt, kind_of, root_of, size_of}
@@ -25,15 +25,15 @@ use Rattle.bp_changes.proofs.ChangesOver.{carries_over}
 use Rattle.bp_changes.proofs.Committed.{commit_moves}
 use Rattle.bp_changes.proofs.Move.{moved_well_formed, moves_carry}
 use Rattle.bp_changes.proofs.Named.{carried_counts}
-use Rattle.bp_shapes.specs.Forest.{tree_trail}
-use Rattle.bp_shapes.specs.Sets.{AreExact}
-use Rattle.bp_shapes.specs.Trail.{block_on, trail_of}
+use Rattle.bp_changes.specs.Forest.{tree_trail}
+use Rattle.bp_changes.specs.Sets.{AreExact}
+use Rattle.bp_changes.specs.Trail.{block_on, trail_of}
 use Rattle.bp_layout.specs.Thaw.{thawed}
 use Rattle.bp_layout.specs.Tree.{node}
 use Rattle.bp_layout.specs.Reached.IsReached.{inode_file}
 use Rattle.bp_layout.proofs.TreeLaws.{node-kept}
-use Rattle.bp_shapes.proofs.FreeSets.{wf_forest}
-use Rattle.bp_shapes.proofs.MovedSets.{carried_exact}
+use Rattle.bp_changes.proofs.FreeSets.{wf_forest}
+use Rattle.bp_changes.proofs.MovedSets.{carried_exact}
 use Rattle.bp_cow.specs.CanCommit.{CanCommit}
 use Rattle.bp_cow.specs.Commit.{CommitsTouched, HasLooseCover, HasRoom}
 use Rattle.bp_cow.specs.Committed.{after_commit, changes_of}

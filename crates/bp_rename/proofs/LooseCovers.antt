@@ -12,11 +12,11 @@ use Rattle.bp_layout.specs.WellFormed.{IsWellFormed}
 use Rattle.bp_layout.specs.WordPaths.{WordPath, tree_path}
 use Rattle.bp_layout.specs.Words.{Image, block_of, height_of}
 use Rattle.bp_layout.proofs.ThawLaws.{loose-on}
-use Rattle.bp_shapes.specs.Forest.{IsTreePointer, tree_trail}
-use Rattle.bp_shapes.specs.Trail.{Trail, block_on, place_on, trail_of}
-use Rattle.bp_shapes.proofs.ForestLaws.{word-tree}
+use Rattle.bp_changes.specs.Forest.{IsTreePointer, tree_trail}
+use Rattle.bp_changes.specs.Trail.{Trail, block_on, place_on, trail_of}
+use Rattle.bp_changes.proofs.ForestLaws.{word-tree}
 use Rattle.bp_thaw.specs.Prefixes.{IsWayIn}
-use Rattle.bp_tree.proofs.ExistingPaths.{AllThere, content_path-there}
+use Rattle.bp_read.proofs.ExistingPaths.{AllThere, content_path-there}
 use Rattle.bp_cow.specs.Commit.{HasLooseCover, cover_word}
 use Rattle.bp_cow.specs.Cover.{commit_cover, end_path}
 use Rattle.bp_cow.specs.Touched.{IsTouched, all_paths}

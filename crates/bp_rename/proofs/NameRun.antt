@@ -11,10 +11,10 @@ use Rattle.bp_layout.specs.WellFormed.{IsWellFormed}
 use Rattle.bp_layout.specs.Words.{Image, block_count, byte_of, word, height_of}
 use Rattle.bp_limits.specs.Limits.{max_height}
 use Rattle.bp_changes.specs.Commits.{Commits, CommitsOnly}
-use Rattle.bp_shapes.specs.Forest.{along, root_trail, tree_trail, IsTreePointer}
-use Rattle.bp_shapes.specs.Trail.{Trail, block_on, trail_of, word_on}
-use Rattle.bp_shapes.proofs.ForestLaws.{skeleton, word-tree}
-use Rattle.bp_shapes.proofs.FreeSets.{wf_forest}
+use Rattle.bp_changes.specs.Forest.{along, root_trail, tree_trail, IsTreePointer}
+use Rattle.bp_changes.specs.Trail.{Trail, block_on, trail_of, word_on}
+use Rattle.bp_changes.proofs.ForestLaws.{skeleton, word-tree}
+use Rattle.bp_changes.proofs.FreeSets.{wf_forest}
 use Rattle.bp_cow.specs.CanCommit.{CanCommit, IsTreeIn}
 use Rattle.bp_cow.specs.Committed.{IsCommitted, after_commit, changes_of}
 use Rattle.bp_cow.specs.Counting.{IsTreeWord}

@@ -22,12 +22,12 @@ use Rattle.bp_changes.proofs.Committed.{commit_moves}
 use Rattle.bp_changes.proofs.Move.{moved_well_formed, names_stay, reached_back}
 use Rattle.bp_changes.proofs.MoveReach.{moved_on}
 use Rattle.bp_changes.proofs.Named.{replaced_counts}
-use Rattle.bp_shapes.proofs.MovedSets.{replaced_blocks, replaced_inode, same_reach_exact}
-use Rattle.bp_shapes.specs.Forest.{tree_trail}
-use Rattle.bp_shapes.specs.Freed.{IsTruncated}
-use Rattle.bp_shapes.specs.Sets.{AreExact}
-use Rattle.bp_shapes.proofs.FreeSets.{wf_forest}
-use Rattle.bp_commit.specs.Performs.{PerformsThawed, room_for}
+use Rattle.bp_changes.proofs.MovedSets.{replaced_blocks, replaced_inode, same_reach_exact}
+use Rattle.bp_changes.specs.Forest.{tree_trail}
+use Rattle.bp_changes.specs.Freed.{IsTruncated}
+use Rattle.bp_changes.specs.Sets.{AreExact}
+use Rattle.bp_changes.proofs.FreeSets.{wf_forest}
+use Rattle.bp_changes.specs.Performs.{PerformsThawed, room_for}
 use Rattle.bp_cow.specs.CanCommit.{CanCommit}
 use Rattle.bp_cow.specs.Commit.{CommitsTouched, HasRoom}
 use Rattle.bp_cow.specs.Committed.{after_commit, changes_of}

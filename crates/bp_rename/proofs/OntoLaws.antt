@@ -14,8 +14,8 @@ use Rattle.bp_layout.specs.WellFormed.{IsWellFormed}
 use Rattle.bp_layout.specs.WordPaths.{WordPath, is_pointed}
 use Rattle.bp_layout.specs.Words.{Image}
 use Rattle.bp_changes.specs.Effects.{CanMoveEntry}
-use Rattle.bp_shapes.proofs.FreeSets.{wf_forest}
-use Rattle.bp_tree.proofs.ExistingPaths.{AllThere, content_path-there}
+use Rattle.bp_changes.proofs.FreeSets.{wf_forest}
+use Rattle.bp_read.proofs.ExistingPaths.{AllThere, content_path-there}
 use Rattle.bp_cow.specs.CanCommit.{CanCommit}
 use Rattle.bp_cow.specs.Commit.{HasLooseCover}
 use Rattle.bp_cow.specs.Cover.{LeadsInside, commit_cover, copied_count, copied_paths}

@@ -5,7 +5,7 @@ use Rattle.bp_free.specs.declared.parts.Parts.{Parts}
 use Rattle.bp_layout.specs.Directory.{inumber_at}
 use Rattle.bp_layout.specs.Names.{HasNames}
 use Rattle.bp_layout.specs.Words.{Image}
-use Rattle.bp_shapes.specs.Sets.{IsExact}
+use Rattle.bp_changes.specs.Sets.{IsExact}
 use Rattle.bp_calls.proofs.CountLaws.{last_name, other_name, reached_counted, some_name}
 use Rattle.bp_rename.specs.CanRename.{CanRename}
 use Rattle.bp_rename.specs.declared.moves.Move.{Move}

@@ -20,9 +20,9 @@ use Rattle.bp_layout.specs.Reached.IsReached.{inode_file}
 use Rattle.bp_layout.specs.Thaw.{thawed}
 use Rattle.bp_layout.specs.Tree.{IsFull, IsLivePointer, node}
 use Rattle.bp_layout.proofs.TreeLaws.{live_pointer_word, tree_word-zero}
-use Rattle.bp_tree.proofs.Digits.{length-digits}
-use Rattle.bp_shapes.specs.Trail.{Trail, block_on, trail_of}
-use Rattle.bp_shapes.proofs.PathTrails.{length-trail_of}
+use Rattle.bp_read.proofs.Digits.{length-digits}
+use Rattle.bp_changes.specs.Trail.{Trail, block_on, trail_of}
+use Rattle.bp_changes.proofs.PathTrails.{length-trail_of}
 use Rattle.bp_layout.specs.WellFormed.{IsWellFormed}
 use Rattle.bp_layout.specs.WordPaths.{WordPath, digits, inode_path, tree_path}
 use Rattle.bp_layout.specs.Words.{Image, block_count, block_of, height_of, word}
@@ -36,11 +36,11 @@ use Rattle.bp_changes.proofs.Committed.{commit_carries}
 use Rattle.bp_changes.proofs.Named.{carried_counts}
 use Rattle.bp_changes.proofs.ReachedOn.{names_on, reached_on}
 use Rattle.bp_changes.proofs.SameMeaning.{well_formed-same}
-use Rattle.bp_shapes.specs.Forest.{tree_trail, IsForest}
-use Rattle.bp_shapes.specs.Sets.{AreExact, AreExactFor}
-use Rattle.bp_shapes.proofs.FreeSets.{wf_forest}
-use Rattle.bp_shapes.proofs.MovedSets.{carried_exact}
-use Rattle.bp_commit.specs.Performs.{IsOpen, PerformsThawed, most_stores_thawed, room_for}
+use Rattle.bp_changes.specs.Forest.{tree_trail, IsForest}
+use Rattle.bp_changes.specs.Sets.{AreExact, AreExactFor}
+use Rattle.bp_changes.proofs.FreeSets.{wf_forest}
+use Rattle.bp_changes.proofs.MovedSets.{carried_exact}
+use Rattle.bp_changes.specs.Performs.{IsOpen, PerformsThawed, most_stores_thawed, room_for}
 use Rattle.bp_cow.specs.CanCommit.{CanCommit}
 use Rattle.bp_cow.specs.Commit.{CommitsTouched, HasLooseCover, HasRoom, commit_stores, cover_word}
 use Rattle.bp_cow.specs.Committed.{after_commit, changes_of}

@@ -18,10 +18,10 @@ use Rattle.bp_layout.specs.Thaw.{cover_now, thawed}
 use Rattle.bp_layout.specs.WordPaths.{WordPath, inode_path, is_pointed, tree_path}
 use Rattle.bp_layout.specs.Words.{Image, height_of}
 use Rattle.bp_layout.proofs.Reached.{reached-in_file}
-use Rattle.bp_shapes.proofs.FreeSets.{wf_forest}
-use Rattle.bp_tree.proofs.ExistingPaths.{AllThere, content_path-there}
-use Rattle.bp_shapes.specs.Forest.{IsTreePointer}
-use Rattle.bp_shapes.specs.Trail.{trail_of}
+use Rattle.bp_changes.proofs.FreeSets.{wf_forest}
+use Rattle.bp_read.proofs.ExistingPaths.{AllThere, content_path-there}
+use Rattle.bp_changes.specs.Forest.{IsTreePointer}
+use Rattle.bp_changes.specs.Trail.{trail_of}
 use Rattle.bp_cow.specs.Commit.{HasLooseCover}
 use Rattle.bp_cow.specs.Cover.{LeadsInside, commit_cover, copied_count, copied_paths}
 use Rattle.bp_cow.specs.Touched.{IsTouched, NoneBegins, all_paths, path_of}

@@ -14,7 +14,7 @@ use Rattle.bp_layout.specs.Reached.{IsReached}
 use Rattle.bp_layout.specs.Reached.IsReached.{inode_file}
 use Rattle.bp_layout.specs.WordPaths.{WordPath, inode_path, tree_path}
 use Rattle.bp_layout.specs.Words.{Image}
-use Rattle.bp_shapes.specs.Forest.{root_trail}
+use Rattle.bp_changes.specs.Forest.{root_trail}
 use Rattle.bp_cow.specs.declared.touched.TreeSize.{TreeSize}
 use Rattle.bp_rename.specs.CanRename.{CanRename, moved_inode}
 use Rattle.bp_rename.specs.Planned.{IsPlanned, Needs, TouchesPastEnd, TouchesInto, TouchesOnto, TouchesWithin}

@@ -13,7 +13,7 @@ use Rattle.std.proofs.lemmas.List.{append-nil}
 use Rattle.bp_layout.specs.Words.{Image, height_of}
 use Rattle.bp_layout.proofs.ThawLaws.{loose-on}
 use Rattle.bp_thaw.specs.Prefixes.{IsWayIn}
-use Rattle.bp_tree.proofs.LooseWays.{loose_word}
+use Rattle.bp_read.proofs.LooseWays.{loose_word}
 use Rattle.bp_append.specs.Prepared.{HasLooseEnd}
 use Rattle.bp_append.proofs.EndWays.{loose_end}
 use Rattle.bp_calls.proofs.Refusals.{found_empty}

@@ -8,7 +8,7 @@ use Rattle.bp_layout.specs.Need.{Change}
 use Rattle.bp_layout.specs.Need.Change.{moves, replaces, respells}
 use Rattle.bp_layout.specs.Reached.{IsReached}
 use Rattle.bp_layout.specs.Words.{Image}
-use Rattle.bp_commit.specs.Performs.{PerformsThawed}
+use Rattle.bp_changes.specs.Performs.{PerformsThawed}
 use Rattle.pm_region.specs.Memory.{Memory, current_words}
 use Rattle.bp_rename.specs.CanRename.{CanRename, change_of, change_to, moved_inode}
 use Rattle.bp_rename.specs.RenamesEntry.{RenamesEntry}

@@ -10,7 +10,7 @@ use Rattle.bp_layout.specs.Tree.{IsFull}
 use Rattle.bp_layout.specs.WellFormed.{IsWellFormed}
 use Rattle.bp_layout.specs.WordPaths.{WordPath, is_pointed, tree_path}
 use Rattle.bp_layout.specs.Words.{Image, height_of}
-use Rattle.bp_tree.proofs.ExistingPaths.{AllThere, content_path-there, existing-all}
+use Rattle.bp_read.proofs.ExistingPaths.{AllThere, content_path-there, existing-all}
 use Rattle.bp_cow.proofs.CommonPaths.{Begins, all-begin}
 use Rattle.bp_cow.proofs.RunThere.{word_agrees}
 

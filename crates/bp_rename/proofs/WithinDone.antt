@@ -17,9 +17,9 @@ use Rattle.bp_changes.specs.Effects.{RespellsEntry}
 use Rattle.bp_changes.proofs.Committed.{commit_respells}
 use Rattle.bp_changes.proofs.Named.{respelled_counts}
 use Rattle.bp_changes.proofs.Respell.{respelled_well_formed}
-use Rattle.bp_shapes.specs.Sets.{AreExact}
-use Rattle.bp_shapes.proofs.MovedSets.{respelled_exact}
-use Rattle.bp_commit.specs.Performs.{PerformsThawed, room_for}
+use Rattle.bp_changes.specs.Sets.{AreExact}
+use Rattle.bp_changes.proofs.MovedSets.{respelled_exact}
+use Rattle.bp_changes.specs.Performs.{PerformsThawed, room_for}
 use Rattle.bp_cow.specs.CanCommit.{CanCommit}
 use Rattle.bp_cow.specs.Commit.{CommitsTouched, HasRoom}
 use Rattle.bp_cow.specs.Committed.{changes_of}

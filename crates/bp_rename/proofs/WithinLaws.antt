@@ -15,7 +15,7 @@ use Rattle.bp_layout.specs.WellFormed.{IsWellFormed}
 use Rattle.bp_layout.proofs.ThawLaws.{loose-on}
 use Rattle.bp_layout.specs.WordPaths.{WordPath, digits, inode_path, is_pointed, tree_path}
 use Rattle.bp_layout.specs.Words.{Image, height_of}
-use Rattle.bp_tree.proofs.ExistingPaths.{AllThere, content_path-there}
+use Rattle.bp_read.proofs.ExistingPaths.{AllThere, content_path-there}
 use Rattle.bp_cow.specs.Commit.{HasLooseCover}
 use Rattle.bp_cow.specs.Cover.{LeadsInside, commit_cover, copied_count, copied_paths}
 use Rattle.bp_cow.specs.Touched.{IsTouched, NoneBegins, all_paths, leaves_of, run_end, run_leaves, paths_of_run, run_path, run_paths, word_paths}

@@ -3,7 +3,7 @@ use Rattle.std.specs.Prelude.{◌≡◌, ℕ, ◌+◌, ◌^◌, ◌<◌, List}
 use Rattle.arrayvec.specs.ArrayVec.{ArrayVec}
 use Rattle.bp_calls.specs.ThawedFor.{IsThawedFor}
 use Rattle.bp_changes.specs.Thawed.{AfterThaw, SameShape}
-use Rattle.bp_commit.specs.Performs.{Performs, PerformsThawed}
+use Rattle.bp_changes.specs.Performs.{Performs, PerformsThawed}
 use Rattle.bp_cow.specs.Cover.{LeadsInside, commit_cover, copied_count}
 use Rattle.bp_cow.specs.Found.{AreWaysIn}
 use Rattle.bp_cow.specs.Touched.{IsTouched, NoneBegins, all_paths}
@@ -15,7 +15,7 @@ use Rattle.bp_layout.specs.Need.{need}
 use Rattle.bp_layout.specs.Thaw.{cover_now}
 use Rattle.bp_layout.specs.Words.{Image}
 use Rattle.bp_limits.specs.Limits.{entry_size}
-use Rattle.bp_shapes.specs.Sets.{IsExact, in_snapshot_of}
+use Rattle.bp_changes.specs.Sets.{IsExact, in_snapshot_of}
 use Rattle.pm_region.specs.Memory.{Memory, current_words}
 use Rattle.bp_rename.specs.CanRename.{CanRename, change_of, moved_inode}
 use Rattle.bp_rename.specs.RenamesEntry.{RenamesEntry}

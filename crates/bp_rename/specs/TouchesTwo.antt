@@ -10,8 +10,8 @@ use Rattle.bp_layout.specs.Members.{Has}
 use Rattle.bp_layout.specs.Reached.{IsReached}
 use Rattle.bp_layout.specs.WordPaths.{WordPath, inode_path, tree_path}
 use Rattle.bp_layout.specs.Words.{Image, height_of, word}
-use Rattle.bp_shapes.specs.Forest.{root_trail}
-use Rattle.bp_shapes.specs.Trail.{trail_of}
+use Rattle.bp_changes.specs.Forest.{root_trail}
+use Rattle.bp_changes.specs.Trail.{trail_of}
 
 -- The path of the inode number of an entry.
 abbrev pub inumber_path : Image → ℕ → ℕ → WordPath

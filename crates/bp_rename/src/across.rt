@@ -10,7 +10,7 @@ ghost use Rattle.bp_layout.specs.Directory.{empty_slot};
 ghost use Rattle.bp_rename.specs.CanRename.{CanRename, change_across, change_of};
 ghost use Rattle.bp_rename.specs.Planned.{AreWordsInto, TouchesInto};
 ghost use Rattle.bp_rename.specs.RenamesEntry.{RenamesEntry};
-ghost use Rattle.bp_shapes.specs.Sets.{in_snapshot_of};
+ghost use Rattle.bp_changes.specs.Sets.{in_snapshot_of};
 ghost use Rattle.pm_region.specs.Memory.{words_in};
 
 use crate::moves::Move;
@@ -18,10 +18,10 @@ use crate::needs::ready_ways;
 use crate::touched_words::{touched_two, trees_of_both};
 use bp_calls::entry_path;
 use bp_cow::{FoundWays, Touched, commit_at};
-use bp_dirs::{entry_place, inumber, put_name};
 use bp_free::{NoSpace, Parts};
-use bp_inodes::tree_of;
-use bp_tree::Slots;
+use bp_read::directory::{entry_place, inumber};
+use bp_read::inodes::tree_of;
+use bp_read::{Slots, put_name};
 use pm_region::Region;
 
 /// Returns the touched words: the inode number of an empty entry of the new directory, and that of the entry that

@@ -8,7 +8,7 @@ ghost use Rattle.bp_layout.specs.Need.{need};
 ghost use Rattle.bp_rename.specs.CanRename.{CanRename, IsSlotAcross, change_across, change_of};
 ghost use Rattle.bp_rename.specs.Planned.{IsPlanned, IsReadyToRename, Needs};
 ghost use Rattle.bp_layout.specs.Thaw.{cover_now, targets, thawed};
-ghost use Rattle.bp_shapes.specs.Sets.{in_snapshot_of};
+ghost use Rattle.bp_changes.specs.Sets.{in_snapshot_of};
 ghost use Rattle.bp_thaw.specs.Thaws.{paths_in};
 ghost use Rattle.pm_region.specs.Memory.{words_in};
 
@@ -16,7 +16,7 @@ use crate::moves::Move;
 use bp_calls::{Targets, entry_path, push_end, thaw_before};
 use bp_cow::{FoundWays, Touched, copies_below, cover, find_ways};
 use bp_free::{NoSpace, Parts};
-use bp_inodes::{root_path, tree_of};
+use bp_read::inodes::{root_path, tree_of};
 use bp_thaw::thaw_need;
 use pm_region::Region;
 

@@ -9,7 +9,7 @@ ghost use Rattle.bp_cow.specs.Found.{AreWaysIn};
 ghost use Rattle.bp_rename.specs.CanRename.{CanRename, change_of, change_onto};
 ghost use Rattle.bp_rename.specs.Planned.{AreWordsOnto, TouchesOnto};
 ghost use Rattle.bp_rename.specs.RenamesEntry.{MovesOnto, RenamesEntry};
-ghost use Rattle.bp_shapes.specs.Sets.{in_snapshot_of};
+ghost use Rattle.bp_changes.specs.Sets.{in_snapshot_of};
 ghost use Rattle.pm_region.specs.Memory.{words_in};
 
 use crate::moves::Move;
@@ -17,10 +17,10 @@ use crate::needs::ready_ways;
 use crate::touched_words::{touched_two, trees_of_both};
 use bp_calls::{entry_path, free_tree};
 use bp_cow::{FoundWays, Touched, commit_at};
-use bp_dirs::inumber;
 use bp_free::{NoSpace, Parts};
-use bp_inodes::{get, tree_of};
-use bp_tree::{Slots, Tree};
+use bp_read::directory::inumber;
+use bp_read::inodes::{get, tree_of};
+use bp_read::{Slots, Tree};
 use pm_region::Region;
 
 /// Returns the touched words: the inode number of the entry that moves, and that of the entry in a slot of the new

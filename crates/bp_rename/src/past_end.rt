@@ -10,7 +10,7 @@ ghost use Rattle.bp_layout.specs.Directory.{empty_slot};
 ghost use Rattle.bp_rename.specs.CanRename.{CanRename, change_across, change_of};
 ghost use Rattle.bp_rename.specs.Planned.{AreWordsPastEnd, TouchesPastEnd};
 ghost use Rattle.bp_rename.specs.RenamesEntry.{RenamesEntry};
-ghost use Rattle.bp_shapes.specs.Sets.{in_snapshot_of};
+ghost use Rattle.bp_changes.specs.Sets.{in_snapshot_of};
 ghost use Rattle.pm_region.specs.Memory.{words_in};
 
 use crate::moves::Move;
@@ -19,11 +19,11 @@ use crate::touched_words::{touched_two, trees_of_one};
 use bp_append::need_prep;
 use bp_calls::{append_entry, entry_path};
 use bp_cow::{FoundWays, Touched, commit_at};
-use bp_dirs::inumber;
 use bp_free::{NoSpace, Parts};
-use bp_inodes::{size_path, tree_of};
 use bp_limits::ENTRY_SIZE;
-use bp_tree::Slots;
+use bp_read::Slots;
+use bp_read::directory::inumber;
+use bp_read::inodes::{size_path, tree_of};
 use pm_region::Region;
 
 /// Returns the touched words: the size of the new directory, which will include one more entry, and the inode number

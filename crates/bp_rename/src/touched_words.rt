@@ -8,8 +8,8 @@ ghost use Rattle.bp_rename.specs.TouchesTwo.{AnyTree, IsSizedTree, ListsTrees, O
 ghost use Rattle.pm_region.specs.Memory.{words_in};
 
 use bp_cow::{Touched, TreeSize};
-use bp_inodes::{inode_file, root_path, tree_of};
-use bp_tree::Slots;
+use bp_read::Slots;
+use bp_read::inodes::{inode_file, root_path, tree_of};
 use pm_region::Region;
 
 /// Returns the tree of a directory that has entries, with its size.

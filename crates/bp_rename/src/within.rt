@@ -8,7 +8,7 @@ ghost use Rattle.bp_limits.specs.CallLimits.{max_name};
 ghost use Rattle.bp_rename.specs.CanRename.{CanRename, change_of};
 ghost use Rattle.bp_rename.specs.RenamesEntry.{RenamesEntry};
 ghost use Rattle.bp_rename.specs.Respelled.{IsNameRun, IsRespelled, respelled_byte};
-ghost use Rattle.bp_shapes.specs.Sets.{in_snapshot_of};
+ghost use Rattle.bp_changes.specs.Sets.{in_snapshot_of};
 ghost use Rattle.pm_region.specs.Memory.{words_in};
 
 use crate::moves::Move;
@@ -16,8 +16,8 @@ use crate::needs::ready_ways;
 use bp_calls::touched_by;
 use bp_cow::{Run, commit_at};
 use bp_free::{NoSpace, Parts};
-use bp_inodes::{root_path, tree_of};
 use bp_limits::{ENTRY_SIZE, MAX_NAME};
+use bp_read::inodes::{root_path, tree_of};
 use pm_region::Region;
 
 /// Returns a byte of an entry after its inode number: eight are the length of the name, least significant first, and

@@ -3,7 +3,7 @@
 use crate::images::laid;
 use bp_append::need_prep;
 use bp_limits::MAX_SIZE;
-use bp_tree::Tree;
+use bp_read::Tree;
 use pm_region::ListRegion;
 use std::test::Fail;
 

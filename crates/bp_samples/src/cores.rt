@@ -10,7 +10,7 @@ use std::alloc::{AllocError, Global};
 const CORES: u32 = 2;
 
 /// The number of words of the memory: two cache lines.
-const WORDS: u32 = 16;
+const WORDS: u64 = 16;
 
 /// The number of entries of the caches' log.
 const ROOM: usize = 8;
@@ -18,15 +18,15 @@ const ROOM: usize = 8;
 /// A step, and its expected result.
 #[derive(Clone, Copy)]
 enum Step {
-    Store { core: u32, word: u32, value: u64 },
+    Store { core: u32, word: u64, value: u64 },
     Barrier { core: u32 },
-    Load { core: u32, word: u32, value: u64 },
+    Load { core: u32, word: u64, value: u64 },
     /// A word is written back, unless another one has to be written back before it.
-    Back { word: u32, needs: Option<u32> },
+    Back { word: u64, needs: Option<u64> },
 }
 
 /// Steps over a memory of zeros, and some of its words after them.
-type Row = (&'static [Step], &'static [(u32, u64)]);
+type Row = (&'static [Step], &'static [(u64, u64)]);
 
 const ROWS: [Row; 4] = [
     // An epoch is written back before a later one, and a load by another core settles.
@@ -123,7 +123,7 @@ fn two_cores(alloc: Global) -> Result<Cores, AllocError>
 }
 
 /// Whether a core may do a step at a word.
-fn may_step(cores: &Cores, core: u32, word: u32) -> bool
+fn may_step(cores: &Cores, core: u32, word: u64) -> bool
     ensures core { result ≡ true → core < CORES }
     ensures word { result ≡ true → word < WORDS }
     ensures room { result ≡ true → length cores.now.log < cores.now.capacity }
@@ -132,7 +132,7 @@ fn may_step(cores: &Cores, core: u32, word: u32) -> bool
 }
 
 /// Stores a value, if that is allowed.
-fn store(cores: &mut Cores, core: u32, word: u32, value: u64) -> bool
+fn store(cores: &mut Cores, core: u32, word: u64, value: u64) -> bool
     requires { AreTwo cores.old }
     ensures { AreTwo cores.new }
 {
@@ -156,7 +156,7 @@ fn end_epoch(cores: &mut Cores, core: u32) -> bool
 }
 
 /// Returns the value that a core loads, if that is allowed.
-fn load<R: Region>(region: &R, cores: &mut Cores, core: u32, word: u32) -> Option<u64>
+fn load<R: Region>(region: &R, cores: &mut Cores, core: u32, word: u64) -> Option<u64>
     requires { AreTwo cores.old }
     ensures { AreTwo cores.new }
 {
@@ -167,7 +167,7 @@ fn load<R: Region>(region: &R, cores: &mut Cores, core: u32, word: u32) -> Optio
 }
 
 /// Writes a dirty word back, or returns the word that has to be written back before it.
-fn write_back(cores: &mut Cores, word: u32) -> Option<u32>
+fn write_back(cores: &mut Cores, word: u64) -> Option<u64>
     requires { AreTwo cores.old }
     ensures { AreTwo cores.new }
 {
@@ -194,7 +194,7 @@ fn gives<R: Region>(step: Step, region: &R, cores: &mut Cores) -> bool
 }
 
 /// Returns a word of the memory.
-fn word_of<R: Region>(region: &R, cores: &Cores, word: u32) -> Option<u64>
+fn word_of<R: Region>(region: &R, cores: &Cores, word: u64) -> Option<u64>
     requires { AreTwo cores.now }
 {
     if word < WORDS && region.words() == WORDS {

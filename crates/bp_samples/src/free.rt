@@ -2,10 +2,10 @@
 //! copy.
 
 ghost use Rattle.std.specs.Prelude.{◌≡◌, ◌+◌, ◌<◌, ◌≤◌, length};
-ghost use Rattle.bp_limits.specs.Limits.{max_blocks};
+ghost use Rattle.bp_limits.specs.Limits.{max_file_blocks};
 
 use bp_free::{Blocks, Counts, Inodes, Steps};
-use bp_limits::MAX_BLOCKS;
+use bp_limits::MAX_FILE_BLOCKS;
 use std::marker::Brand;
 use std::sync::ledger::{Blank, Ledger};
 use std::test::Fail;
@@ -56,7 +56,7 @@ fn names_are_counted(rt: HostRuntime) -> Result<(), Fail> {
 
 /// Takes a block: a search of 65,536 numbers has at most seventeen steps.
 fn take_in_seventeen<L: Ledger>(blocks: &mut Blocks, steps: &mut Steps<L>) -> Option<u32>
-    requires { length blocks.old ≡ max_blocks }
+    requires { length blocks.old ≡ max_file_blocks }
     ensures { steps.new ≤ steps.old + 17 }
 {
     blocks.take_counted(steps)
@@ -66,7 +66,7 @@ fn take_counting<L: Ledger>(blocks: &mut Blocks, blank: Blank) -> Option<u32>
     requires name { blank.name ≡ L.name }
     requires parts { blank.parts ≡ L.parts }
     requires some { 0 < L.parts }
-    requires room { length blocks.old ≡ max_blocks }
+    requires room { length blocks.old ≡ max_file_blocks }
 {
     let mut steps = Steps::<L>::new(blank);
     take_in_seventeen(blocks, &mut steps)
@@ -74,18 +74,18 @@ fn take_counting<L: Ledger>(blocks: &mut Blocks, blank: Blank) -> Option<u32>
 
 #[test]
 fn blocks_are_found_in_seventeen_steps(rt: HostRuntime) -> Result<(), Fail> {
-    let mut blocks = Blocks::new(rt.alloc(), MAX_BLOCKS)?;
-    assert_eq!(rt; blocks.room(), MAX_BLOCKS);
+    let mut blocks = Blocks::new(rt.alloc(), MAX_FILE_BLOCKS)?;
+    assert_eq!(rt; blocks.room(), MAX_FILE_BLOCKS);
     let none = take_counting::<Brand>(&mut blocks, Blank::new(1));
     assert_eq!(rt; none, None);
-    assert_eq!(rt; blocks.room(), MAX_BLOCKS);
-    blocks.fill(MAX_BLOCKS as usize - 1, MAX_BLOCKS as usize);
-    assert_eq!(rt; blocks.room(), MAX_BLOCKS);
+    assert_eq!(rt; blocks.room(), MAX_FILE_BLOCKS);
+    blocks.fill(MAX_FILE_BLOCKS as usize - 1, MAX_FILE_BLOCKS as usize);
+    assert_eq!(rt; blocks.room(), MAX_FILE_BLOCKS);
     let last = take_counting::<Brand>(&mut blocks, Blank::new(1));
     assert_eq!(rt; last, Some(65_535));
-    assert_eq!(rt; blocks.room(), MAX_BLOCKS);
-    blocks.fill(0, MAX_BLOCKS as usize);
-    assert_eq!(rt; blocks.room(), MAX_BLOCKS);
+    assert_eq!(rt; blocks.room(), MAX_FILE_BLOCKS);
+    blocks.fill(0, MAX_FILE_BLOCKS as usize);
+    assert_eq!(rt; blocks.room(), MAX_FILE_BLOCKS);
     let first = take_counting::<Brand>(&mut blocks, Blank::new(1));
     assert_eq!(rt; first, Some(0));
     assert_eq!(rt; blocks.count(), 65_535);

@@ -5,13 +5,13 @@ ghost use Rattle.bp_layout.specs.Hints.{AreRight};
 ghost use Rattle.bp_layout.specs.WellFormed.{IsWellFormed};
 ghost use Rattle.bp_layout.specs.Words.{Image};
 ghost use Rattle.bp_limits.specs.Limits.{block_words, min_blocks};
-ghost use Rattle.bp_names.specs.Names.{known_of};
+ghost use Rattle.bp_cache.specs.Names.{known_of};
 ghost use Rattle.pm_region.specs.Memory.{current_words};
 
 use crate::images::{DEEP, EMPTY, laid, put};
+use bp_cache::Names;
 use bp_free::{Blocks, Counts, Inodes};
 use bp_layout::{Hints, NoHints};
-use bp_names::Names;
 use bp_path::{FoundEntry, WalkFault, parse, walk, walk_parent_with, walk_with};
 use bp_scan::{Pending, scan};
 use pm_region::ListRegion;
@@ -34,7 +34,7 @@ struct Counting {
 }
 
 impl Hints for Counting {
-    ghost use Rattle.bp_names.specs.Names.{known_of};
+    ghost use Rattle.bp_cache.specs.Names.{known_of};
 
     ghost known = { λ hints. known_of hints.names };
 

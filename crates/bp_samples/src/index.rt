@@ -1,8 +1,8 @@
 //! The index of a directory of two entries, in one leaf.
 
 use crate::spelling::{TREE, sample};
-use bp_dirs::{Found, Spot};
-use bp_index::Index;
+use bp_cache::Index;
+use bp_read::{Found, Spot};
 use std::test::Fail;
 
 /// "ab" and "c" are found in their slots; "a" is not, and no slot is empty.

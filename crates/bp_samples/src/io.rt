@@ -2,9 +2,10 @@
 
 ghost use Rattle.std.specs.Prelude.{◌<◌, ◌≡◌, List, ℕ, true};
 
+use bp_disk::{DiskFiles, StdSink, StdSource};
 use bp_io::{
-    Access, DiskFiles, Failed, FairFiles, FairSource, Files, MemFiles, MemSink, MemSource,
-    NullSink, Sink, Source, StdSink, StdSource,
+    Access, Failed, FairFiles, FairSource, Files, MemFiles, MemSink, MemSource, NullSink, Sink,
+    Source,
 };
 use std::alloc::{AllocError, Global};
 use std::fs::File;

@@ -5,11 +5,11 @@ ghost use Rattle.bp_layout.specs.WellFormed.{IsWellFormed};
 ghost use Rattle.pm_region.specs.Memory.{current_words};
 
 use crate::images::{EMPTY, laid};
-use bp_dirs::{count, find, free_slot, is_empty};
-use bp_inodes::{get, inode_file, place};
 use bp_layout::{Inode, Kind};
 use bp_path::{FoundEntry, WalkFault, parse, walk, walk_parent};
-use bp_tree::{Tree, content_place, content_word, leaf_block, node};
+use bp_read::directory::{count, find, free_slot, is_empty};
+use bp_read::inodes::{get, inode_file, place};
+use bp_read::{Tree, content_place, content_word, leaf_block, node};
 use pm_region::ListRegion;
 use std::alloc::{AllocError, Global};
 use std::test::Fail;

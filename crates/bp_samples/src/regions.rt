@@ -48,7 +48,7 @@ fn replays_of_two_epochs(rt: HostRuntime) {
         let choice = chosen(&rt, rt.alloc(), *moment, *epoch, *mask);
         match left {
             Some(words) => {
-                for word in 0..3u32 {
+                for word in 0..3u64 {
                     let value = replay_word(0, &TWO_EPOCHS, &choice, word).ok();
                     assert_eq!(rt; value, Some(words[word as usize]), "{epoch} {word}");
                 }
@@ -79,7 +79,7 @@ fn list(rt: &impl Abort, alloc: Global, words: u32, capacity: usize) -> ListRegi
 }
 
 fn raw(rt: &impl Abort, alloc: Global, words: u32, capacity: usize) -> RawRegion {
-    RawRegion::new(alloc, words, capacity).expect(rt, "there is memory")
+    RawRegion::new(alloc, words as u64, capacity).expect(rt, "there is memory")
 }
 
 /// Does an event to a region that has its word, and room.
@@ -202,7 +202,7 @@ fn crash_leaves<R: Region, A: Abort>(
             assert_eq!(rt; answer, Ok(Kept { c: 0, n: 0 }));
             assert_eq!(rt; region.event_count(), 0);
             assert!(rt; region.words() == 3);
-            for word in 0..3u32 {
+            for word in 0..3u64 {
                 assert_eq!(rt; region.load(word), words[word as usize]);
                 assert_eq!(rt; region.base_word(word), words[word as usize]);
             }
@@ -330,7 +330,7 @@ fn has_words<R: Region>(machine: &Machine<'_, R>, words: &[u64; 3]) -> bool {
     if machine.region.words() != 3 {
         return false;
     }
-    for word in 0..3u32 {
+    for word in 0..3u64 {
         if machine.image_word(word) != words[word as usize] {
             return false;
         }

@@ -24,7 +24,7 @@ const TOTALS: Totals = Totals {
 };
 
 /// Stores over the base image, the check that fails then, and the word at which it does.
-type Damage = (&'static [(usize, u64)], Check, u32);
+type Damage = (&'static [(usize, u64)], Check, u64);
 
 const DAMAGES: [Damage; 27] = [
     (&[(529, 0x3004), (530, 1)], Check::Height, 529),

@@ -6,10 +6,10 @@ ghost use Rattle.bp_limits.specs.Limits.{block_words, max_blocks};
 ghost use Rattle.pm_region.specs.Memory.{current_words};
 
 use crate::images::{Start, laid, leaf};
-use bp_dirs::entry;
 use bp_limits::MAX_NAME;
+use bp_read::Tree;
+use bp_read::directory::entry;
 use bp_spelling::{NameFault, Spelled, check_names};
-use bp_tree::Tree;
 use pm_region::ListRegion;
 use std::alloc::{AllocError, Global};
 use std::test::Fail;

@@ -6,7 +6,7 @@ ghost use Rattle.bp_layout.specs.Tree.{IsSound};
 ghost use Rattle.pm_region.specs.Memory.{current_words};
 
 use crate::images::{TWO_LEAVES, laid};
-use bp_tree::{Tree, address, count_live, first_null, node, read, word_path};
+use bp_read::{Tree, address, count_live, first_null, node, read, word_path};
 use pm_region::ListRegion;
 use std::alloc::{AllocError, Global};
 use std::test::Fail;

@@ -15,12 +15,12 @@ ghost use Rattle.pm_region.specs.Memory.{words_in};
 
 use crate::trees::enter;
 use crate::work::{Scan, make_numbers, make_room};
-use bp_dirs::entry_place;
-use bp_inodes::{get, inode_file};
 use bp_layout::{Check, Kind};
 use bp_limits::{ENTRY_SIZE, INODE_SIZE};
+use bp_read::Tree;
+use bp_read::directory::entry_place;
+use bp_read::inodes::{get, inode_file};
 use bp_spelling::{NameFault, Spelled, check_names};
-use bp_tree::Tree;
 use bp_walk::CheckFault;
 use pm_region::Region;
 

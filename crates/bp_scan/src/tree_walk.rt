@@ -18,8 +18,8 @@ use crate::directories::read_directory;
 use crate::totals::Totals;
 use crate::trees::{enter, enter_inode_file};
 use crate::work::Scan;
-use bp_inodes::inode_file;
 use bp_limits::INODE_SIZE;
+use bp_read::inodes::inode_file;
 use bp_walk::CheckFault;
 use pm_region::Region;
 

@@ -16,12 +16,12 @@ ghost use Rattle.pm_region.specs.Memory.{words_in};
 use crate::inode_count::count_inode;
 use crate::work::Scan;
 use bp_free::Blocks;
-use bp_inodes::{inode_file, place};
 use bp_layout::Check;
 use bp_limits::{
     BLOCK_SIZE, DIRECTORY_KIND, ENTRY_SIZE, FILE_KIND, ROOT_INUMBER, SUPER_ROOT, SUPER_SIZE,
 };
-use bp_tree::Tree;
+use bp_read::Tree;
+use bp_read::inodes::{inode_file, place};
 use bp_walk::{CheckFault, take_tree};
 use pm_region::Region;
 

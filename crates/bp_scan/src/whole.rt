@@ -21,8 +21,8 @@ use crate::pending::Pending;
 use crate::totals::Totals;
 use bp_free::{Blocks, Counts, Inodes};
 use bp_limits::{SUPER_ROOT, SUPER_SIZE, SUPER_SNAPSHOT_ROOT, SUPER_SNAPSHOT_SIZE, Version};
+use bp_read::version;
 use bp_second::Shown;
-use bp_tree::version;
 use pm_region::Region;
 
 /// Returns whether an image has a second tree.

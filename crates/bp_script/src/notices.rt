@@ -70,7 +70,7 @@ pub fn announce(notice: &Notice, into: &mut [u8]) -> usize
         Notice::NotFormatted => write_pieces(into, &[b"err 30 notformatted\n"]),
         Notice::BadSize { found, wanted } => write_pair(into, b"err 31 badsize ", found, wanted),
         Notice::Damaged { check, place } => {
-            write_pair(into, b"err 32 damaged ", check as u64, place as u64)
+            write_pair(into, b"err 32 damaged ", check as u64, place)
         }
         Notice::Clean {
             files,

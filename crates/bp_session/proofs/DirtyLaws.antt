@@ -2,7 +2,7 @@
 use Rattle.std.proofs.Common.{zero, suc, refl, sym, ◌∙◌, ap, arith, ◌≡◌, ℕ, ◌+◌, ◌-◌, ◌*◌, ◌/◌, ◌<◌, ◌≤◌, List, [], ◌∷◌, ◌++◌, drop, length, set, take, Bool, true, false, inl, inr, subst}
 use Rattle.std.specs.Prelude.{◌⊎◌, Option, None, Some, min, replicate, slice_get, if◌then◌else◌}
 use Rattle.std.proofs.lemmas.Bool.{cases_eq, cases_lt, le-ltb, lt-ltb}
-use Rattle.bp_limits.specs.Limits.{call_room}
+use Rattle.bp_limits.specs.Limits.{call_room, max_file_blocks}
 use Rattle.std.proofs.lemmas.List.{append-nil, drop_all, get_or-replicate, get_or-set_other, get_or-take, get_or_past, length-append, length-replicate, length-set, length-take, take_all, take_at}
 use Rattle.pm_epochs.specs.declared.event.Event.{Event}
 use Rattle.pm_epochs.specs.declared.event.Event.TheVariants.{Barrier, CallEnd, Store}
@@ -182,10 +182,10 @@ all_are_dirty flags each i = go (cases_lt i (length flags))
     go (inr following) = get_or_past flags i true following
 
 -- the first of flags of which none is
-pub prefix_clean : (count : ℕ) → AreClean (take count (replicate 65536 false))
+pub prefix_clean : (count : ℕ) → AreClean (take count (replicate max_file_blocks false))
 prefix_clean count i low =
-    let size : length (take count (replicate 65536 false)) ≡ min count 65536 = length-take count (replicate 65536 false) ∙ ap (min count) (length-replicate 65536 false) in
-    get_or-take count (replicate 65536 false) i true (omega (arith, low, size)) ∙ get_or-replicate 65536 i false true (omega (arith, low, size))
+    let size : length (take count (replicate max_file_blocks false)) ≡ min count max_file_blocks = length-take count (replicate max_file_blocks false) ∙ ap (min count) (length-replicate max_file_blocks false) in
+    get_or-take count (replicate max_file_blocks false) i true (omega (arith, low, size)) ∙ get_or-replicate max_file_blocks i false true (omega (arith, low, size))
 
 -- the first flags, as many, which were lent and came back before those after them
 pub lent_back : (count lent : ℕ) (flags new : List Bool) → lent ≡ min count (length flags) → length new ≡ lent → take count (new ++ drop lent flags) ≡ new

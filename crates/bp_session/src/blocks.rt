@@ -1,6 +1,6 @@
 //! Conversion of the words of a region to the blocks of a file.
 
-ghost use Rattle.std.specs.Prelude.{◌≡◌, ◌≤◌, ◌<◌, ◌^◌, ◌+◌, ◌*◌, ◌/◌, ◌%◌, length, take};
+ghost use Rattle.std.specs.Prelude.{◌≡◌, ◌≤◌, ◌+◌, ◌*◌, ◌/◌, ◌%◌, length, take};
 ghost use Rattle.bp_io.specs.Files.{blocks_of};
 ghost use Rattle.bp_limits.specs.Limits.{block_size, block_words};
 ghost use Rattle.bp_layout.specs.Bytes.{image_bytes};
@@ -43,7 +43,6 @@ fn read_prefix<R: Region>(region: &R, into: &mut [u8])
     requires some { 8 * HEAD ≤ length into.old }
     requires whole { length into.old % 8 ≡ 0 }
     requires inside { length into.old / 8 ≤ length (R.memory region.now).base }
-    requires fits { length into.old / 8 < 2 ^ 32 }
     ensures { into.new ≡ image_bytes (take (length into.old / 8) (words_in R.memory region.now)) }
 {
     let count = into.len() / 8;
@@ -56,7 +55,6 @@ fn read_prefix<R: Region>(region: &R, into: &mut [u8])
 pub fn read_blocks<R: Region>(region: &R, first: u32, into: &mut [u8])
     requires whole { length into.old % block_size ≡ 0 }
     requires inside { block_words * first + length into.old / 8 ≤ length (R.memory region.now).base }
-    requires fits { block_words * first + length into.old / 8 < 2 ^ 32 }
     ensures { into.new ≡ blocks_of (image_bytes (words_in R.memory region.now)) first (length into.old / block_size) }
 {
     if into.is_empty() {

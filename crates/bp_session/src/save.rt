@@ -104,7 +104,7 @@ fn dirty_rows<R: Region>(region: &R, flags: &mut [bool], most: usize) -> bool
     ensures none { stores (R.memory region.now).events ≡ [] → flags.new ≡ flags.old }
     ensures size { length flags.new ≡ length flags.old }
 {
-    // The index of a word fits its type.
+    // There are fewer than 2^41 words.
     let _words = region.words();
     let count = region.event_count();
     let mut left = most;

@@ -160,7 +160,7 @@ stop_refused (f.BadSize found wanted) image known reported why has e = rw (← s
 stop_refused (f.Damaged check place) image known reported why has e = rw (← same_notice (Damaged (number_of check) place) reported e) (damaged has why.0 why.1 why.2)
 stop_refused f.Memory image known reported why has e = absurd why
 
-pub stop_refused_length : (fault : MountFault) (known : Known) (len : ℕ) (notice : Notice) → HasLength known len → (fault ≡ f.BadSize len (wanted_length max_file_blocks len)) × (len ≢ wanted_length len) → stop_by fault ≡ Refused notice → RefusesFile known notice
+pub stop_refused_length : (fault : MountFault) (known : Known) (len : ℕ) (notice : Notice) → HasLength known len → (fault ≡ f.BadSize len (wanted_length max_file_blocks len)) × (len ≢ wanted_length max_file_blocks len) → stop_by fault ≡ Refused notice → RefusesFile known notice
 stop_refused_length fault known len notice has why e =
     let reported : stop_by (f.BadSize len (wanted_length max_file_blocks len)) ≡ Refused notice = rw why.0 at e in
     rw (← same_notice (BadSize len (wanted_length max_file_blocks len)) notice reported) (by_length has why.1)

@@ -12,6 +12,7 @@ use Rattle.bp_script.specs.Texts.{LineReply}
 use Rattle.bp_script.specs.declared.notices.Notice.{Notice}
 use Rattle.bp_layout.specs.Whole.{IsFileSystem}
 use Rattle.bp_layout.proofs.BothTrees.{none_fails_whole}
+use Rattle.bp_limits.specs.Limits.{max_file_blocks, min_blocks}
 use Rattle.bp_scan.specs.Length.{wanted_length}
 use Rattle.bp_session.specs.Acting.{state}
 use Rattle.bp_session.specs.Files.{AreWordsOf64Bits, IsAbsent}
@@ -140,7 +141,7 @@ module _ (before after : Outside) (image : Image) (memory new : Memory) (found :
         plainly = plainly _ _ _ reported.session;
       }
 
-wanted_whole : (n : ℕ) → 8 ≤ n → n ≤ 65536 → wanted_length 65536 (4096 * n) ≡ 4096 * n
+wanted_whole : (n : ℕ) → min_blocks ≤ n → n ≤ max_file_blocks → wanted_length max_file_blocks (4096 * n) ≡ 4096 * n
 wanted_whole n least most = omega arith
 
 -- ---- completeness
@@ -148,7 +149,7 @@ wanted_whole n least most = omega arith
 pub not_refused : (image : Image) (notice : Notice) → AreWordsOf64Bits image → IsShortFileSystem image → RefusesFile (Some (Some (image_bytes image))) notice → ⊥
 not_refused image line words well (by_length {len = len} has wrong) =
     let size : len ≡ 4096 * (length image / 512) = omega (arith, has, length-image_bytes image, well.0.first.formatted.sized.whole) in
-    wrong (size ∙ sym (wanted_whole (length image / 512) well.0.first.formatted.sized.at_least well.1) ∙ ap (wanted_length 65536) (sym size))
+    wrong (size ∙ sym (wanted_whole (length image / 512) well.0.first.formatted.sized.at_least well.1) ∙ ap (wanted_length max_file_blocks) (sym size))
 not_refused image line words well (not_formatted {image = other} has wrong) = let same = image_once image other words has.has.words has.has.bytes in wrong (version_of other) (rw (← same) well.0.first.formatted.has_magic)
 not_refused image line words well (by_count {image = other} has has_magic wrong) = let same = image_once image other words has.has.words has.has.bytes in wrong (rw (← same) well.0.first.formatted.counted)
 not_refused image line words well (damaged {image = other} {check = check} {place = place} has has_magic counted wrong) =

@@ -45,8 +45,8 @@ pub record StopOutcome (answer : Status) (before after : Outside) : Type 0 where
 
 -- ---- a program that only reads FILE
 
--- If FILE is known to have the bytes of a file system, and neither sink nor files fail, the result is `Done` or
--- `Memory`.
+-- If FILE is known to have the bytes of a file system of at most `max_file_blocks` blocks, and neither sink nor files
+-- fail, the result is `Done` or `Memory`.
 abbrev pub IsReadComplete : Status → Outside → Outside → Type 0
 IsReadComplete answer before after =
     (image : Image) → before.file ≡ Some (Some (image_bytes image)) → AreWordsOf64Bits image

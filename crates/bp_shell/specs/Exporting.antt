@@ -69,8 +69,8 @@ pub record ExportsPrefix (before after : Outside) : Type 0 where
   pub exports : Exports before.file text
   pub takes : TakesPrefix text before.taken after.taken
 
--- If FILE is known to have the bytes of a file system, and neither sink nor files fail, the result is `Done`,
--- `Memory`, or, if a path is too long, `Deep`.
+-- If FILE is known to have the bytes of a file system of at most `max_file_blocks` blocks, and neither sink nor files
+-- fail, the result is `Done`, `Memory`, or, if a path is too long, `Deep`.
 abbrev pub IsExportComplete : Status → Outside → Outside → Type 0
 IsExportComplete answer before after =
     (image : Image) → before.file ≡ Some (Some (image_bytes image)) → AreWordsOf64Bits image

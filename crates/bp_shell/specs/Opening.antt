@@ -1,5 +1,5 @@
 -- Which files are file systems, and why others are refused.
-use Rattle.std.specs.Prelude.{◌≡◌, ◌≢◌, ◌×◌, ◌⊎◌, ◌≤◌, ℕ, ◌-◌, ◌*◌, ◌^◌, List, length, min, [], true}
+use Rattle.std.specs.Prelude.{◌≡◌, ◌≢◌, ◌⊎◌, ◌≤◌, ℕ, ◌-◌, ◌*◌, ◌^◌, List, length, min, [], true}
 use Rattle.bp_io.specs.Files.{KeepsFiles, StaysAttached, may_change}
 use Rattle.bp_io.specs.Views.{Known, View}
 use Rattle.bp_io.specs.declared.access.Access.{Access}

@@ -138,8 +138,8 @@ pub record RunsUnsaved (before after : Outside) : Type 0 where
   pub fails : SyncFails middle memory (SavesSomeBlocks after) sync
   pub plainly : FollowsTree begins.tree (start begins.image) (commands_from [] begins.input) reported.replies middle
 
--- If FILE is known to have the bytes of a file system, the known source has at most `max_input` bytes, and nothing
--- fails, the result is `Done` or `Memory`.
+-- If FILE is known to have the bytes of a file system of at most `max_file_blocks` blocks, the known source has at most
+-- `max_input` bytes, and nothing fails, the result is `Done` or `Memory`.
 abbrev pub IsComplete : Status → Outside → Outside → Type 0
 IsComplete answer before after =
     (image : Image) (input : List ℕ) → before.file ≡ Some (Some (image_bytes image)) → AreWordsOf64Bits image

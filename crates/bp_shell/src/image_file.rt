@@ -179,7 +179,7 @@ fn mount(alloc: Global, region: RawRegion) -> Result<Volume<RawRegion>, Stop>
 ///
 /// * `Missing`: the file does not exist.
 /// * `Outside`: the files failed.
-/// * `Refused`: the file is no file system.
+/// * `Refused`: the file is no file system of at most `MAX_FILE_BLOCKS` blocks.
 /// * `Memory`: allocation of memory for the volume failed.
 pub fn open<F: Files>(alloc: Global, name: &str, files: &mut F) -> Result<Volume<RawRegion>, Stop>
     ensures opened { IfOk result (λ volume. Mounts (F.view files.old) name.now (F.view files.new) volume) }

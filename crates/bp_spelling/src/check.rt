@@ -14,7 +14,7 @@ use crate::entry::Spelled;
 use crate::fault::NameFault;
 use crate::gather::gather;
 use crate::table::{REACH, TableError, check_by_table};
-use bp_tree::Tree;
+use bp_read::Tree;
 use pm_region::Region;
 
 /// Returns what [`check_by_table`] returns for the first `count` entries. The table is in the memory after them and at

@@ -15,9 +15,9 @@ use crate::entry::Spelled;
 use crate::form::is_name;
 use crate::hash::hash_name;
 use crate::rows::{keep_numbers, named_in_row};
-use bp_dirs::entry_place;
 use bp_limits::{BLOCK_ENTRIES, ENTRY_SIZE, ENTRY_WORDS};
-use bp_tree::Tree;
+use bp_read::Tree;
+use bp_read::directory::entry_place;
 use pm_region::Region;
 
 /// Records the entries of a leaf, from slot `first` on, after the `before` entries that were recorded before, and

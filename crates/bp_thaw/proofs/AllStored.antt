@@ -8,7 +8,7 @@ use Rattle.pm_epochs.specs.May.{AnyOf, links_of}
 use Rattle.bp_layout.specs.Members.{Has}
 use Rattle.bp_layout.specs.Same.{Same}
 use Rattle.bp_layout.specs.Words.{Image, word, block_of, block_count}
-use Rattle.bp_shapes.specs.Trail.{Trail, word_on, block_on, place_on, ArePointers, IsSkeleton}
+use Rattle.bp_changes.specs.Trail.{Trail, word_on, block_on, place_on, ArePointers, IsSkeleton}
 use Rattle.bp_cow.specs.Copies.{pointing_to}
 use Rattle.bp_thaw.specs.Linked.{AreThawing, is_top}
 use Rattle.bp_thaw.specs.Copies.{Copies, Marks, copy_on, placed_copies, source_of, is_copied, links_among, AreMarks, HasCopies}

@@ -17,8 +17,8 @@ use Rattle.bp_layout.proofs.MemberLaws.{filter-has, has-either}
 use Rattle.bp_changes.specs.Thawed.{SameShape}
 use Rattle.bp_changes.proofs.ReachedOn.{reached_on}
 use Rattle.bp_changes.proofs.SameMeaning.{well_formed-same}
-use Rattle.bp_shapes.specs.Trail.{Trail, block_on, place_on, trail_of}
-use Rattle.bp_shapes.specs.Forest.{IsTreePointer}
+use Rattle.bp_changes.specs.Trail.{Trail, block_on, place_on, trail_of}
+use Rattle.bp_changes.specs.Forest.{IsTreePointer}
 use Rattle.bp_thaw.specs.Prefixes.{IsPointerPath, IsWayIn, path_trail}
 use Rattle.bp_thaw.specs.Steps.{AreInSnapshot, IsInSnapshot}
 use Rattle.bp_thaw.proofs.Found.{AreFound, IsPrefixAmong, all_apart, any_some, are_found, filter_none, found_is, gone, mapped_range, path_of, some_any, take_prefix, there_of}

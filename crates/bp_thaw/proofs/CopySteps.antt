@@ -14,7 +14,7 @@ use Rattle.bp_free.specs.Set.{Set, TakesLeast, has}
 use Rattle.bp_layout.specs.Members.{AreApart, Each, Has}
 use Rattle.bp_layout.specs.Words.{word, block_count, block_of}
 use Rattle.bp_layout.proofs.MemberLaws.{apart-append, apart-first, each-append, each-as, has-after, has-either, has-prefix}
-use Rattle.bp_commit.specs.Performs.{InBlock}
+use Rattle.bp_changes.specs.Performs.{InBlock}
 use Rattle.bp_cow.specs.Copies.{CanFillBlock, FillsBlock, pointing_to}
 use Rattle.bp_thaw.specs.Copies.{AreTurned, Copies, blocks_of, copy_at, places_of, source_of, turned_to, turned_word}
 use Rattle.bp_thaw.specs.Steps.{CanFillCopies, InBlocks, TakesAll}

@@ -10,10 +10,10 @@ use Rattle.bp_layout.specs.WordPaths.{WordPath, address, digits, inode_path, tre
 use Rattle.bp_layout.specs.Words.{Image, block_count, block_of, height_of, word}
 use Rattle.bp_layout.specs.Inode.{size_of}
 use Rattle.bp_layout.proofs.Addresses.{address_from-append}
-use Rattle.bp_shapes.specs.Trail.{block_on, trail_of}
-use Rattle.bp_shapes.specs.Forest.{IsTreePointer}
-use Rattle.bp_shapes.proofs.FreeSets.{pointer_prefixes, wf_forest}
-use Rattle.bp_shapes.proofs.PathTrails.{low-placed}
+use Rattle.bp_changes.specs.Trail.{block_on, trail_of}
+use Rattle.bp_changes.specs.Forest.{IsTreePointer}
+use Rattle.bp_changes.proofs.FreeSets.{pointer_prefixes, wf_forest}
+use Rattle.bp_changes.proofs.PathTrails.{low-placed}
 use Rattle.bp_thaw.specs.Prefixes.{IsPointerPath, IsWayIn, found_in, found_on, is_found, path_trail}
 use Rattle.bp_thaw.proofs.CopySteps.{map-more}
 use Rattle.bp_thaw.proofs.Marks.{block_above, placed}

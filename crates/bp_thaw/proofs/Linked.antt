@@ -2,7 +2,7 @@
 use Rattle.std.proofs.Common.{◌≡◌, ◌≢◌, ◌⊎◌, ℕ, zero, suc, ◌*◌, ◌/◌, ◌%◌, ◌<◌, [], ◌∷◌, Bool, true, false, Option, None, Some, refl, sym, ◌∙◌, ap, subst, arith, inl, inr, true≢false}
 use Rattle.bp_layout.specs.Words.{Image, word, block_of, block_count, slot_word}
 use Rattle.bp_layout.proofs.TreeLaws.{slot_word-at}
-use Rattle.bp_shapes.specs.Trail.{Trail, word_on, block_on, place_on, ArePointers, IsSkeleton, LeadsTo}
+use Rattle.bp_changes.specs.Trail.{Trail, word_on, block_on, place_on, ArePointers, IsSkeleton, LeadsTo}
 use Rattle.bp_cow.specs.Committed.{IsCommitted}
 use Rattle.bp_cow.specs.Copies.{pointing_to}
 use Rattle.bp_thaw.specs.Linked.{AreCopies, AreThawing, copied_word, is_turned}

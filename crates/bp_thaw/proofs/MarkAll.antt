@@ -3,7 +3,7 @@ use Rattle.std.proofs.Common.{◌≡◌, ℕ, suc, List, [], ◌∷◌, map, len
 use Rattle.bp_layout.specs.Members.{AreApart, Has}
 use Rattle.bp_layout.proofs.MemberLaws.{apart-first}
 use Rattle.bp_layout.specs.Words.{Image}
-use Rattle.bp_shapes.specs.Trail.{Trail, place_on}
+use Rattle.bp_changes.specs.Trail.{Trail, place_on}
 use Rattle.bp_thaw.specs.Copies.{Copies, Marks, blocks_of, placed_copies, places_of}
 
 abbrev pub mark_all : List Trail → Copies → Marks

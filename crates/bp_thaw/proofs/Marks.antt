@@ -6,9 +6,9 @@ use Rattle.std.proofs.lemmas.Slice.Eq.{bytes_eq-Decides}
 use Rattle.bp_layout.specs.Members.{Has}
 use Rattle.bp_layout.specs.Words.{Image, word, block_of, slot_word}
 use Rattle.bp_layout.proofs.TreeLaws.{slot_word-at}
-use Rattle.bp_shapes.specs.Trail.{Trail, word_on, block_on, place_on, ArePointers, IsSkeleton, IsPlaced}
-use Rattle.bp_shapes.specs.Trail.IsPlaced.{at_top, in_block}
-use Rattle.bp_shapes.proofs.TrailLaws.{cases_trail, word_on-top, word_on-slot}
+use Rattle.bp_changes.specs.Trail.{Trail, word_on, block_on, place_on, ArePointers, IsSkeleton, IsPlaced}
+use Rattle.bp_changes.specs.Trail.IsPlaced.{at_top, in_block}
+use Rattle.bp_changes.proofs.TrailLaws.{cases_trail, word_on-top, word_on-slot}
 use Rattle.bp_thaw.specs.Linked.{AreCopies}
 use Rattle.bp_thaw.specs.Copies.{Marks, copy_on, copy_at, placed_copies, AreMarks}
 

@@ -16,10 +16,10 @@ use Rattle.bp_changes.specs.Commits.{Commits}
 use Rattle.bp_changes.specs.SameMeaning.{SameMeaning}
 use Rattle.bp_changes.specs.Thawed.{SameShape}
 use Rattle.bp_changes.proofs.SameMeaning.{same-by_meaning}
-use Rattle.bp_shapes.specs.Trail.{Trail, word_on, block_on}
-use Rattle.bp_shapes.specs.Forest.{IsForest, IsTreePointer, along, root_trail, tree_trail}
-use Rattle.bp_shapes.proofs.ForestLaws.{pointers, word-root, word-tree}
-use Rattle.bp_shapes.proofs.FreeSets.{wf_forest}
+use Rattle.bp_changes.specs.Trail.{Trail, word_on, block_on}
+use Rattle.bp_changes.specs.Forest.{IsForest, IsTreePointer, along, root_trail, tree_trail}
+use Rattle.bp_changes.proofs.ForestLaws.{pointers, word-root, word-tree}
+use Rattle.bp_changes.proofs.FreeSets.{wf_forest}
 use Rattle.bp_cow.specs.Committed.{IsCommitted, after_commit, changes_of}
 use Rattle.bp_cow.specs.Counting.{IsTreeWord}
 use Rattle.bp_cow.specs.Job.{Job}

@@ -19,12 +19,12 @@ use Rattle.bp_layout.specs.WordPaths.{WordPath, address, digits, inode_path, tre
 use Rattle.bp_layout.specs.Words.{Image, block_of, height_of, word}
 use Rattle.bp_layout.proofs.TreeLaws.{live_above, live_content}
 use Rattle.bp_layout.proofs.Reached.{reached-in_file}
-use Rattle.bp_shapes.specs.Trail.{ArePointers, IsSkeleton, Trail, block_on, place_on, trail_of}
-use Rattle.bp_shapes.specs.Forest.{IsForest, IsTreePointer, along, tree_trail}
-use Rattle.bp_shapes.proofs.ForestLaws.{block-tree, pointers, same_trail, short, short_pointer, skeleton}
-use Rattle.bp_shapes.proofs.FreeSets.{wf_forest}
-use Rattle.bp_shapes.proofs.PathTrails.{AreNodes, address-on}
-use Rattle.bp_tree.proofs.Digits.{length-digits}
+use Rattle.bp_changes.specs.Trail.{ArePointers, IsSkeleton, Trail, block_on, place_on, trail_of}
+use Rattle.bp_changes.specs.Forest.{IsForest, IsTreePointer, along, tree_trail}
+use Rattle.bp_changes.proofs.ForestLaws.{block-tree, pointers, same_trail, short, short_pointer, skeleton}
+use Rattle.bp_changes.proofs.FreeSets.{wf_forest}
+use Rattle.bp_changes.proofs.PathTrails.{AreNodes, address-on}
+use Rattle.bp_read.proofs.Digits.{length-digits}
 use Rattle.bp_thaw.specs.Prefixes.{HasDigits, IsPointerPath, IsWayIn, path_trail}
 use Rattle.bp_thaw.proofs.Marks.{block_above, placed, places_apart, word-at_place}
 

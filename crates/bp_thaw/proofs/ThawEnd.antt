@@ -26,16 +26,16 @@ use Rattle.bp_layout.proofs.SameLaws.{same_symmetric, same_transitive}
 use Rattle.bp_changes.specs.Thawed.{SameShape}
 use Rattle.bp_changes.proofs.ReachedOn.{reached_on}
 use Rattle.bp_changes.proofs.SameMeaning.{reached-back}
-use Rattle.bp_shapes.specs.Trail.{Trail, word_on, block_on, place_on, ArePointers, IsPlaced, IsSkeleton, LeadsTo}
-use Rattle.bp_shapes.specs.Forest.{IsExactSet, IsForest, IsTreePointer}
-use Rattle.bp_shapes.proofs.ExactSets.{held_led, led_held, unheld_exact}
-use Rattle.bp_shapes.proofs.ForestLaws.{pointers, skeleton}
-use Rattle.bp_shapes.proofs.FreeSets.{wf_forest}
-use Rattle.bp_shapes.proofs.PathTrails.{low-placed}
-use Rattle.bp_shapes.proofs.Unseen.{same_unseen}
-use Rattle.bp_commit.specs.Performs.{AddsTaking, InBlock, IsOpen}
-use Rattle.bp_commit.specs.Performs.IsOpen.{in_taken, in_live, at_root}
-use Rattle.bp_commit.proofs.PerformsLaws.{same_equivalence}
+use Rattle.bp_changes.specs.Trail.{Trail, word_on, block_on, place_on, ArePointers, IsPlaced, IsSkeleton, LeadsTo}
+use Rattle.bp_changes.specs.Forest.{IsExactSet, IsForest, IsTreePointer}
+use Rattle.bp_changes.proofs.ExactSets.{held_led, led_held, unheld_exact}
+use Rattle.bp_changes.proofs.ForestLaws.{pointers, skeleton}
+use Rattle.bp_changes.proofs.FreeSets.{wf_forest}
+use Rattle.bp_changes.proofs.PathTrails.{low-placed}
+use Rattle.bp_changes.proofs.Unseen.{same_unseen}
+use Rattle.bp_changes.specs.Performs.{AddsTaking, InBlock, IsOpen}
+use Rattle.bp_changes.specs.Performs.IsOpen.{in_taken, in_live, at_root}
+use Rattle.bp_changes.proofs.PerformsLaws.{same_equivalence}
 use Rattle.bp_cow.specs.Committed.{IsCommitted, after_commit}
 use Rattle.bp_cow.specs.Counting.{IsTreeWord}
 use Rattle.bp_cow.specs.Copies.{pointing_to}

@@ -13,7 +13,7 @@ use Rattle.bp_layout.specs.Tree.{node, span}
 use Rattle.bp_layout.specs.WellFormed.{IsWellFormed}
 use Rattle.bp_layout.specs.WordPaths.{WordPath, digits, inode_path, tree_path}
 use Rattle.bp_layout.specs.Words.{Image, height_of, word}
-use Rattle.bp_tree.proofs.Digits.{length-digits}
+use Rattle.bp_read.proofs.Digits.{length-digits}
 use Rattle.bp_thaw.specs.Prefixes.{IsPointerPath, IsWayIn}
 use Rattle.bp_thaw.proofs.PointerPaths.{prefix_path, number-append, pointed_is}
 

@@ -15,11 +15,11 @@ use Rattle.bp_layout.specs.Same.{Same}
 use Rattle.bp_layout.specs.WordPaths.{WordPath, address}
 use Rattle.bp_layout.specs.Words.{Image}
 use Rattle.bp_layout.proofs.SameLaws.{same_self}
-use Rattle.bp_shapes.specs.Trail.{Trail, place_on, word_on}
-use Rattle.bp_shapes.specs.Forest.{IsTreePointer}
-use Rattle.bp_shapes.proofs.ForestLaws.{skeleton}
-use Rattle.bp_shapes.proofs.FreeSets.{wf_forest}
-use Rattle.bp_commit.proofs.PerformsLaws.{takes_none}
+use Rattle.bp_changes.specs.Trail.{Trail, place_on, word_on}
+use Rattle.bp_changes.specs.Forest.{IsTreePointer}
+use Rattle.bp_changes.proofs.ForestLaws.{skeleton}
+use Rattle.bp_changes.proofs.FreeSets.{wf_forest}
+use Rattle.bp_changes.proofs.PerformsLaws.{takes_none}
 use Rattle.bp_cow.specs.Committed.{IsCommitted}
 use Rattle.bp_cow.specs.Counting.{IsTreeWord}
 use Rattle.bp_thaw.specs.Copies.{Copies, blocks_of, is_copied, links_among, places_of}

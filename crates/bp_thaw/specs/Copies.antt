@@ -4,7 +4,7 @@ use Rattle.std.specs.List.{list_any}
 use Rattle.bp_limits.specs.Limits.{block_words}
 use Rattle.bp_layout.specs.Words.{Image, word, block_count, block_of}
 use Rattle.bp_layout.specs.Members.{Has}
-use Rattle.bp_shapes.specs.Trail.{Trail, block_on, place_on, LeadsTo}
+use Rattle.bp_changes.specs.Trail.{Trail, block_on, place_on, LeadsTo}
 use Rattle.bp_cow.specs.Copies.{pointing_to}
 
 -- each copy: the place of the pointer to its block, and the number of the block with the copy

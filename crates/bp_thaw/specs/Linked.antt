@@ -2,7 +2,7 @@
 use Rattle.std.specs.Prelude.{◌≡◌, ◌≢◌, ℕ, ◌+◌, ◌*◌, ◌<◌, [], ◌∷◌, length, Bool, true, false, ◌&&◌, Option, None, Some, is_some, if◌then◌else◌}
 use Rattle.bp_limits.specs.Limits.{block_words, super_root}
 use Rattle.bp_layout.specs.Words.{Image, word, block_count}
-use Rattle.bp_shapes.specs.Trail.{Trail, word_on, block_on, place_on, LeadsTo}
+use Rattle.bp_changes.specs.Trail.{Trail, word_on, block_on, place_on, LeadsTo}
 use Rattle.bp_cow.specs.Copies.{pointing_to}
 
 -- the pointers whose blocks are copied, and the copies: different blocks to which no pointer leads

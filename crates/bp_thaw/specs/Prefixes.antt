@@ -8,7 +8,7 @@ use Rattle.bp_layout.specs.Reached.{IsReached}
 use Rattle.bp_layout.specs.Thaw.{is_in_snapshot_at}
 use Rattle.bp_layout.specs.WordPaths.{WordPath, address, tree_path}
 use Rattle.bp_layout.specs.Words.{Image, height_of, word}
-use Rattle.bp_shapes.specs.Trail.{Trail, trail_of}
+use Rattle.bp_changes.specs.Trail.{Trail, trail_of}
 
 -- a number of at most `depth` digits in base 512
 abbrev pub HasDigits : ℕ → ℕ → Type 0

@@ -9,9 +9,9 @@ use Rattle.bp_free.specs.Set.{Set, has, members}
 use Rattle.bp_layout.specs.Inode.{size_of}
 use Rattle.bp_layout.specs.Members.{AreApart, Each, Has}
 use Rattle.bp_layout.specs.Words.{Image, block_count, word}
-use Rattle.bp_shapes.specs.Forest.{IsTreePointer}
-use Rattle.bp_shapes.specs.Trail.{Trail, block_on}
-use Rattle.bp_commit.specs.Performs.{InBlock}
+use Rattle.bp_changes.specs.Forest.{IsTreePointer}
+use Rattle.bp_changes.specs.Trail.{Trail, block_on}
+use Rattle.bp_changes.specs.Performs.{InBlock}
 use Rattle.bp_thaw.specs.Copies.{Copies, blocks_of, places_of, source_of, turned_word}
 
 -- The pointer is live and leads to a block of the snapshot.

@@ -12,7 +12,7 @@ use Rattle.bp_layout.specs.WordPaths.{WordPath}
 use Rattle.bp_limits.specs.Limits.{block_words}
 use Rattle.bp_layout.specs.Thaw.{thawed_on}
 use Rattle.bp_thaw.specs.Prefixes.{IsWayIn}
-use Rattle.bp_commit.specs.Performs.{AddsTaking}
+use Rattle.bp_changes.specs.Performs.{AddsTaking}
 use Rattle.pm_region.specs.Memory.{Memory, current_words, room_in}
 
 abbrev pub paths_in : ArrayVec (ArrayVec ℕ) → List WordPath

@@ -15,7 +15,7 @@ use crate::ways::is_there;
 use arrayvec::ArrayVec;
 use bp_free::Blocks;
 use bp_limits::{BLOCK_WORDS, SUPER_ROOT};
-use bp_tree::Slots;
+use bp_read::Slots;
 use pm_region::Region;
 
 /// Places of pointers: as many as eight ways of twelve slots can have.

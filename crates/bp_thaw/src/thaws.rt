@@ -17,7 +17,7 @@ use crate::find::find;
 use crate::links::{links_to, store_links};
 use arrayvec::ArrayVec;
 use bp_free::Parts;
-use bp_tree::Slots;
+use bp_read::Slots;
 use pm_region::Region;
 
 /// Returns how many blocks a thaw of the ways to some words copies.

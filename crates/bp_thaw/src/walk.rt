@@ -10,7 +10,7 @@ ghost use Rattle.bp_thaw.specs.Prefixes.{IsWayIn};
 
 use bp_free::Parts;
 use bp_limits::{BLOCK_WORDS, SUPER_ROOT};
-use bp_tree::Slots;
+use bp_read::Slots;
 use pm_region::Region;
 
 /// Returns whether no block of the snapshot is on a way, all of whose pointers exist.

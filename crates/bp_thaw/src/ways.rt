@@ -14,7 +14,7 @@ ghost use Rattle.pm_region.specs.Memory.{words_in};
 ghost use Rattle.bp_thaw.specs.Prefixes.{IsWayIn};
 
 use bp_limits::{INODE_WORDS, SUPER_ROOT, SUPER_SIZE};
-use bp_tree::{Slots, Tree};
+use bp_read::{Slots, Tree};
 use pm_region::Region;
 
 /// Returns the number whose base-512 digits are the slots of a way from `from` to `to`, at most six of them.
@@ -41,7 +41,7 @@ fn is_present<R: Region>(region: &R, tree: Tree, level: u32, index: u64) -> bool
         (record { level = level; index = index }) }
 {
     index <= (tree.size - 1) / pm_words::span(level)
-        && bp_tree::node(region, tree, level, index) != 0
+        && bp_read::node(region, tree, level, index) != 0
 }
 
 /// Returns the tree of the inode file.
@@ -69,8 +69,8 @@ fn tree_of<R: Region>(region: &R, file: Tree, inode: u64) -> Tree
 {
     let first = INODE_WORDS * inode;
     Tree {
-        root: bp_tree::content_word(region, file, first + 1),
-        size: bp_tree::content_word(region, file, first + 2),
+        root: bp_read::content_word(region, file, first + 1),
+        size: bp_read::content_word(region, file, first + 2),
     }
 }
 

@@ -7,7 +7,7 @@ use Rattle.bp_layout.specs.Names.{IsNamed}
 use Rattle.bp_layout.specs.Reached.{IsFreeBlock, IsLiveBlock}
 use Rattle.bp_layout.specs.Words.{Image}
 use Rattle.bp_layout.proofs.BesideTrees.{SameTrees, same_back, names_back, reached_back, block_back}
-use Rattle.bp_shapes.specs.Sets.{IsExact, in_snapshot_of}
+use Rattle.bp_changes.specs.Sets.{IsExact, in_snapshot_of}
 
 module _ (old new : Image) (same : SameTrees old new) where
   pub named_back : (j : ℕ) (e : ℕ × ℕ) → IsNamed new j e → IsNamed old j e

@@ -8,7 +8,7 @@ use Rattle.bp_cache.specs.declared.cache.DirectoryCache.{DirectoryCache}
 use Rattle.bp_cache.proofs.EffectLaws.{cache_kept, same_trees_keep_all}
 use Rattle.bp_free.specs.declared.parts.Parts.{Parts}
 use Rattle.bp_layout.specs.Trees.{AreInSnapshot}
-use Rattle.bp_shapes.specs.Sets.{IsExact, in_snapshot_of}
+use Rattle.bp_changes.specs.Sets.{IsExact, in_snapshot_of}
 use Rattle.bp_plain.specs.Calls.{Call, Answer}
 use Rattle.bp_volume.specs.Carried.{CarriesOut}
 use Rattle.bp_volume.specs.Volume.{IsCachedVolume, IsVolume}

@@ -11,7 +11,7 @@ use Rattle.bp_layout.specs.Whole.{IsFileSystem, SameFiles}
 use Rattle.bp_layout.specs.Words.{block_count}
 use Rattle.bp_layout.specs.Trees.{AreInSnapshot}
 use Rattle.bp_free.specs.Set.{has}
-use Rattle.bp_shapes.specs.Sets.{IsExact, in_snapshot_of}
+use Rattle.bp_changes.specs.Sets.{IsExact, in_snapshot_of}
 use Rattle.bp_plain.specs.Calls.{Call, Answer}
 use Rattle.bp_limits.specs.Limits.{call_room}
 use Rattle.bp_volume.specs.FileCall.{FileCall}

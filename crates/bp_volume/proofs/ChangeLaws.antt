@@ -17,8 +17,8 @@ use Rattle.bp_plain.specs.Calls.Refusal.{no_space}
 use Rattle.bp_plain.specs.Calls.Answer.{done, refused}
 use Rattle.bp_plain.specs.Plain.{plain, is_changing, refusal, changes, answer, answer_or, tree_after, with_now}
 use Rattle.bp_plain.specs.Seen.{refusal_of}
-use Rattle.bp_commit.specs.Performs.{Performs}
-use Rattle.bp_commit.proofs.PerformsLaws.{performs_as, performs_fits}
+use Rattle.bp_changes.specs.Performs.{Performs}
+use Rattle.bp_changes.proofs.PerformsLaws.{performs_as, performs_fits}
 use Rattle.bp_calls.specs.Space.{LacksSpace}
 use Rattle.bp_volume.specs.Step.{StepFor, IsChange, Fits}
 use Rattle.bp_volume.specs.Step.StepFor.{changed}

@@ -22,7 +22,7 @@ use Rattle.bp_layout.proofs.Below.{bytes_eq_self}
 use Rattle.bp_layout.proofs.Finding.{Finds, find-passes}
 use Rattle.bp_append.proofs.FewNeeded.{few_needed}
 use Rattle.bp_append.proofs.NeedLaws.{tall_low}
-use Rattle.bp_tree.proofs.Digits.{length-digits}
+use Rattle.bp_read.proofs.Digits.{length-digits}
 
 -- ---- copies
 

@@ -15,7 +15,7 @@ use Rattle.bp_layout.proofs.Finding.{Finds, find-passes}
 use Rattle.bp_limits.specs.Limits.{max_height}
 use Rattle.bp_limits.specs.CallLimits.{max_name}
 use Rattle.bp_rename.specs.CanRename.{change_to}
-use Rattle.bp_tree.proofs.Digits.{length-digits}
+use Rattle.bp_read.proofs.Digits.{length-digits}
 use Rattle.bp_volume.proofs.FewBlocks.{IsFew, alone_few, charge, charge_rises, content_slots, height_low, inode_slots, new_entry_few, one_few, run_few}
 
 -- two paths

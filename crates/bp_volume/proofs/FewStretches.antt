@@ -16,7 +16,7 @@ use Rattle.bp_layout.specs.Reached.IsReached.{inode_file}
 use Rattle.bp_layout.specs.WellFormed.{IsWellFormed}
 use Rattle.bp_layout.specs.WordPaths.{WordPath, digits, inode_path}
 use Rattle.bp_layout.specs.Words.{Image, height_of}
-use Rattle.bp_tree.proofs.Digits.{length-digits}
+use Rattle.bp_read.proofs.Digits.{length-digits}
 use Rattle.bp_calls.specs.Overwritten.{IsPatchIn, byte_count, stretch_of, stretches_of}
 use Rattle.bp_volume.proofs.FewBlocks.{IsFew, charge_rises, run_few_after}
 

@@ -20,8 +20,8 @@ use Rattle.bp_layout.specs.Thaw.{end_path_now, end_targets, entry_targets, prope
 use Rattle.bp_layout.specs.WordPaths.{WordPath, digits, inode_path, tree_path}
 use Rattle.bp_layout.specs.Words.{Image}
 use Rattle.bp_layout.proofs.MemberLaws.{each-append}
-use Rattle.bp_commit.specs.Performs.{HasRoomFor, Performs, most_barriers, most_stores, room_for}
-use Rattle.bp_tree.proofs.Digits.{length-digits}
+use Rattle.bp_changes.specs.Performs.{HasRoomFor, Performs, most_barriers, most_stores, room_for}
+use Rattle.bp_read.proofs.Digits.{length-digits}
 use Rattle.bp_volume.proofs.FewBlocks.{IsFew, filter_few}
 
 -- ---- paths, at whatever heights a root word reports

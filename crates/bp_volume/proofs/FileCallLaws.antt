@@ -1,8 +1,8 @@
 -- A call on a file, from its parts.
 use Rattle.std.proofs.Common.{◌≡◌, ℕ, [], ◌∷◌, ◌++◌, true, false, refl, sym, ◌∙◌, ap, subst}
 use Rattle.pm_epochs.specs.declared.event.Event.TheVariants.{CallEnd}
-use Rattle.bp_commit.specs.Performs.{IsShort}
-use Rattle.bp_commit.proofs.PerformsLaws.{performed, performs_adds, performs_short, performs_no_call_end}
+use Rattle.bp_changes.specs.Performs.{IsShort}
+use Rattle.bp_changes.proofs.PerformsLaws.{performed, performs_adds, performs_short, performs_no_call_end}
 use Rattle.pm_region.specs.Memory.{Memory, current_words, with_room, Adds}
 use Rattle.pm_region.specs.Safe.{IsSafe}
 use Rattle.pm_region.proofs.MemoryLaws.{adds_both, current_words-adds, capacity-adds, current_words-with_room}
@@ -12,7 +12,7 @@ use Rattle.bp_layout.specs.Trees.{AreInSnapshot}
 use Rattle.bp_layout.specs.Whole.{IsFileSystem, SameFiles}
 use Rattle.bp_layout.specs.Words.{Image}
 use Rattle.bp_plain.specs.Calls.{Call, Answer}
-use Rattle.bp_shapes.specs.Sets.{IsExact}
+use Rattle.bp_changes.specs.Sets.{IsExact}
 use Rattle.bp_volume.specs.Carried.{ChangesTree, PerformsCall}
 use Rattle.bp_volume.specs.Step.{IsChange}
 use Rattle.bp_limits.specs.Limits.{call_room}

@@ -7,7 +7,7 @@ use Rattle.bp_calls.specs.Removed.{IsFoundAt}
 use Rattle.bp_calls.proofs.MayLeave.{found_inumber, found_spelled, file_may_leave, directory_may_leave}
 use Rattle.bp_calls.proofs.ReadingLaws.{length-seen}
 use Rattle.bp_changes.specs.Effects.{CanUnlink}
-use Rattle.bp_dirs.specs.Names.{name_count}
+use Rattle.bp_read.specs.Names.{name_count}
 use Rattle.bp_layout.specs.Directory.{inumber_at, name_at, slot_named}
 use Rattle.bp_layout.specs.Inode.{kind_of, root_of, size_of}
 use Rattle.bp_layout.specs.Lookup.{lookup}

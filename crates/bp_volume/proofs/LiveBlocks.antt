@@ -18,7 +18,7 @@ use Rattle.bp_layout.specs.Words.{Image, block_count, height_of}
 use Rattle.bp_layout.proofs.FewLeaves.{few_inodes}
 use Rattle.bp_layout.proofs.Reached.{reached-in_file}
 use Rattle.bp_scan.specs.Scanned.{AreOthersLive}
-use Rattle.bp_shapes.specs.Sets.{IsExact}
+use Rattle.bp_changes.specs.Sets.{IsExact}
 use Rattle.bp_walk.proofs.LiveSlots.{covered_some}
 
 -- one of the numbers below a bound, or none

@@ -5,7 +5,7 @@ use Rattle.std.specs.FinMap.{get}
 use Rattle.std.specs.Option.{option_map}
 use Rattle.std.proofs.lemmas.Bool.{cases_eq, eq-eqb, ne_eqb, eqb-true, eqb-false}
 use Rattle.bp_calls.proofs.ReadingLaws.{length-seen}
-use Rattle.bp_dirs.specs.Names.{name_count}
+use Rattle.bp_read.specs.Names.{name_count}
 use Rattle.bp_layout.specs.Paths.{same_path, Path, parse}
 use Rattle.bp_layout.specs.Directory.{inumber_at, slot_named}
 use Rattle.bp_layout.specs.Inode.{kind_of, root_of, size_of}

@@ -13,7 +13,7 @@ use Rattle.bp_layout.specs.WordPaths.{address}
 use Rattle.bp_layout.specs.Words.{Image}
 use Rattle.bp_layout.specs.Whole.{IsFileSystem, SameFiles}
 use Rattle.bp_layout.proofs.SameLaws.{same_self}
-use Rattle.bp_commit.specs.Performs.{Performs, most_stores}
+use Rattle.bp_changes.specs.Performs.{Performs, most_stores}
 use Rattle.bp_volume.proofs.WholeLaws.{whole_commit, whole_equivalence, whole_file_system, whole_snapshot}
 
 -- ---- a file system by itself

@@ -8,7 +8,7 @@ use Rattle.bp_layout.specs.Whole.{IsFileSystem, SameFiles}
 use Rattle.bp_layout.specs.Words.{block_count}
 use Rattle.bp_layout.specs.Trees.{AreInSnapshot}
 use Rattle.bp_limits.specs.Limits.{call_room}
-use Rattle.bp_shapes.specs.Sets.{IsExact, in_snapshot_of}
+use Rattle.bp_changes.specs.Sets.{IsExact, in_snapshot_of}
 use Rattle.bp_volume.specs.Volume.{IsVolume}
 use Rattle.bp_volume.proofs.SafeLaws.{whole_self}
 use Rattle.bp_volume.proofs.WholeLaws.{whole_equivalence}

@@ -42,7 +42,7 @@ use Rattle.bp_plain.specs.Stands.{ShowsSnapshot, Stands}
 use Rattle.bp_scan.specs.Others.{HasOthers}
 use Rattle.bp_scan.specs.Scanned.{AreOthersLive}
 use Rattle.bp_scan.proofs.BothScans.{snapshot_others}
-use Rattle.bp_shapes.specs.Sets.{IsExact, in_snapshot_of}
+use Rattle.bp_changes.specs.Sets.{IsExact, in_snapshot_of}
 use Rattle.bp_stands.proofs.SnapStands.{idle-harmless, snap_stands, snapped_same, snapshot_is, unsnap_stands, unsnapped_same}
 use Rattle.bp_volume.specs.Carried.{ChangesTree}
 use Rattle.bp_volume.specs.Snapped.{Snaps, Unsnaps}

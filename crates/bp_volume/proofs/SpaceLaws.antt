@@ -8,7 +8,7 @@ use Rattle.bp_layout.specs.Whole.{HasSpace}
 use Rattle.bp_layout.specs.Words.{Image}
 use Rattle.bp_scan.specs.Totals.{HasLive}
 use Rattle.bp_scan.proofs.Counting.{few_free, has_live}
-use Rattle.bp_shapes.specs.Sets.{AreExact}
+use Rattle.bp_changes.specs.Sets.{AreExact}
 
 module _ (image : Image) (wf : IsWellFormed image) (snapshot_blocks blocks inodes : Set) (are : AreInSnapshot image (has snapshot_blocks)) (exact : AreExact image (has snapshot_blocks) blocks inodes) where
   pub space_counted : HasSpace image (length (members blocks))

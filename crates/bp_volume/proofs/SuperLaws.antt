@@ -23,7 +23,7 @@ use Rattle.bp_plain.specs.Calls.Answer.{done}
 use Rattle.bp_plain.specs.Plain.{answer, answer_or, changes, is_changing, plain, refusal, tree_after}
 use Rattle.bp_plain.specs.PlainTree.{FileTree}
 use Rattle.bp_plain.specs.Stands.{Stands}
-use Rattle.bp_shapes.specs.Sets.{IsExact, in_snapshot_of}
+use Rattle.bp_changes.specs.Sets.{IsExact, in_snapshot_of}
 use Rattle.bp_volume.specs.Carried.{ChangesTree}
 use Rattle.bp_volume.specs.FileCall.{FileCall, has_changed}
 use Rattle.bp_volume.specs.FileCall.IsCheap.{reports}

@@ -24,7 +24,7 @@ use Rattle.bp_limits.specs.CallLimits.{is_two}
 use Rattle.bp_limits.specs.declared.version.Version.TheVariants.{One, Two}
 use Rattle.bp_plain.specs.Calls.Answer.{done}
 use Rattle.bp_plain.specs.Calls.Call.{upgrade}
-use Rattle.bp_shapes.specs.Sets.{IsExact, in_snapshot_of}
+use Rattle.bp_changes.specs.Sets.{IsExact, in_snapshot_of}
 use Rattle.bp_stands.proofs.UpgradeStands.{upgrade_stands}
 use Rattle.bp_volume.specs.Carried.{ChangesTree}
 use Rattle.bp_volume.specs.Step.{Fits, IsChange}

@@ -20,9 +20,9 @@ use Rattle.bp_layout.proofs.MemberLaws.{each-has}
 use Rattle.bp_layout.proofs.SameLaws.{same_symmetric, same_transitive}
 use Rattle.bp_changes.proofs.Snapshot.{Keeps, snapshot_stays, has_snapshot-same, snapshot_same}
 use Rattle.bp_layout.specs.Thaw.{full_need}
-use Rattle.bp_commit.specs.Performs.{IsOpen, Performs, most_stores}
-use Rattle.bp_commit.specs.Performs.IsOpen.{in_taken, in_live, at_root, at_size}
-use Rattle.bp_commit.proofs.PerformsLaws.{all_open}
+use Rattle.bp_changes.specs.Performs.{IsOpen, Performs, most_stores}
+use Rattle.bp_changes.specs.Performs.IsOpen.{in_taken, in_live, at_root, at_size}
+use Rattle.bp_changes.proofs.PerformsLaws.{all_open}
 use Rattle.bp_layout.specs.Formatted.{version_of}
 use Rattle.bp_plain.specs.Plain.{with_now}
 use Rattle.bp_plain.specs.PlainTree.{FileTree, PathMap}

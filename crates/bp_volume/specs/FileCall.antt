@@ -15,7 +15,7 @@ use Rattle.bp_plain.specs.Calls.Answer.{refused}
 use Rattle.bp_plain.specs.Plain.{is_changing}
 use Rattle.bp_layout.specs.Need.{Change}
 use Rattle.bp_layout.specs.Words.{Image}
-use Rattle.bp_commit.specs.Performs.{IsShort}
+use Rattle.bp_changes.specs.Performs.{IsShort}
 use Rattle.bp_volume.specs.Step.{Step, IsChange}
 use Rattle.bp_volume.specs.SuperEvents.{super_events}
 

@@ -2,7 +2,7 @@
 
 ghost use Rattle.std.specs.Prelude.{◌≡◌, ◌≢◌, ◌≤◌, IfErr, IfOk, IfSome, IsTrue, Some, [], length, unwrap_or};
 ghost use Rattle.bp_cache.specs.Cache.{IsCacheOf};
-ghost use Rattle.bp_dirs.specs.Spots.{FreeIs, found_slot, named_slot};
+ghost use Rattle.bp_read.specs.Spots.{FreeIs, found_slot, named_slot};
 ghost use Rattle.bp_layout.specs.Directory.{empty_slot, entry_count, inumber_at, slot_named};
 ghost use Rattle.bp_layout.specs.Inode.{IsDirectory, IsFile, size_of};
 ghost use Rattle.bp_layout.specs.Lookup.{lookup};
@@ -20,12 +20,13 @@ ghost use Rattle.bp_volume.specs.Queries.{StopsAtEntry, StopsAtFile, StopsAtNew,
 ghost use Rattle.pm_region.specs.Memory.{words_in};
 
 use bp_cache::{DirectoryCache, NameAt};
-use bp_dirs::{Both, Finder, Spot, inumber};
-use bp_inodes::{get, tree_of};
 use bp_layout::Kind;
 use bp_limits::ENTRY_SIZE;
 use bp_path::{BadPath, FoundEntry, Path, WalkFault, parse, walk_by, walk_parent_by};
 use bp_plain::FsError;
+use bp_read::directory::inumber;
+use bp_read::inodes::{get, tree_of};
+use bp_read::{Both, Finder, Spot};
 use pm_region::Region;
 
 /// A name that a directory does not have.

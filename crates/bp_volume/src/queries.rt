@@ -13,11 +13,11 @@ ghost use Rattle.pm_region.specs.Memory.{words_in};
 use crate::lookup::{file_at, inode_at};
 use bp_cache::DirectoryCache;
 use bp_calls::{links, list, read, stat};
-use bp_dirs::Finder;
 use bp_free::Parts;
-use bp_inodes::get;
 use bp_layout::{Kind, Listing, Stat};
 use bp_plain::FsError;
+use bp_read::Finder;
+use bp_read::inodes::get;
 use pm_region::Region;
 use std::alloc::{AllocError, Global};
 

@@ -20,12 +20,12 @@ use crate::lookup::{NamedEntry, entry_at};
 use crate::refusals::no_space;
 use bp_cache::DirectoryCache;
 use bp_calls::remove;
-use bp_dirs::is_empty;
 use bp_free::Parts;
-use bp_inodes::get;
 use bp_layout::Kind;
 use bp_plain::FsError;
-use bp_tree::Tree;
+use bp_read::Tree;
+use bp_read::directory::is_empty;
+use bp_read::inodes::get;
 use pm_region::Region;
 
 /// Returns the entry by which a path text finds a file.

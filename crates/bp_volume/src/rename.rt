@@ -23,14 +23,14 @@ use crate::lookup::{
 };
 use crate::refusals::no_space;
 use bp_cache::{DirectoryCache, NameAt};
-use bp_dirs::is_empty;
 use bp_free::Parts;
-use bp_inodes::get;
 use bp_layout::Kind;
 use bp_path::{FoundEntry, Path, parse, walk_parent_by};
 use bp_plain::FsError;
+use bp_read::Tree;
+use bp_read::directory::is_empty;
+use bp_read::inodes::get;
 use bp_rename::{Move, rename};
-use bp_tree::Tree;
 use pm_region::Region;
 
 /// The ends of a rename: the entry that moves, and its new directory and name.

@@ -6,7 +6,7 @@ ghost use Rattle.bp_layout.specs.Trees.{AreInSnapshot};
 ghost use Rattle.bp_layout.specs.Whole.{IsFileSystem};
 ghost use Rattle.bp_layout.specs.Words.{block_count};
 ghost use Rattle.bp_scan.specs.Totals.{HasTotals};
-ghost use Rattle.bp_shapes.specs.Sets.{in_snapshot_of};
+ghost use Rattle.bp_changes.specs.Sets.{in_snapshot_of};
 ghost use Rattle.bp_calls.specs.Mounted.{image_in, IsExactIn};
 
 use bp_free::Parts;

@@ -16,7 +16,7 @@ use crate::refusals::no_space;
 use bp_cache::DirectoryCache;
 use bp_free::Parts;
 use bp_plain::FsError;
-use bp_tree::version;
+use bp_read::version;
 use pm_region::Region;
 
 /// Changes the size of the file that a path text finds, unless the size is above the version's limit.

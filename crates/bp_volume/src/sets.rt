@@ -29,7 +29,7 @@ pub struct Sets {
 
 impl Sets {
     /// Makes empty sets, and the working memory of a scan, for a region of `blocks` blocks of 512 words, at most
-    /// 65,536.
+    /// 67,108,864.
     ///
     /// # Errors
     ///

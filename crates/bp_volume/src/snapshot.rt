@@ -12,7 +12,7 @@ ghost use Rattle.bp_plain.specs.Calls.Call.{snap, snap_list, snap_read, snap_sta
 ghost use Rattle.bp_plain.specs.Calls.Refusal.{no_snap};
 ghost use Rattle.bp_plain.specs.Plain.{on_path};
 ghost use Rattle.bp_plain.specs.Seen.{refusal_of};
-ghost use Rattle.bp_shapes.specs.Sets.{in_snapshot_of};
+ghost use Rattle.bp_changes.specs.Sets.{in_snapshot_of};
 ghost use Rattle.bp_volume.specs.Ready.{IsReady};
 ghost use Rattle.bp_volume.specs.Seen.{list_answer_of, read_answer_of, stat_answer_of, unit_answer};
 ghost use Rattle.bp_volume.specs.Snapped.{Snaps, Unsnaps};
@@ -23,15 +23,14 @@ ghost use Rattle.bp_calls.specs.Mounted.{image_in, IsExactIn};
 
 use crate::queries::{do_list, do_read, do_stat};
 use crate::rescan::rescan;
-use bp_dirs::Scan;
 use bp_free::Parts;
 use bp_layout::{Listing, Stat};
 use bp_limits::{SUPER_ROOT, SUPER_SIZE, SUPER_SNAPSHOT_ROOT, SUPER_SNAPSHOT_SIZE, Version};
 use bp_path::parse;
 use bp_plain::FsError;
+use bp_read::{Scan, version};
 use bp_scan::{Pending, fill_others, has_second};
 use bp_second::Shown;
-use bp_tree::version;
 use pm_region::Region;
 use std::alloc::Global;
 

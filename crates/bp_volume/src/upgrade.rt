@@ -6,7 +6,7 @@ ghost use Rattle.bp_volume.specs.Upgraded.{Upgrades};
 ghost use Rattle.pm_region.specs.Memory.{words_in, room_in};
 
 use bp_limits::{SUPER_MAGIC, SUPER_SNAPSHOT_ROOT, SUPER_SNAPSHOT_SIZE, Version};
-use bp_tree::version;
+use bp_read::version;
 use pm_region::Region;
 
 /// Carries out `upgrade`, except for its end-of-call marker. In version 1 it stores 0 to the words that version 2 uses

@@ -23,7 +23,7 @@ use bp_cache::DirectoryCache;
 use bp_free::Parts;
 use bp_path::parse;
 use bp_plain::FsError;
-use bp_tree::version;
+use bp_read::version;
 use pm_region::Region;
 
 /// Returns the inode of the file at a path text, into which bytes are to be written. More bytes than the version

@@ -2,7 +2,7 @@
 use Rattle.std.proofs.Common.{◌≡◌, ℕ, zero, suc, ◌+◌, ◌-◌, ◌*◌, ◌/◌, ◌<◌, ◌≤◌, sym, ◌∙◌, ap, arith}
 use Rattle.bp_layout.specs.Tree.{covered}
 use Rattle.bp_layout.proofs.TreeLaws.{covered-suc}
-use Rattle.bp_tree.proofs.Below.{span_some, slots_live, slots_all}
+use Rattle.bp_read.proofs.Below.{span_some, slots_live, slots_all}
 
 pub covered_some : (level : ℕ) → 1 ≤ level → 0 < covered level
 covered_some zero least = absurd (omega (arith, least))

@@ -14,7 +14,7 @@ ghost use Rattle.bp_walk.specs.Walk.{WalksBelow, FailsBelow, TakesTree, FailsTre
 use bp_free::Blocks;
 use bp_layout::{Check, RootWord};
 use bp_limits::BLOCK_WORDS;
-use bp_tree::{Tree, version};
+use bp_read::{Tree, version};
 use pm_region::Region;
 
 /// The number of pointers that are looked at together if there may be null pointers: a cache line of the processor.

@@ -15,7 +15,7 @@ mod streams;
 use crate::reasons::{Reason, report_reason, report_unreported, report_usage};
 use crate::streams::{leads_to, output_file, take_streams};
 use bp_command::{Program, WordsFault, read_words};
-use bp_io::{DiskFiles, StdSink, StdSource};
+use bp_disk::{DiskFiles, StdSink, StdSource};
 use bp_shell::{Status, run};
 use std::alloc::{AllocError, Global};
 use std::env::{self, Env};

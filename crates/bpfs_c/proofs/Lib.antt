@@ -3,3 +3,4 @@ mod Keeping
 mod Report
 mod PatchLaws
 mod WordLaws
+pub mod LooseValues

@@ -1,7 +1,7 @@
 -- The volume that a handle is known to hold, when it is taken out.
 use Rattle.std.specs.Prelude.{◌≡◌, Option, Some, None}
 use Rattle.std.specs.Global.{Box, Global}
-use Rattle.bp_loose.specs.declared.loose.RawBox.{RawBox}
+use Rattle.bpfs_c.specs.declared.loose.RawBox.{RawBox}
 use Rattle.bpfs_c.specs.declared.mounted.Mounted.{Mounted}
 
 -- The pointer, where there is one, is to the volume that was held; there is none where no volume was held.

@@ -1,12 +1,12 @@
-//! Handles. All raw pointers of the crate are in this module.
+//! Handles. All raw pointers of the crate are in this module and in `loose`.
 
 ghost use Rattle.std.specs.Prelude.{◌≡◌, Option, Some, None};
 ghost use Rattle.bpfs_c.specs.Held.{IsHeld, IsSealed};
 ghost use Rattle.bpfs_c.specs.Ownership.{handle_owns};
 ghost use Rattle.bpfs_c.specs.declared.mounted.Mounted.{Mounted};
 
+use crate::loose::RawBox;
 use crate::mounted::Mounted;
-use bp_loose::RawBox;
 use std::alloc::Global;
 use std::marker::Model;
 use std::mem::replace;

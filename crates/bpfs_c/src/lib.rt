@@ -9,6 +9,7 @@ pub mod format_events;
 pub mod handle;
 pub mod listing;
 pub mod log;
+mod loose;
 pub mod mount;
 pub mod mounted;
 pub mod queries;

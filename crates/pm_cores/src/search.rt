@@ -1,6 +1,6 @@
 //! Searches in the log, and write-back by the log.
 
-ghost use Rattle.std.specs.Prelude.{◌≡◌, ℕ, ◌+◌, ◌*◌, ◌<◌, ◌≤◌, ◌^◌, ◌-◌, ◌==◌, ◌&&◌, nat_lt, if◌then◌else◌, length, take, drop, slice_index, replicate, Some, [], ◌++◌};
+ghost use Rattle.std.specs.Prelude.{◌≡◌, ℕ, ◌+◌, ◌*◌, ◌<◌, ◌≤◌, ◌^◌, ◌-◌, ◌==◌, ◌&&◌, nat_lt, if◌then◌else◌, length, take, drop, slice_index, slice_set, replicate, Some, [], ◌++◌};
 ghost use Rattle.std.proofs.Common.{suc};
 ghost use Rattle.pm_cores.specs.declared.entry.Entry.TheVariants.{Store};
 ghost use Rattle.pm_cores.specs.Log.{line_at, IsStore};
@@ -200,6 +200,14 @@ fn stored_word(entry: Entry) -> u64
     }
 }
 
+/// Makes a word clean.
+fn clean_word(since: &mut [u32], word: u64)
+    requires { word < length since.old }
+    ensures { since.new ≡ slice_set since.old word 0 }
+{
+    since[word as usize] = 0;
+}
+
 /// Makes all words clean, by going through the log, which has a store to each waiting word.
 pub fn clean_words(since: &mut [u32], log: &[Entry])
     requires words { (place its_core word : ℕ) → IsStore log.now place its_core word → word < length since.old }
@@ -210,7 +218,7 @@ pub fn clean_words(since: &mut [u32], log: &[Entry])
     for k in 0..log.len() {
         match log[k] {
             Entry::Load { .. } => {}
-            Entry::Store { word, .. } => since[word as usize] = 0,
+            Entry::Store { word, .. } => clean_word(since, word),
             Entry::Barrier { .. } => {}
         }
     }

@@ -4,7 +4,7 @@ use Rattle.std.specs.Prelude.{ℕ, ◌==◌, if◌then◌else◌, List, [], ◌�
 use Rattle.pm_epochs.specs.declared.event.Event.{Event}
 use Rattle.pm_epochs.specs.declared.event.Event.TheVariants.{Store, Barrier, CallEnd}
 
--- The largest number of 32 bits, which is no word of a region. It represents an event that is no store.
+-- The number 2^41 - 1, which is no word of a region. It represents an event that is no store.
 abbrev pub no_word : ℕ
 no_word = 2199023255551
 

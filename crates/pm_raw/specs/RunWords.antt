@@ -28,7 +28,7 @@ abbrev pub Rises : List ℕ → Type 0
 Rises numbers = (i j : ℕ) → i < j → j < length numbers → slice_index numbers i < slice_index numbers j
 
 -- Runs in order, of the events from `at` on and before `end`. The event at `at` is in the first run, each run has an
--- event before the end, and the events' words have 32 bits.
+-- event before the end, and the events' words are below 2^41.
 pub record AreRuns (firsts starts : List ℕ) (at end : ℕ) : Type 0 where
   pub same : length firsts ≡ length starts
   pub some : at < end → 0 < length starts

@@ -9,7 +9,7 @@ use std::alloc::{AllocError, Global};
 use std::cell::Cell;
 use std::marker::Model;
 
-/// The next word when there is no run: more than any word of 32 bits.
+/// The next word when there is no run: more than any word of a region.
 const NOWHERE: usize = 1 << 41;
 
 /// The word of each event of a log, `NO_WORD` for an event that is no store. Consecutive words are one run, stored as

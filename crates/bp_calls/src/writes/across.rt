@@ -17,15 +17,15 @@ ghost use Rattle.bp_layout.specs.Inode.{root_of, size_of};
 ghost use Rattle.bp_layout.specs.Need.Change.{writes};
 ghost use Rattle.bp_layout.specs.WordPaths.{inode_path};
 ghost use Rattle.bp_layout.specs.Words.{height_of};
-ghost use Rattle.bp_shapes.specs.Sets.{in_snapshot_of};
+ghost use Rattle.bp_changes.specs.Sets.{in_snapshot_of};
 ghost use Rattle.pm_region.specs.Memory.{words_in};
 
 use crate::thaw::enough_free;
 use bp_append::{height_with, need_prep, stage_append};
 use bp_cow::{FoundWays, Run, Touched, commit_at, copies_below, find_ways};
 use bp_free::{NoSpace, Parts};
-use bp_inodes::{root_path, size_path};
-use bp_tree::{Slots, Tree};
+use bp_read::inodes::{root_path, size_path};
+use bp_read::{Slots, Tree};
 use pm_region::Region;
 use std::slice;
 

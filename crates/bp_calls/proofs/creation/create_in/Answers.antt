@@ -4,7 +4,7 @@ use Rattle.bp_changes.proofs.ShapeLaws.{empty-same}
 use Rattle.bp_free.specs.declared.parts.Parts.{Parts}
 use Rattle.bp_layout.specs.Free.{IsLeastFree}
 use Rattle.bp_layout.specs.Need.Change.{enters}
-use Rattle.bp_shapes.specs.Sets.{IsExact}
+use Rattle.bp_changes.specs.Sets.{IsExact}
 use Rattle.bp_calls.specs.Created.{EntersName}
 use Rattle.bp_calls.specs.Entrant.{entrant_of}
 use Rattle.bp_calls.proofs.EnterThawed.{least_back, least_on}

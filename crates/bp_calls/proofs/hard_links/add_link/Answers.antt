@@ -5,7 +5,7 @@ use Rattle.bp_calls.proofs.CountLaws.{exact_with, reached_counted}
 use Rattle.bp_calls.proofs.FewNames.{few_names}
 use Rattle.bp_layout.specs.Need.Change.{enters}
 use Rattle.bp_layout.specs.Need.Entrant.{linked}
-use Rattle.bp_shapes.specs.Sets.{in_snapshot_of}
+use Rattle.bp_changes.specs.Sets.{in_snapshot_of}
 use Rattle.bp_calls.specs.Created.{LinksEntry}
 use Rattle.bp_calls.proofs.NewNames.{within_call}
 use Rattle.bp_calls.proofs.ShareLaws.{can_link_past_end, link_loose, link_room}

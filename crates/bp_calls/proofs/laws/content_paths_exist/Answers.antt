@@ -1,4 +1,4 @@
-use Rattle.bp_tree.proofs.ExistingPaths.{content_path-exists}
+use Rattle.bp_read.proofs.ExistingPaths.{content_path-exists}
 use Rattle.bp_calls.proofs.laws.content_paths_exist.Goals as goal
 
 pub returns : goal.returns

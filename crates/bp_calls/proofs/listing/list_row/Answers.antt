@@ -4,7 +4,7 @@ use Rattle.std.proofs.lemmas.List.{append-nil, append_assoc}
 use Rattle.bp_layout.specs.Inode.{root_of}
 use Rattle.bp_layout.specs.Words.{Image}
 use Rattle.pm_region.specs.Memory.{current_words}
-use Rattle.bp_dirs.proofs.EntryWords.{entry_of}
+use Rattle.bp_read.proofs.EntryWords.{entry_of}
 use Rattle.bp_calls.specs.Asked.{entry_seen}
 use Rattle.bp_calls.proofs.RowLaws.{row_more}
 use Rattle.bp_calls.proofs.listing.list_row.Goals as goal

@@ -1,7 +1,7 @@
 use Rattle.std.proofs.Common.{sym, ◌∙◌, arith}
 use Rattle.pm_region.specs.Memory.{current_words}
 use Rattle.bp_free.specs.Set.{members}
-use Rattle.bp_shapes.specs.Sets.{in_snapshot_of}
+use Rattle.bp_changes.specs.Sets.{in_snapshot_of}
 use Rattle.bp_calls.proofs.EnteredLaws.{directory_inode}
 use Rattle.bp_calls.proofs.PutsLaws.{PreparesEntry, put_count, put_done, put_number, put_prepares, put_reached, put_sound, put_well_formed, small_directory}
 use Rattle.bp_calls.proofs.new_entry.append_entry.Given.{Over}
@@ -61,7 +61,7 @@ prove_eq-unreachable-requires g c =
     let number = c.content_word-inumber in
     let length = c.content_word-length in
     let is = put_number (puts g (goal.at.prove_eq-unreachable-requires g c).After-stage_append) c.tree_of.ensures.root number.ensures length.ensures
-    number.type_inv length.type_inv (omega (arith, c.ranges.inode)) in
+    number.type_inv length.type_inv (omega (arith, c.ranges.ino)) in
     c.if-prove_eq.true (is ∙ sym c.from.ensures)
 
 pub prove_eq-unreachable-requires-2 : goal.prove_eq-unreachable-requires-2
@@ -70,11 +70,11 @@ prove_eq-unreachable-requires-2 g c =
     let length = c.content_word-length in
     c.if-prove_eq-2.true
     (put_count (puts g (goal.at.prove_eq-unreachable-requires-2 g c).After-stage_append) c.tree_of.ensures.root number.ensures length.ensures
-    number.type_inv length.type_inv (omega (arith, c.ranges.inode)))
+    number.type_inv length.type_inv (omega (arith, c.ranges.ino)))
 
 pub returns-clause-puts : goal.returns-clause-puts
 returns-clause-puts g c =
     let number = c.content_word-inumber in
     let length = c.content_word-length in
     put_done (puts g (goal.at.returns-clause-puts g c).After-stage_append) c.tree_of.ensures.root number.ensures length.ensures
-    number.type_inv length.type_inv (omega (arith, c.ranges.inode))
+    number.type_inv length.type_inv (omega (arith, c.ranges.ino))

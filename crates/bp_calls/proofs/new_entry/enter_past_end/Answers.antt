@@ -4,7 +4,7 @@ use Rattle.pm_region.specs.Memory.{current_words, room_in}
 use Rattle.pm_region.proofs.MemoryLaws.{length-current_words}
 use Rattle.bp_layout.specs.Reached.IsReached.{inode_file}
 use Rattle.bp_layout.proofs.Reached.{reached-in_file}
-use Rattle.bp_tree.specs.Within.{IsWithin}
+use Rattle.bp_read.specs.Within.{IsWithin}
 use Rattle.bp_calls.proofs.EnteredLaws.{directory_inode}
 use Rattle.bp_calls.proofs.PastEndStores.{put_base, put_room, put_well_formed_past_end}
 use Rattle.bp_calls.proofs.InNewEntry.{past_end_counts, past_end_performs, past_end_exact, put_free}

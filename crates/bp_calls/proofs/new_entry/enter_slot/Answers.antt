@@ -1,7 +1,7 @@
 use Rattle.std.proofs.Common.{◌+◌, ◌*◌, ◌≤◌, length, refl, arith}
 use Rattle.pm_epochs.specs.May.{AnyAt}
 use Rattle.pm_region.specs.Memory.{current_words}
-use Rattle.bp_tree.specs.Within.{IsWithin}
+use Rattle.bp_read.specs.Within.{IsWithin}
 use Rattle.bp_layout.specs.Inode.{ContentStandsAt}
 use Rattle.bp_layout.specs.Thaw.{none_in_snapshot}
 use Rattle.bp_calls.proofs.InSlot.{slot_performs, slot_counts, slot_exact, entry_stands}

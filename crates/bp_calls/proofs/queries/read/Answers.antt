@@ -1,7 +1,7 @@
 use Rattle.std.proofs.Common.{◌-◌, ◌∙◌, min, length, ap}
 use Rattle.bp_layout.specs.Inode.{root_of, size_of}
 use Rattle.bp_layout.specs.Words.{Image}
-use Rattle.bp_tree.specs.Bytes.{content_part}
+use Rattle.bp_read.specs.Bytes.{content_part}
 use Rattle.pm_region.specs.Memory.{current_words}
 use Rattle.bp_calls.proofs.AskedLaws.{read_part}
 use Rattle.bp_calls.proofs.queries.read.Goals as goal

@@ -3,7 +3,7 @@ use Rattle.bp_layout.specs.Tree.{span}
 use Rattle.bp_layout.specs.Words.{block_count, block_of, height_of}
 use Rattle.bp_layout.proofs.TreeLaws.{span-is}
 use Rattle.pm_region.specs.Memory.{current_words}
-use Rattle.bp_tree.proofs.RegionWords.{length_now}
+use Rattle.bp_read.proofs.RegionWords.{length_now}
 use Rattle.bp_append.proofs.TallyLaws.{span-positive}
 use Rattle.bp_calls.proofs.TruncatedLaws.{LosesSlots, child_is_lower, child_is_sound, gives_none, leaf_gives, not_yet, null_truncated, slot_live}
 use Rattle.bp_calls.proofs.TruncatedLaws.{slots_begin, slots_end, slots_order, slots_step, top_block, top_in_range}

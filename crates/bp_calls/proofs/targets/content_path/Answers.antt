@@ -1,7 +1,7 @@
 use Rattle.std.proofs.Common.{◌≡◌, suc, ◌+◌, ◌*◌, ℕ, ◌/◌, Bool, true, false, List, length, ◌∙◌, ap, arith}
 use Rattle.bp_layout.specs.Inode.{root_of}
 use Rattle.bp_layout.specs.Words.{height_of}
-use Rattle.bp_tree.proofs.Digits.{length-digits}
+use Rattle.bp_read.proofs.Digits.{length-digits}
 use Rattle.pm_region.specs.Memory.{current_words}
 use Rattle.bp_calls.proofs.TargetPaths.{content_fits}
 use Rattle.bp_calls.proofs.targets.content_path.Goals as goal

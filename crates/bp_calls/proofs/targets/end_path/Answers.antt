@@ -2,7 +2,7 @@ use Rattle.std.proofs.Common.{◌≡◌, suc, ◌*◌, ◌/◌, ◌^◌, ◌<◌
 use Rattle.bp_layout.specs.Tree.{span}
 use Rattle.bp_layout.specs.Words.{height_of}
 use Rattle.bp_layout.proofs.TreeLaws.{span-is}
-use Rattle.bp_tree.proofs.Digits.{length-digits}
+use Rattle.bp_read.proofs.Digits.{length-digits}
 use Rattle.bp_calls.proofs.TargetPaths.{end_below_root}
 use Rattle.bp_calls.proofs.targets.end_path.Goals as goal
 

@@ -3,7 +3,7 @@ use Rattle.arrayvec.specs.ArrayVec.{ArrayVec}
 use Rattle.bp_layout.specs.Thaw.{end_path_now, heights_now, root_path_now}
 use Rattle.bp_layout.specs.Reached.IsReached.{inode_file}
 use Rattle.bp_limits.specs.Limits.{max_height}
-use Rattle.bp_tree.proofs.Digits.{length-digits}
+use Rattle.bp_read.proofs.Digits.{length-digits}
 use Rattle.bp_layout.specs.WordPaths.{WordPath}
 use Rattle.pm_region.specs.Memory.{current_words}
 use Rattle.bp_calls.proofs.WriteTargets.{root_path_is}

@@ -8,7 +8,7 @@ use Rattle.bp_layout.specs.Need.Change.{writes}
 use Rattle.bp_layout.specs.Thaw.{cover_now, is_there_now, thawed_on}
 use Rattle.bp_layout.specs.WordPaths.{WordPath}
 use Rattle.bp_layout.specs.Words.{Image}
-use Rattle.bp_shapes.specs.Sets.{in_snapshot_of}
+use Rattle.bp_changes.specs.Sets.{in_snapshot_of}
 use Rattle.bp_thaw.specs.Prefixes.{IsWayIn}
 use Rattle.pm_region.specs.Memory.{current_words}
 use Rattle.bp_calls.proofs.writes.is_clear_below.Goals as goal

@@ -1,7 +1,7 @@
 use Rattle.std.proofs.Common.{subst}
 use Rattle.bp_calls.specs.Space.{LacksBlocks}
 use Rattle.bp_calls.proofs.CommitLaws.{committed, lacking_blocks}
-use Rattle.bp_shapes.specs.Sets.{in_snapshot_of}
+use Rattle.bp_changes.specs.Sets.{in_snapshot_of}
 use Rattle.pm_region.specs.Memory.{current_words}
 use Rattle.bp_calls.proofs.writes.write_longer.Goals as goal
 

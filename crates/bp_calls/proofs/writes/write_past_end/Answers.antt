@@ -4,7 +4,7 @@ use Rattle.pm_region.proofs.MemoryLaws.{length-current_words}
 use Rattle.bp_free.specs.Set.{members}
 use Rattle.bp_layout.specs.Reached.IsReached.{inode_file}
 use Rattle.bp_layout.proofs.Reached.{reached-in_file}
-use Rattle.bp_shapes.specs.Sets.{in_snapshot_of}
+use Rattle.bp_changes.specs.Sets.{in_snapshot_of}
 use Rattle.bp_append.specs.Prepared.{CanPrepare}
 use Rattle.bp_calls.proofs.WritePastEnd.{past_end_can, prepared_base, prepared_room, past_end_performs_at, past_end_exact_at}
 use Rattle.bp_calls.proofs.writes.write_past_end.Given.{Over}

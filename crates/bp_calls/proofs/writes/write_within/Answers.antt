@@ -1,6 +1,6 @@
 use Rattle.std.proofs.Common.{◌≡◌, ◌+◌, ◌<◌, ◌≤◌, ℕ, List, [], length, slice_index, ◌∙◌, ap, arith, rules}
 use Rattle.pm_region.specs.Memory.{current_words}
-use Rattle.bp_shapes.specs.Sets.{in_snapshot_of}
+use Rattle.bp_changes.specs.Sets.{in_snapshot_of}
 use Rattle.bp_cow.proofs.CoverOf.{cover_length}
 use Rattle.bp_layout.specs.Inode.{size_of}
 use Rattle.bp_layout.specs.Need.Change.{writes}

@@ -1,6 +1,6 @@
 use Rattle.pm_region.specs.Memory.{current_words}
 use Rattle.bp_free.specs.Set.{has}
-use Rattle.bp_shapes.specs.Sets.{in_snapshot_of}
+use Rattle.bp_changes.specs.Sets.{in_snapshot_of}
 use Rattle.bp_cow.specs.Touched.{job_of}
 use Rattle.bp_cow.proofs.commit.commit_at.Given as goal
 

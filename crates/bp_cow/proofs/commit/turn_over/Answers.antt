@@ -2,7 +2,7 @@ use Rattle.std.proofs.Common.{◌≡◌, ℕ, List, ◌+◌, ◌*◌, ◌%◌, �
 use Rattle.bp_free.specs.Set.{has}
 use Rattle.pm_region.specs.Memory.{current_words}
 use Rattle.pm_region.proofs.MemoryLaws.{current_words-adds, base-adds, length-current_words}
-use Rattle.bp_shapes.specs.Forest.{IsExactSet, IsTreePointer}
+use Rattle.bp_changes.specs.Forest.{IsExactSet, IsTreePointer}
 use Rattle.bp_layout.specs.Words.{word}
 use Rattle.bp_cow.specs.Adds.{MakesCopies}
 use Rattle.bp_cow.specs.Copies.{pointing_to}

@@ -1,7 +1,7 @@
 use Rattle.std.proofs.Common.{◌≡◌, ℕ, zero, suc, ◌+◌, ◌*◌, length, get_or, arith}
 use Rattle.std.proofs.lemmas.List.{get_or-replicate}
 use Rattle.bp_layout.specs.Words.{Image, slot_word}
-use Rattle.bp_tree.proofs.RegionWords.{length_now}
+use Rattle.bp_read.proofs.RegionWords.{length_now}
 use Rattle.bp_cow.proofs.copies.read_block.Goals as goal
 
 slot_there : (image : Image) (block slot : ℕ) → (block ≡ 0 → ⊥) → get_or image (512 * block + slot) 0 ≡ slot_word image block slot

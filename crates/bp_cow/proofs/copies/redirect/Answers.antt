@@ -2,7 +2,7 @@ use Rattle.std.proofs.Common.{◌≡◌, ◌⊎◌, ℕ, ◌+◌, ◌*◌, ◌/�
 use Rattle.bp_layout.specs.Words.{word}
 use Rattle.pm_region.specs.Memory.{current_words}
 use Rattle.pm_region.proofs.MemoryLaws.{current_words-adds, length-current_words}
-use Rattle.bp_commit.specs.Performs.{InBlock}
+use Rattle.bp_changes.specs.Performs.{InBlock}
 use Rattle.bp_cow.proofs.AddsLaws.{into_store, into_wider, room_into}
 use Rattle.bp_cow.proofs.copies.redirect.Goals as goal
 

@@ -2,7 +2,7 @@ use Rattle.std.proofs.Common.{◌≡◌, ◌<◌, ◌≤◌, ◌/◌, ◌+◌, s
 use Rattle.pm_region.specs.Memory.{current_words}
 use Rattle.pm_region.proofs.MemoryLaws.{length-current_words}
 use Rattle.bp_layout.specs.Words.{block_count}
-use Rattle.bp_shapes.specs.Trail.{block_on, trail_of}
+use Rattle.bp_changes.specs.Trail.{block_on, trail_of}
 use Rattle.bp_cow.specs.Cover.{end_path, BeginAlike}
 use Rattle.bp_cow.proofs.CoverLaws.{at-next, at-start, at-word, some-ends}
 use Rattle.bp_cow.proofs.covers.find_cover.Given.{Over}

@@ -1,6 +1,6 @@
 use Rattle.std.proofs.Common.{◌≡◌, ◌<◌, ◌∙◌, ap, sym, subst, refl, arith}
 use Rattle.pm_region.specs.Memory.{current_words}
-use Rattle.bp_shapes.specs.Trail.{block_on}
+use Rattle.bp_changes.specs.Trail.{block_on}
 use Rattle.bp_cow.specs.Plan.{planned, IsOnWay, way_end}
 use Rattle.bp_cow.specs.Return.{CanGive}
 use Rattle.bp_cow.proofs.ReturnLaws.{back_word}

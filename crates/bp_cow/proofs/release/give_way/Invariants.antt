@@ -1,6 +1,6 @@
 use Rattle.std.proofs.Common.{◌≡◌, length}
 use Rattle.bp_free.specs.Set.{has}
-use Rattle.bp_shapes.specs.Trail.{block_on}
+use Rattle.bp_changes.specs.Trail.{block_on}
 use Rattle.bp_cow.specs.Job.{prefix}
 use Rattle.bp_cow.specs.Plan.{planned}
 use Rattle.bp_cow.specs.Return.{IsBack}

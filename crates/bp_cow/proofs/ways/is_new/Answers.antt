@@ -1,8 +1,8 @@
 use Rattle.std.proofs.Common.{◌≡◌, ℕ, ◌≤◌, length, Bool, true, false, ap, sym, ◌∙◌, arith, inl, inr}
 use Rattle.std.specs.Prelude.{nat_le}
 use Rattle.std.proofs.lemmas.Bool.{cases_lt, le-leb, leb-true}
-use Rattle.bp_shapes.specs.Trail.{Trail}
-use Rattle.bp_shapes.proofs.PathTrails.{length-trail_of}
+use Rattle.bp_changes.specs.Trail.{Trail}
+use Rattle.bp_changes.proofs.PathTrails.{length-trail_of}
 use Rattle.bp_cow.specs.Touched.{job_of}
 use Rattle.bp_cow.specs.Job.{Job, prefix, IsBegun}
 use Rattle.bp_cow.specs.Ways.{IsShared}

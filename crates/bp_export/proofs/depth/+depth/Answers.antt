@@ -1,5 +1,5 @@
 use Rattle.std.proofs.Common.{◌≡◌, ◌≢◌, ℕ, ◌+◌, ◌-◌, ◌*◌, ◌<◌, ◌≤◌, List, min, length, slice_index, refl, sym, ◌∙◌, ap, subst, subst₂, arith}
-use Rattle.bp_dirs.proofs.EntryWords.{entry_of}
+use Rattle.bp_read.proofs.EntryWords.{entry_of}
 use Rattle.bp_layout.specs.Directory.{entry_count, inumber_at, inumber_in, name_at}
 use Rattle.bp_layout.specs.Fields.{kind_word}
 use Rattle.bp_layout.specs.Inode.{kind_of, root_of}
@@ -98,7 +98,7 @@ has_long_entry-returns g t c i first count row =
 pub has_long_path-has_long_entry-requires : goal.has_long_path-has_long_entry-requires
 has_long_path-has_long_entry-requires g t c κs within =
     let image : Image = current_words (g.R.Region.memory c.args.region.now) in
-    let i : ℕ = c.args.i in
+    let i : ℕ = c.args.ino in
     let leaf : ℕ = c.loop-leaf.leaf in
     let live : 16 * leaf < entry_count image i = omega (arith, c.leaf_count-leaf-end.ensures.most leaf c.loop-leaf-test.true, c.tree_of-tree.ensures.size) in (
       omega (arith, c.decreases),
@@ -115,7 +115,7 @@ has_long_path-has_long_entry-requires g t c κs within =
 pub has_long_path-returns-then-has_long_entry : goal.has_long_path-returns-then-has_long_entry
 has_long_path-returns-then-has_long_entry g t c =
     let image : Image = current_words (g.R.Region.memory c.args.region.now) in
-    let i : ℕ = c.args.i in
+    let i : ℕ = c.args.ino in
     let leaf : ℕ = c.loop-leaf.leaf in
     let live : 16 * leaf < entry_count image i = omega (arith, c.leaf_count-leaf-end.ensures.most leaf c.loop-leaf-test.true, c.tree_of-tree.ensures.size) in
     let row = row_at image i _ _ leaf _ c.tree_of-tree.ensures.root c.tree_of-tree.ensures.size c.in-Some.ensures.some in
@@ -128,7 +128,7 @@ has_long_path-returns-then-has_long_entry g t c =
 pub has_long_path-loop-leaf-preserved : goal.has_long_path-loop-leaf-preserved
 has_long_path-loop-leaf-preserved g t c =
     let image : Image = current_words (g.R.Region.memory c.args.region.now) in
-    let i : ℕ = c.args.i in
+    let i : ℕ = c.args.ino in
     let leaf : ℕ = c.loop-leaf.leaf in
     let live : 16 * leaf < entry_count image i = omega (arith, c.leaf_count-leaf-end.ensures.most leaf c.loop-leaf-test.true, c.tree_of-tree.ensures.size) in
     elim c.match-entry_row.branch [
@@ -146,7 +146,7 @@ has_long_path-loop-leaf-preserved g t c =
 pub has_long_path-returns : goal.has_long_path-returns
 has_long_path-returns g t c =
     let image : Image = current_words (g.R.Region.memory c.args.region.now) in
-    let i : ℕ = c.args.i in
+    let i : ℕ = c.args.ino in
     let all : min (16 * c.loop-leaf.leaf) (entry_count image i) ≡ entry_count image i = omega (arith, c.leaf_count-leaf-end.ensures.all, c.loop-leaf-test.false, c.tree_of-tree.ensures.size) in (
       λ yes. absurd (cc),
       λ has. absurd (c.loop-leaf.invariant (subst (λ n. HasLongEntry image i 0 n c.args.left) (sym all) (entry_from_path image i c.args.left has))),

@@ -1,5 +1,5 @@
 use Rattle.std.proofs.Common.{ℕ, ◌+◌, ◌*◌, min}
-use Rattle.bp_dirs.specs.EntryWords.{IsRow}
+use Rattle.bp_read.specs.EntryWords.{IsRow}
 use Rattle.bp_layout.specs.Directory.{entry_count}
 use Rattle.bp_layout.specs.Inode.{root_of}
 use Rattle.pm_region.specs.Memory.{current_words}
@@ -18,7 +18,7 @@ decreases-is_long g l = 3 * l.left
 
 abbrev pub invariant-has_long_path-loop-leaf : goal.invariant-has_long_path-loop-leaf
 invariant-has_long_path-loop-leaf g l =
-    HasLongEntry (current_words (g.R.Region.memory l.region)) l.i 0 (min (16 * l.leaf) (entry_count (current_words (g.R.Region.memory l.region)) l.i)) l.left → ⊥
+    HasLongEntry (current_words (g.R.Region.memory l.region)) l.ino 0 (min (16 * l.leaf) (entry_count (current_words (g.R.Region.memory l.region)) l.ino)) l.left → ⊥
 
 abbrev pub invariant-has_long_entry-loop-index : goal.invariant-has_long_entry-loop-index
 invariant-has_long_entry-loop-index g l =

@@ -28,7 +28,7 @@ returns-in_err-end-clause-lines g c =
     let next = c.in-Some.ensures.some in
     rw p.1 (
     reports_same _ _ _ _ _ _ _
-    (written_whole c.args.path.now bytes c.loop-leaf.from c.in-Some.leaf next.following (live_stretch image c.args.tree.root c.args.tree.size c.in-Some.leaf next.live)
+    (written_whole c.args.path.now bytes c.loop-leaf.from c.in-Some.leaf next.beyond (live_stretch image c.args.tree.root c.args.tree.size c.in-Some.leaf next.live)
     (zeros_before image c.args.tree.root c.args.tree.size c.loop-leaf.from c.in-Some.leaf next))
     (fails_before _ _ (writes_until c.args.path.now bytes c.loop-leaf.from ++ write_of c.args.path.now bytes c.in-Some.leaf) (following c.args.path.now bytes c.in-Some.leaf) _ _ _ _ _
     (reports_then _ _ (writes_until c.args.path.now bytes c.loop-leaf.from) (write_of c.args.path.now bytes c.in-Some.leaf) _ _ _ _ _ _ c.loop-leaf.invariant.lines c.in_err-end.ensures.lines))
@@ -37,7 +37,7 @@ returns-in_err-end-clause-lines g c =
 pub loop-leaf-smaller : goal.loop-leaf-smaller
 loop-leaf-smaller g c =
     let image = current_words (g.R.Region.memory c.args.region.now) in
-    omega (arith, live_stretch image c.args.tree.root c.args.tree.size c.in-Some.leaf c.in-Some.ensures.some.live, c.in-Some.ensures.some.following)
+    omega (arith, live_stretch image c.args.tree.root c.args.tree.size c.in-Some.leaf c.in-Some.ensures.some.live, c.in-Some.ensures.some.beyond)
 
 pub loop-leaf-preserved : goal.loop-leaf-preserved
 loop-leaf-preserved g c =
@@ -48,7 +48,7 @@ loop-leaf-preserved g c =
       lines =
           reports_as _ _ _ _ _ _ _
           (reports_same _ _ _ _ _ _ _
-          (sym (written_to c.args.path.now bytes c.loop-leaf.from c.in-Some.leaf next.following (zeros_before image c.args.tree.root c.args.tree.size c.loop-leaf.from c.in-Some.leaf next)))
+          (sym (written_to c.args.path.now bytes c.loop-leaf.from c.in-Some.leaf next.beyond (zeros_before image c.args.tree.root c.args.tree.size c.loop-leaf.from c.in-Some.leaf next)))
           (reports_then _ _ (writes_until c.args.path.now bytes c.loop-leaf.from) (write_of c.args.path.now bytes c.in-Some.leaf) _ _ _ _ _ _ c.loop-leaf.invariant.lines c.in_ok-end.ensures.lines));
       noted =
           subst (ReportedTo bytes (c.in-Some.leaf + 1)) (sym c.unwrap_or-noted.ensures)

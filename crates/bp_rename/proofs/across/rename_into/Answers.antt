@@ -3,7 +3,7 @@ use Rattle.bp_calls.specs.ThawedFor.{IsThawedFor}
 use Rattle.bp_calls.proofs.CommitLaws.{lacking_space}
 use Rattle.bp_calls.proofs.Refusals.{found_empty}
 use Rattle.bp_calls.proofs.TargetPaths.{directory_some}
-use Rattle.bp_shapes.specs.Sets.{in_snapshot_of}
+use Rattle.bp_changes.specs.Sets.{in_snapshot_of}
 use Rattle.pm_region.specs.Memory.{current_words}
 use Rattle.bp_rename.specs.Planned.{TouchesInto}
 use Rattle.bp_rename.specs.TouchesTwo.{AnyTree}

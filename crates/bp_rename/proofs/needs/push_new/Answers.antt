@@ -6,7 +6,7 @@ use Rattle.bp_layout.specs.Inode.{root_of}
 use Rattle.bp_layout.specs.Reached.IsReached.{inode_file}
 use Rattle.bp_layout.specs.Words.{height_of}
 use Rattle.bp_limits.specs.Limits.{max_height}
-use Rattle.bp_tree.proofs.Digits.{length-digits}
+use Rattle.bp_read.proofs.Digits.{length-digits}
 use Rattle.bp_calls.proofs.Refusals.{found_empty}
 use Rattle.bp_calls.proofs.TargetPaths.{directory_some}
 use Rattle.pm_region.specs.Memory.{current_words}

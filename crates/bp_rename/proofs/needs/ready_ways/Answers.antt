@@ -2,7 +2,7 @@ use Rattle.std.proofs.Common.{◌≡◌, ◌≤◌, length, refl, sym, ◌∙◌
 use Rattle.bp_free.specs.Set.{members}
 use Rattle.bp_layout.specs.Free.{HasFree}
 use Rattle.bp_layout.specs.Need.{need}
-use Rattle.bp_shapes.specs.Sets.{in_snapshot_of}
+use Rattle.bp_changes.specs.Sets.{in_snapshot_of}
 use Rattle.bp_calls.specs.Mounted.{IsMounted}
 use Rattle.pm_region.specs.Memory.{current_words}
 use Rattle.bp_calls.proofs.FreeCounts.{free_members}

@@ -3,7 +3,7 @@ use Rattle.bp_free.specs.Set.{members}
 use Rattle.bp_layout.specs.Members.{Has}
 use Rattle.bp_layout.specs.Thaw.{targets}
 use Rattle.bp_layout.specs.WordPaths.{WordPath}
-use Rattle.bp_shapes.specs.Sets.{in_snapshot_of}
+use Rattle.bp_changes.specs.Sets.{in_snapshot_of}
 use Rattle.bp_calls.specs.Mounted.{IsMounted}
 use Rattle.bp_calls.specs.Space.{LacksBlocks}
 use Rattle.bp_calls.specs.ThawsFor.{HasRoomToThaw, ThawsFor, thaw_count}

@@ -2,7 +2,7 @@ use Rattle.std.proofs.Common.{◌≡◌, ◌-◌, ◌/◌, ◌<◌, ◌≤◌, l
 use Rattle.bp_free.specs.Set.{Set}
 use Rattle.std.proofs.lemmas.List.{length-set}
 use Rattle.bp_layout.specs.Directory.{inumber_at, inumber_in}
-use Rattle.bp_shapes.specs.Sets.{in_snapshot_of}
+use Rattle.bp_changes.specs.Sets.{in_snapshot_of}
 use Rattle.pm_region.specs.Memory.{Memory, current_words}
 use Rattle.bp_rename.proofs.OntoDone.{IsReplaced, has_room, onto_done, ready}
 use Rattle.bp_rename.proofs.OntoNames.{onto_counted, onto_last, onto_named, onto_other}

@@ -1,7 +1,7 @@
 use Rattle.std.proofs.Common.{◌≡◌, length, refl, sym, ◌∙◌, ap, subst, arith}
 use Rattle.bp_free.specs.Set.{Set, has, members}
 use Rattle.bp_layout.specs.Directory.{inumber_in}
-use Rattle.bp_shapes.specs.Sets.{in_snapshot_of}
+use Rattle.bp_changes.specs.Sets.{in_snapshot_of}
 use Rattle.pm_region.specs.Memory.{Memory, current_words}
 use Rattle.bp_cow.specs.Commit.{CanCommitIn, CommitsTouched}
 use Rattle.bp_calls.proofs.SizesWith.{sizes_with}

@@ -4,7 +4,7 @@ use Rattle.bp_calls.proofs.CommitLaws.{lacking_space}
 use Rattle.bp_calls.proofs.NewNames.{entry_need_is}
 use Rattle.bp_calls.proofs.PutsLaws.{small_directory}
 use Rattle.bp_calls.proofs.TargetPaths.{directory_some}
-use Rattle.bp_shapes.specs.Sets.{in_snapshot_of}
+use Rattle.bp_changes.specs.Sets.{in_snapshot_of}
 use Rattle.pm_region.specs.Memory.{current_words}
 use Rattle.bp_rename.specs.Planned.{TouchesPastEnd}
 use Rattle.bp_rename.specs.TouchesTwo.{OtherTree}

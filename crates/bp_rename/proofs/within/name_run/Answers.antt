@@ -10,4 +10,4 @@ returns g c =
     let count : 8 + 8 * c.div_ceil.result ≡ respelled_length c.args.to_move.now.name.now = omega (arith, c.div_ceil.ensures) in
     is_name_run (current_words (g.R.Region.memory c.args.region.now)) c.args.to_move.now.from_dir c.args.to_move.now.from_slot c.args.to_move.now.name.now c.args.bytes.now
     c.root_path.ensures (c.height.ensures ∙ ap height_of c.tree_of-tree.ensures.root) c.tree_of-tree.ensures.size (omega arith)
-    (ap (λ n. take n c.args.bytes.now) count) (omega (arith, c.reported-bytes)) c.requires.can.name.short c.requires.bytes c.fits-bytes
+    (ap (λ n. take n c.args.bytes.now) count) (omega (arith, c.told-bytes)) c.requires.can.name.short c.requires.bytes c.fits-bytes

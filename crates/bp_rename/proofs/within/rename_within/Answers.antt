@@ -2,8 +2,8 @@ use Rattle.std.proofs.Common.{◌≡◌, ◌+◌, ◌≤◌, [], length, refl, �
 use Rattle.bp_free.specs.Set.{members}
 use Rattle.bp_layout.specs.Need.{need}
 use Rattle.bp_layout.specs.Thaw.{thawed}
-use Rattle.bp_commit.specs.Performs.{room_for}
-use Rattle.bp_shapes.specs.Sets.{in_snapshot_of}
+use Rattle.bp_changes.specs.Performs.{room_for}
+use Rattle.bp_changes.specs.Sets.{in_snapshot_of}
 use Rattle.pm_region.specs.Memory.{Memory, current_words, room_in}
 use Rattle.bp_calls.proofs.CommitLaws.{lacking_space}
 use Rattle.bp_rename.specs.CanRename.{moved_inode}

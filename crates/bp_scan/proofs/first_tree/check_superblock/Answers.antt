@@ -1,7 +1,7 @@
 use Rattle.std.proofs.Common.{◌≡◌, ◌/◌, sym, ◌∙◌, ap, arith}
 use Rattle.bp_limits.specs.Limits.{magic, version_at}
 use Rattle.bp_limits.proofs.Versions.{version_of_magic}
-use Rattle.bp_tree.proofs.RegionWords.{length_now}
+use Rattle.bp_read.proofs.RegionWords.{length_now}
 use Rattle.bp_layout.specs.Formatted.{version_of}
 use Rattle.bp_layout.specs.Words.{block_count}
 use Rattle.pm_region.specs.Memory.{current_words}

@@ -1,7 +1,7 @@
 use Rattle.std.proofs.Common.{◌+◌, ◌<◌, length, arith}
 use Rattle.bp_layout.specs.Words.{block_count}
 use Rattle.pm_region.specs.Memory.{current_words}
-use Rattle.bp_tree.proofs.RegionWords.{length_now}
+use Rattle.bp_read.proofs.RegionWords.{length_now}
 use Rattle.bp_scan.proofs.InodePlaces.{in_bounds, words_of}
 use Rattle.bp_scan.proofs.trees.load_inode.Goals as goal
 

@@ -10,7 +10,7 @@ use Rattle.bp_scan.specs.Faults.{IsFault, IsTreeFault}
 use Rattle.bp_scan.specs.Scanned.{AreOthersLive}
 use Rattle.bp_scan.proofs.BothScans.{snapshot_others, second_count, snapshot_words}
 use Rattle.bp_scan.proofs.FaultLaws.{second_faults}
-use Rattle.bp_tree.proofs.RegionWords.{length_now}
+use Rattle.bp_read.proofs.RegionWords.{length_now}
 use Rattle.pm_region.specs.Memory.{current_words}
 use Rattle.bp_scan.proofs.whole.scan_snapshot.Goals as goal
 

@@ -4,5 +4,5 @@ use Rattle.bp_script.proofs.digits.encode_digits.Goals as goal
 
 pub returns : goal.returns
 returns c =
-    rw (c.encode_runs.ensures, c.encode_bytes.ensures, c.split_at.ensures.prefix, c.split_at.ensures.back)
+    rw (c.encode_runs.ensures, c.encode_bytes.ensures, c.split_at.ensures.front, c.split_at.ensures.back)
     (encoded_parted (length c.args.content.now / 16 * 16) c.args.content.now)

@@ -26,8 +26,8 @@ dirty_words-requires-clause-fits g c =
     let at : slice_get memory.events c.loop-i.i ≡ Some (Store word value) = row.get ∙ ap (λ kind. Some (event_of kind value)) c.in-Store.is in
     omega (
       arith,
-      c.words-words.ensures,
-      c.words-words.type_inv,
+      c.words-words.ensures.count,
+      c.words-words.ensures.few,
       row_within words memory.events c.loop-i.i c.row-kind.result.len word value at row.row row.inside row.some c.event_count-count.ensures.within,
     )
 

@@ -1,5 +1,6 @@
 use Rattle.std.proofs.Common.{◌≡◌, ◌∙◌, ap, arith, length, min, rules, subst₂, sym, take}
 use Rattle.std.proofs.lemmas.List.{length-take, take_min}
+use Rattle.bp_limits.specs.Limits.{max_file_blocks}
 use Rattle.bp_replies.specs.Room.{gathered_size}
 use Rattle.bp_session.specs.Ends.{cause_of}
 use Rattle.bp_session.specs.Serving.{Moment, ServeOutcome, moment, with_dirty}
@@ -13,7 +14,7 @@ returns-clause-outcome g c =
     let new = c.serve_by.new in
     let begun : Moment = moment c.args.volume.now (g.F.Files.view c.args.files.now) (g.K.Sink.view c.args.out.now) in
     let ended : Moment = moment new.volume (g.F.Files.view new.files) (g.K.Sink.view new.out) in
-    let size : length flags ≡ 65536 = search rules in
+    let size : length flags ≡ max_file_blocks = search rules in
     let lent : c.min-count.result ≡ min count (length flags) = omega (arith, size, c.min-count.ensures) in
     let same : length new.dirty ≡ c.min-count.result = omega (arith, lent, c.serve_by.auto.dirty, length-take c.min-count.result flags) in
     subst₂ (λ old now. ServeOutcome (cause_of c.serve_by.result) gathered_size (g.S.Source.view c.args.src.now) (g.S.Source.view new.src) (with_dirty old begun) (with_dirty now ended))

@@ -15,4 +15,4 @@ returns g c =
     let size : length c.deref_mut.result.now ≡ 8 * c.words.result = c.deref_mut.ensures.len ∙ c.in_ok-bytes.ensures.len in
     let width : (4096 * 0 + 4096 * count) - 4096 * 0 ≡ 4096 * count = omega arith in
     ap (λ n. take n (into ++ rest)) (sym (c.read_blocks.auto.into ∙ c.deref_mut.ensures.len)) ∙ take-append_seam into rest
-    ∙ all_blocks memory into count (omega (arith, size, c.words.ensures, c.requires.whole)) (c.read_blocks.ensures ∙ ap (λ n. take n (drop (4096 * 0) spelled)) width)
+    ∙ all_blocks memory into count (omega (arith, size, c.words.ensures.count, c.requires.whole)) (c.read_blocks.ensures ∙ ap (λ n. take n (drop (4096 * 0) spelled)) width)

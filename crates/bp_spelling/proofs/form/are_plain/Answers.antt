@@ -1,7 +1,7 @@
 use Rattle.std.proofs.Common.{ℕ, ◌≡◌, ◌/◌, ◌≤◌, true≢false, arith, sym, ◌∙◌, length, eq-eqb}
 use Rattle.pm_region.specs.Memory.{current_words}
-use Rattle.bp_tree.proofs.LoadedWords.{length-loaded, loaded_word}
-use Rattle.bp_tree.proofs.RegionWords.{length_now}
+use Rattle.bp_read.proofs.LoadedWords.{length-loaded, loaded_word}
+use Rattle.bp_read.proofs.RegionWords.{length_now}
 use Rattle.bp_spelling.specs.Places.{ArePlainBytes}
 use Rattle.bp_spelling.proofs.FirstWords.{of_taken, to_taken}
 use Rattle.bp_spelling.proofs.Forms.{plain_all, plain_whole, plain_rest}

@@ -1,6 +1,6 @@
 use Rattle.std.proofs.Common.{ℕ, ◌+◌, IsTrue, true≢false, arith, sym, ◌∙◌, subst}
 use Rattle.pm_region.specs.Memory.{current_words}
-use Rattle.bp_tree.proofs.RegionWords.{length_now}
+use Rattle.bp_read.proofs.RegionWords.{length_now}
 use Rattle.bp_layout.specs.Words.{word}
 use Rattle.bp_spelling.specs.Places.{IsDots, ArePlain}
 use Rattle.bp_spelling.proofs.Forms.{is_name-from, name-some, name-short, name-other, name-plain}

@@ -3,7 +3,7 @@ use Rattle.pm_region.specs.Memory.{current_words}
 use Rattle.bp_free.specs.Set.{has}
 use Rattle.bp_layout.specs.Thaw.{is_in_snapshot_at, is_there_now}
 use Rattle.bp_layout.specs.WordPaths.{address}
-use Rattle.bp_tree.proofs.RegionWords.{length_now}
+use Rattle.bp_read.proofs.RegionWords.{length_now}
 use Rattle.bp_thaw.specs.Prefixes.{found_on}
 use Rattle.bp_thaw.proofs.FindSteps.{IsOnWay, add_step, found-ends, found-passes, on_way, place_inside}
 use Rattle.bp_thaw.proofs.find.find_on.Given as given

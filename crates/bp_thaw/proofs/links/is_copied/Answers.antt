@@ -1,7 +1,7 @@
 use Rattle.std.proofs.Common.{◌≡◌, ℕ, ◌<◌, false, get_or, length, take, sym, ◌∙◌, ap, refl, arith}
 use Rattle.std.proofs.Math.Seq.{take-length}
 use Rattle.pm_region.specs.Memory.{current_words}
-use Rattle.bp_tree.proofs.RegionWords.{length_now}
+use Rattle.bp_read.proofs.RegionWords.{length_now}
 use Rattle.bp_layout.specs.Words.{block_of}
 use Rattle.bp_thaw.specs.Copies.{is_copied}
 use Rattle.bp_thaw.proofs.AllStored.{any_source}

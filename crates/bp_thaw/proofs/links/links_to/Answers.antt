@@ -1,7 +1,7 @@
 use Rattle.std.proofs.Common.{◌≡◌, ℕ, ◌<◌, ◌/◌, [], ◌∷◌, ◌++◌, true, false, get_or, length, take, sym, ◌∙◌, ap, refl, arith, rules}
 use Rattle.std.proofs.Math.Seq.{take-length}
 use Rattle.pm_region.specs.Memory.{current_words}
-use Rattle.bp_tree.proofs.RegionWords.{length_now}
+use Rattle.bp_read.proofs.RegionWords.{length_now}
 use Rattle.bp_cow.specs.Copies.{pointing_to}
 use Rattle.bp_thaw.specs.Copies.{is_copied, links_among}
 use Rattle.bp_thaw.proofs.CopySteps.{item_here, one_more_taken}

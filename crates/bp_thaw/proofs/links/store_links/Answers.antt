@@ -4,7 +4,7 @@ use Rattle.pm_epochs.specs.declared.event.Event.TheVariants.{Barrier}
 use Rattle.pm_epochs.specs.May.{links_of}
 use Rattle.pm_region.specs.Memory.{Adds}
 use Rattle.pm_region.proofs.MemoryLaws.{adds_both, base-adds}
-use Rattle.bp_tree.proofs.RegionWords.{length_now}
+use Rattle.bp_read.proofs.RegionWords.{length_now}
 use Rattle.bp_thaw.proofs.CopySteps.{item_here, length-taken, one_more_taken}
 use Rattle.bp_thaw.proofs.LinkSteps.{room_stored, store_more}
 use Rattle.bp_thaw.proofs.links.store_links.Goals as goal

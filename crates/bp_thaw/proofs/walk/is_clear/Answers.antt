@@ -1,7 +1,7 @@
 use Rattle.std.proofs.Common.{◌≡◌, ℕ, ◌<◌, Bool, [], get_or, length, refl, sym, ◌∙◌, ap, arith, true≢false}
 use Rattle.pm_region.specs.Memory.{current_words}
 use Rattle.bp_free.specs.Set.{has}
-use Rattle.bp_tree.proofs.RegionWords.{length_now}
+use Rattle.bp_read.proofs.RegionWords.{length_now}
 use Rattle.bp_thaw.specs.Prefixes.{found_on}
 use Rattle.bp_thaw.proofs.FindSteps.{IsOnWay, found-passes, on_way, place_inside}
 use Rattle.bp_thaw.proofs.OneWay.{snapshot_is_thawed, none_on_way}

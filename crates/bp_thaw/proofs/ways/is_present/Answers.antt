@@ -2,7 +2,7 @@ use Rattle.std.proofs.Common.{◌≡◌, ◌*◌, ◌<◌, ◌∙◌, sym, subst
 use Rattle.std.proofs.lemmas.Bool.{lt-leb}
 use Rattle.bp_layout.specs.Tree.{span}
 use Rattle.bp_layout.proofs.TreeLaws.{span-is}
-use Rattle.bp_tree.proofs.Below.{slots_all, span_some}
+use Rattle.bp_read.proofs.Below.{slots_all, span_some}
 use Rattle.bp_thaw.proofs.WayNumbers.{present_far}
 use Rattle.pm_region.specs.Memory.{current_words}
 use Rattle.bp_thaw.proofs.ways.is_present.Goals as goal

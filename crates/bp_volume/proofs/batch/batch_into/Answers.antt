@@ -10,7 +10,7 @@ use Rattle.bp_layout.specs.Need.Change.{overwrites}
 use Rattle.bp_limits.specs.CallLimits.{max_batch}
 use Rattle.bp_plain.specs.Seen.{piece_in}
 use Rattle.bp_plain.proofs.Carried.{sum_lies}
-use Rattle.bp_shapes.specs.Sets.{in_snapshot_of}
+use Rattle.bp_changes.specs.Sets.{in_snapshot_of}
 use Rattle.pm_region.specs.Memory.{current_words}
 use Rattle.bp_volume.specs.Carried.CarriesOut.{unchanged}
 use Rattle.bp_volume.proofs.BatchLaws.{batch_makes, batch_nothing, patches_bytes, patches_in, patches_many}

@@ -4,7 +4,7 @@ use Rattle.bp_calls.specs.Entrant.{entrant_of}
 use Rattle.bp_calls.proofs.Refusals.{reports}
 use Rattle.bp_free.specs.declared.parts.Parts.{Parts}
 use Rattle.bp_layout.specs.Need.Change.{enters as change_of}
-use Rattle.bp_shapes.specs.Sets.{in_snapshot_of}
+use Rattle.bp_changes.specs.Sets.{in_snapshot_of}
 use Rattle.bp_volume.specs.Carried.CarriesOut.{changed}
 use Rattle.bp_volume.proofs.CacheLaws.{cache_thawed, created_enters, on_ok_was}
 use Rattle.bp_volume.proofs.ChangeLaws.{carried_lacks, lacks_space, performs_call}

@@ -3,7 +3,7 @@ use Rattle.std.proofs.lemmas.Result.{MatchResult-weaker, err_from_is_err_and, on
 use Rattle.bp_free.specs.declared.parts.Parts.{Parts}
 use Rattle.bp_layout.specs.Need.Change.{enters}
 use Rattle.bp_layout.specs.Need.Entrant.{linked}
-use Rattle.bp_shapes.specs.Sets.{in_snapshot_of}
+use Rattle.bp_changes.specs.Sets.{in_snapshot_of}
 use Rattle.bp_volume.proofs.AskingLaws.{at_reached}
 use Rattle.bp_volume.specs.Carried.CarriesOut.{changed}
 use Rattle.bp_volume.proofs.CacheLaws.{cache_thawed, linked_enters, on_ok_was}

@@ -1,7 +1,7 @@
 use Rattle.std.proofs.Common.{sym, ◌∙◌, ap}
 use Rattle.std.proofs.lemmas.Result.{err_from_is_err_and}
 use Rattle.std.specs.Option.{is_some}
-use Rattle.bp_dirs.specs.Spots.{named_slot}
+use Rattle.bp_read.specs.Spots.{named_slot}
 use Rattle.bp_plain.specs.Plain.{parent_of}
 use Rattle.bp_volume.specs.Step.{last_of}
 use Rattle.bp_volume.proofs.CreateLaws.{by_parent}

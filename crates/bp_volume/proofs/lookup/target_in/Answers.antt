@@ -1,7 +1,7 @@
 use Rattle.std.proofs.Common.{◌≡◌, refl, sym, ◌∙◌, ap, subst, arith, Some}
 use Rattle.pm_region.specs.Memory.{current_words}
-use Rattle.bp_dirs.specs.Spots.{FreeIs, named_slot}
-use Rattle.bp_dirs.specs.declared.spot.Spot.{Spot}
+use Rattle.bp_read.specs.Spots.{FreeIs, named_slot}
+use Rattle.bp_read.specs.declared.spot.Spot.{Spot}
 use Rattle.bp_layout.specs.Directory.{empty_slot, inumber_at, inumber_in, slot_named}
 use Rattle.bp_path.proofs.WalkLaws.{there, low_number, named_reached, slot_there}
 use Rattle.bp_volume.proofs.TargetLaws.{name_free, name_taken}

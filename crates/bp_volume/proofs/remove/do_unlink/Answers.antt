@@ -2,7 +2,7 @@ use Rattle.std.proofs.Common.{ap, refl}
 use Rattle.std.proofs.lemmas.Result.{MatchResult-weaker, err_from_is_err_and, on_err_weaker}
 use Rattle.bp_free.specs.declared.parts.Parts.{Parts}
 use Rattle.bp_layout.specs.Need.Change.{leaves}
-use Rattle.bp_shapes.specs.Sets.{in_snapshot_of}
+use Rattle.bp_changes.specs.Sets.{in_snapshot_of}
 use Rattle.bp_volume.specs.Carried.CarriesOut.{changed, unchanged}
 use Rattle.bp_volume.proofs.CacheLaws.{cache_refused, cache_thawed, on_ok_was}
 use Rattle.bp_volume.proofs.ChangeLaws.{carried_lacks, lacks_space, performs_call}

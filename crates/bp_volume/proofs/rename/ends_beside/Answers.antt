@@ -2,8 +2,8 @@ use Rattle.std.proofs.Common.{◌≡◌, Option, Some, sym, ◌∙◌, ap, subst
 use Rattle.std.proofs.lemmas.Result.{err_from_is_err_and}
 use Rattle.pm_region.specs.Memory.{current_words}
 use Rattle.std.specs.Prelude.{IfSome}
-use Rattle.bp_dirs.specs.Spots.{found_slot}
-use Rattle.bp_dirs.specs.declared.spot.Found.{Found}
+use Rattle.bp_read.specs.Spots.{found_slot}
+use Rattle.bp_read.specs.declared.spot.Found.{Found}
 use Rattle.bp_layout.specs.Directory.{inumber_at, slot_named}
 use Rattle.bp_layout.specs.Lookup.{lookup}
 use Rattle.bp_path.proofs.WalkLaws.{there, low_number, named_reached}

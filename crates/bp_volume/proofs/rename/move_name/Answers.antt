@@ -3,7 +3,7 @@ use Rattle.std.proofs.lemmas.Result.{MatchResult-weaker, err_from_is_err_and, on
 use Rattle.pm_region.specs.Memory.{current_words}
 use Rattle.bp_free.specs.declared.parts.Parts.{Parts}
 use Rattle.bp_rename.specs.CanRename.{change_of}
-use Rattle.bp_shapes.specs.Sets.{in_snapshot_of}
+use Rattle.bp_changes.specs.Sets.{in_snapshot_of}
 use Rattle.bp_volume.specs.Carried.CarriesOut.{changed}
 use Rattle.bp_volume.proofs.CacheLaws.{cache_thawed, on_ok_was}
 use Rattle.bp_volume.proofs.ChangeLaws.{carried_lacks, lacks_space, performs_call}

@@ -3,7 +3,7 @@ use Rattle.bp_layout.specs.WellFormed.{IsWellFormed}
 use Rattle.bp_layout.specs.Words.{Image}
 use Rattle.bp_plain.specs.Calls.Call.{read}
 use Rattle.bp_scan.proofs.BothScans.{snapshot_words}
-use Rattle.bp_tree.proofs.RegionWords.{length_now}
+use Rattle.bp_read.proofs.RegionWords.{length_now}
 use Rattle.bp_volume.specs.Seen.{read_answer_of}
 use Rattle.bp_volume.specs.Queries.{Answers}
 use Rattle.bp_volume.proofs.SafeLaws.{long_words}

@@ -1,5 +1,5 @@
 use Rattle.std.proofs.Common.{◌∙◌, ap, arith, length}
-use Rattle.bp_tree.proofs.RegionWords.{length_now}
+use Rattle.bp_read.proofs.RegionWords.{length_now}
 use Rattle.pm_region.specs.Memory.{Memory}
 use Rattle.bp_volume.proofs.snapshot.store_snapshot.Goals as goal
 

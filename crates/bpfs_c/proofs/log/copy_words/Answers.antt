@@ -22,8 +22,8 @@ returns c =
     let count = length c.args.into.now in
     let head = length c.split_at_mut-prefix.result.0.now in
     let rest = length c.split_at_mut-prefix.result.1.now in
-    let is_head : c.min-head.result ≡ head = sym c.split_at_mut-prefix.ensures.prefix_len in
-    let whole : head + rest ≡ count = omega (arith, c.split_at_mut-prefix.ensures.prefix_len, c.split_at_mut-prefix.ensures.back_len) in
+    let is_head : c.min-head.result ≡ head = sym c.split_at_mut-prefix.ensures.front_len in
+    let whole : head + rest ≡ count = omega (arith, c.split_at_mut-prefix.ensures.front_len, c.split_at_mut-prefix.ensures.back_len) in
     let following = ap (λ n. slice_range words (first + n) ((first + n) + rest)) is_head in
     let all : slice_range words first (first + head) ++ slice_range words (first + head) ((first + head) + rest) ≡ slice_range words first (first + count) =
     slices_join words first head rest ∙ ap (λ n. slice_range words first (first + n)) whole in

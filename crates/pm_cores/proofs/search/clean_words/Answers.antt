@@ -7,8 +7,8 @@ use Rattle.pm_cores.proofs.search.clean_words.Goals.{in-Load, in-Store, in-Barri
 pub loop-k-init : goal.loop-k-init
 loop-k-init c = clean_start c.args.since.now c.args.log.now c.requires.first
 
-pub bounds-since-word : goal.bounds-since-word
-bounds-since-word c =
+pub clean_word-requires : goal.clean_word-requires
+clean_word-requires c =
     let low = c.requires.words c.loop-k.k c.in-Store.core c.in-Store.word (store_read c.args.log.now c.loop-k.k c.in-Store.core c.in-Store.word c.in-Store.value c.loop-k-test.true c.in-Store.is) in
     let size = c.loop-k.invariant.size in
     omega arith
@@ -22,7 +22,7 @@ loop-k-preserved c =
           let store = store_read log c.loop-k.k w.in-Store.core w.in-Store.word w.in-Store.value c.loop-k-test.true w.in-Store.is in
           let low = c.requires.words c.loop-k.k w.in-Store.core w.in-Store.word store in
           let size = c.loop-k.invariant.size in
-          rw w.since-is (clean_here c.args.since.now log c.loop-k.k c.loop-k.since w.in-Store.core w.in-Store.word c.loop-k.invariant store (omega arith))
+          rw (w.since-is, w.clean_word.ensures) (clean_here c.args.since.now log c.loop-k.k c.loop-k.since w.in-Store.core w.in-Store.word c.loop-k.invariant store (omega arith))
       | in-Barrier w ↦ rw w.since-is (clean_skip c.args.since.now log c.loop-k.k c.loop-k.since c.loop-k.invariant (no_store_barrier log c.loop-k.k w.in-Barrier.core w.in-Barrier.is))
     ]
 

@@ -6,6 +6,12 @@ use Rattle.pm_cores.proofs.Reading.{store_read, no_store_load, no_store_barrier,
 use Rattle.pm_cores.proofs.search.first_waiting.Goals as goal
 use Rattle.pm_cores.proofs.search.first_waiting.Goals.{in-Load, in-Store+else-other-core, else-other-core-via-then-other-core+else-waits, else-other-core-via-else-other-core, in-Barrier}
 
+pub offset_bounds-since-word : goal.offset_bounds-since-word
+offset_bounds-since-word c =
+    let low = c.requires.words c.loop-k.k c.in-Store.other c.in-Store.word (store_read c.args.log.now c.loop-k.k c.in-Store.other c.in-Store.word c.in-Store.value c.loop-k-test.true c.in-Store.is) in
+    let fits = c.type_inv.since in
+    omega arith
+
 pub bounds-since-word : goal.bounds-since-word
 bounds-since-word c = c.requires.words c.loop-k.k c.in-Store.other c.in-Store.word (store_read c.args.log.now c.loop-k.k c.in-Store.other c.in-Store.word c.in-Store.value c.loop-k-test.true c.in-Store.is)
 

@@ -23,6 +23,13 @@ returns-then-owner-epochs-clause-lowest c =
     let store = subst (λ n. IsStore log c.loop-k.k n c.in-Store.word) c.if-core-owner.true (store_read log c.loop-k.k c.in-Store.core c.in-Store.word c.in-Store.value c.loop-k-test.true c.in-Store.is) in
     lowest_before (length c.args.since.now) c.args.since.now log c.args.epochs.now sound c.args.owner c.args.first c.requires.low c.requires.found c.requires.epoch c.loop-k.k c.loop-k.lowest c.in-Store.word c.loop-k.invariant store c.if-owner-epochs.true
 
+pub offset_bounds-since-word : goal.offset_bounds-since-word
+offset_bounds-since-word c =
+    let low = c.requires.sound.words c.loop-k.k c.in-Store.core c.in-Store.word (store_read c.args.log.now c.loop-k.k c.in-Store.core c.in-Store.word c.in-Store.value c.loop-k-test.true c.in-Store.is) in
+    let size = c.requires.sound.as_many_since in
+    let fits = c.type_inv.since in
+    omega arith
+
 pub bounds-since-word : goal.bounds-since-word
 bounds-since-word c =
     let sound = c.requires.sound in

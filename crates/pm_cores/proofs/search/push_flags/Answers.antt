@@ -8,6 +8,12 @@ use Rattle.pm_cores.proofs.Flags.{mask_none, mask_store, few_more}
 use Rattle.pm_cores.proofs.search.push_flags.Goals as goal
 use Rattle.pm_cores.proofs.search.push_flags.Goals.{in-Load, in-Store, in-Barrier}
 
+pub offset_bounds-since-word : goal.offset_bounds-since-word
+offset_bounds-since-word c =
+    let low = c.requires.words c.loop-k.k c.in-Store.core c.in-Store.word (store_read c.args.log.now c.loop-k.k c.in-Store.core c.in-Store.word c.in-Store.value c.loop-k-test.true c.in-Store.is) in
+    let fits = c.type_inv.since in
+    omega arith
+
 pub bounds-since-word : goal.bounds-since-word
 bounds-since-word c = c.requires.words c.loop-k.k c.in-Store.core c.in-Store.word (store_read c.args.log.now c.loop-k.k c.in-Store.core c.in-Store.word c.in-Store.value c.loop-k-test.true c.in-Store.is)
 

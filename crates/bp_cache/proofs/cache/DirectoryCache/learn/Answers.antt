@@ -1,5 +1,5 @@
 use Rattle.bp_layout.proofs.HintLaws.{right-reported}
-use Rattle.bp_names.specs.Names.{known_of}
+use Rattle.bp_cache.specs.Names.{known_of}
 use Rattle.bp_cache.proofs.cache.DirectoryCache.learn.Goals as goal
 
 pub returns : goal.returns

@@ -4,7 +4,7 @@ use Rattle.bp_calls.proofs.AcrossCalls.{across_planned, at_inside, at_shape, fro
 use Rattle.bp_calls.proofs.SameWrites.{write_mounted}
 use Rattle.bp_layout.specs.Need.{need}
 use Rattle.bp_layout.specs.Need.Change.{writes}
-use Rattle.bp_shapes.specs.Sets.{in_snapshot_of}
+use Rattle.bp_changes.specs.Sets.{in_snapshot_of}
 use Rattle.pm_region.specs.Memory.{current_words}
 use Rattle.bp_calls.proofs.writes.across.need_across.Given.{Over}
 use Rattle.bp_calls.proofs.writes.across.need_across.Goals.{After-touched_across-touched}

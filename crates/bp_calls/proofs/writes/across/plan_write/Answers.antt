@@ -15,5 +15,5 @@ returns g c =
       root = c.requires.root;
       size = c.requires.size;
       sized = sized_word image c.args.ino end c.size_path.result c.size_path.ensures;
-      run = subst (λ bs. IsRunAcross image c.args.ino c.args.offset end bs c.run_across.result) (c.split_at.ensures.prefix ∙ ap (λ s. take (s - c.args.offset) c.args.bytes.now) c.requires.size) c.run_across.ensures;
+      run = subst (λ bs. IsRunAcross image c.args.ino c.args.offset end bs c.run_across.result) (c.split_at.ensures.front ∙ ap (λ s. take (s - c.args.offset) c.args.bytes.now) c.requires.size) c.run_across.ensures;
     }

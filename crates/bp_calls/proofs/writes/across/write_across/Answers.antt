@@ -12,7 +12,7 @@ use Rattle.bp_layout.specs.Need.Change.{writes}
 use Rattle.bp_layout.specs.Thaw.{thawed}
 use Rattle.bp_layout.specs.WordPaths.{inode_path}
 use Rattle.bp_layout.specs.Words.{height_of}
-use Rattle.bp_shapes.specs.Sets.{in_snapshot_of}
+use Rattle.bp_changes.specs.Sets.{in_snapshot_of}
 use Rattle.pm_region.specs.Memory.{current_words}
 use Rattle.bp_calls.proofs.writes.across.write_across.Given.{Over}
 use Rattle.bp_calls.proofs.writes.across.write_across.Goals.{After-touched_across-touched}

@@ -2,7 +2,7 @@ use Rattle.std.proofs.Common.{◌≡◌, ℕ, ◌-◌, ◌/◌, ◌%◌, ◌≤�
 use Rattle.std.specs.Prelude.{◌↔◌, ◌==◌, if◌then◌else◌, slice_index_or}
 use Rattle.std.proofs.lemmas.Bool.{cases_lt}
 use Rattle.bp_layout.specs.WordPaths.{WordPath}
-use Rattle.bp_shapes.specs.Trail.{trail_of}
+use Rattle.bp_changes.specs.Trail.{trail_of}
 use Rattle.bp_cow.specs.Cover.{end_path, BothBegin}
 use Rattle.bp_cow.specs.Touched.{IsRun, run_end, run_path, word_paths}
 use Rattle.bp_cow.specs.declared.touched.Run.{Run}

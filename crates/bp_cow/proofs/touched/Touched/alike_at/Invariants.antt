@@ -1,5 +1,5 @@
 use Rattle.std.proofs.Common.{◌≡◌}
-use Rattle.bp_shapes.specs.Trail.{trail_of}
+use Rattle.bp_changes.specs.Trail.{trail_of}
 use Rattle.bp_cow.specs.Cover.{end_path}
 use Rattle.bp_cow.proofs.touched.Touched.alike_at.Given as goal
 

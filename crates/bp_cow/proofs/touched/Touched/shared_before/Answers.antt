@@ -6,7 +6,7 @@ use Rattle.bp_cow.specs.declared.ways.Leaf.{Leaf}
 use Rattle.bp_cow.specs.Leaves.{IsLeaf}
 use Rattle.bp_cow.specs.Touched.{job_of, word_paths}
 use Rattle.bp_cow.specs.Ways.{IsShared}
-use Rattle.bp_shapes.specs.Trail.{trail_of}
+use Rattle.bp_changes.specs.Trail.{trail_of}
 use Rattle.bp_cow.proofs.RunsLaws.{way-short}
 use Rattle.bp_cow.proofs.SharedLaws.{shared-none, way-slots}
 use Rattle.bp_cow.proofs.touched.Touched.shared_before.Goals as goal

@@ -2,7 +2,7 @@ use Rattle.std.proofs.Common.{◌≡◌, ◌+◌, ◌<◌, ℕ, [], ◌++◌, sy
 use Rattle.std.specs.List.{cons_option}
 use Rattle.std.proofs.lemmas.List.{append-nil, append_assoc}
 use Rattle.bp_layout.specs.Inode.{root_of}
-use Rattle.bp_dirs.proofs.EntryWords.{entry_of}
+use Rattle.bp_read.proofs.EntryWords.{entry_of}
 use Rattle.bp_export.specs.Entries.{entry_named}
 use Rattle.bp_export.proofs.RowLaws.{named-append}
 use Rattle.bp_export.proofs.entries.Entries.add_row.Goals as goal

@@ -25,7 +25,7 @@ use Rattle.std.specs.Prelude.{Option, Some}
 use Rattle.std_heap.specs.contracts.Global as heap
 use Rattle.std_heap.proofs.Global.TheLaws as heap_laws
 use Rattle.std_heap.specs.contracts.GlobalAllocator.TheImpl.{ghosts}
-use Rattle.bp_loose.proofs.LooseValues.{both, RawBox, loose_good, loose_out}
+use Rattle.bpfs_c.proofs.LooseValues.{both, RawBox, loose_good, loose_out}
 use Rattle.bpfs_c.specs.declared.mounted.Mounted.{Mounted}
 use Rattle.bpfs_c.specs.contracts.mounted.Mounted as mounted
 use Rattle.bpfs_c.specs.contracts.handle.Handle as Handle

@@ -39,7 +39,7 @@ use Rattle.std_heap.specs.contracts.Global as heap
 use Rattle.std_heap.proofs.Global.TheLaws as heap_laws
 use Rattle.std_heap.proofs.Handle.{heap_val, heap_Tells}
 use Rattle.std_heap.specs.contracts.GlobalAllocator.TheImpl.{ghosts}
-use Rattle.bp_loose.proofs.LooseValues.{both, RawBox, both_tt, loose_good, loose_in}
+use Rattle.bpfs_c.proofs.LooseValues.{both, RawBox, both_tt, loose_good, loose_in}
 use Rattle.bpfs_c.specs.Ownership.{freeable, handle_owns}
 use Rattle.bpfs_c.specs.declared.mounted.Mounted.{Mounted}
 use Rattle.bpfs_c.specs.contracts.mounted.Mounted as mounted

@@ -1,0 +1,65 @@
+//! One entry of a directory.
+
+ghost use Rattle.std.specs.Prelude.{◌≡◌, ◌≢◌, ℕ, ◌/◌, ◌<◌, ◌≤◌, length, slice_index, IfSome, IfNone};
+ghost use Rattle.bp_read.specs.EntryWords.{HasWords};
+ghost use Rattle.bp_cache.specs.Entries.{IsEntryAt, IsNotAt};
+ghost use Rattle.bp_layout.specs.Directory.{inumber_in, is_named_in};
+ghost use Rattle.bp_layout.specs.Tree.{IsSound};
+ghost use Rattle.bp_layout.specs.Words.{Image};
+ghost use Rattle.bp_limits.specs.Limits.{entry_size};
+ghost use Rattle.bp_limits.specs.CallLimits.{max_name};
+ghost use Rattle.pm_region.specs.Memory.{words_in};
+
+use bp_limits::{ENTRY_SIZE, MAX_NAME};
+use bp_read::directory::entry;
+use bp_read::{EntryView, Found, Tree};
+use pm_region::Region;
+
+/// Returns the entry in a slot; `None` if it is empty.
+pub(crate) fn live_entry<R: Region>(region: &R, tree: Tree, slot: u64) -> Option<EntryView<'_>>
+    requires sound { IsSound (words_in R.memory region.now) tree.root tree.size }
+    requires live { slot < tree.size / entry_size }
+    ensures words { IfSome result (λ entry. HasWords (words_in R.memory region.now) tree.root slot entry.words.now) }
+    ensures some { IfSome result (λ entry. inumber_in (words_in R.memory region.now) tree.root slot ≢ 0) }
+    ensures none { IfNone result (inumber_in (words_in R.memory region.now) tree.root slot ≡ 0) }
+{
+    let entry = entry(region, tree, slot)?;
+    if entry.inumber() == 0 {
+        return None;
+    }
+    Some(entry)
+}
+
+/// Returns whether an entry that refers to an inode has this name.
+fn has_name(entry: &EntryView<'_>, name: &[u8]) -> bool
+    requires some { slice_index entry.now.words.now 0 ≢ 0 }
+    requires short { length name.now ≤ max_name }
+    ensures { (image : Image) (root slot : ℕ) → HasWords image root slot entry.now.words.now
+        → result ≡ is_named_in image root name.now slot }
+{
+    if entry.name_len() != name.len() as u64 {
+        return false;
+    }
+    let mut buffer = [0; MAX_NAME];
+    entry.read_name(&mut buffer) == name
+}
+
+/// Returns the entry in a slot; `None` if it is not below the size, or does not refer to an inode by this name.
+pub(crate) fn find_at<R: Region>(region: &R, tree: Tree, slot: u64, name: &[u8]) -> Option<Found>
+    requires sound { IsSound (words_in R.memory region.now) tree.root tree.size }
+    requires short { length name.now ≤ max_name }
+    ensures some { IfSome result (IsEntryAt (words_in R.memory region.now) tree.root tree.size name.now slot) }
+    ensures none { IfNone result (IsNotAt (words_in R.memory region.now) tree.root tree.size name.now slot) }
+{
+    if slot >= tree.size / ENTRY_SIZE {
+        return None;
+    }
+    let entry = live_entry(region, tree, slot)?;
+    if !has_name(&entry, name) {
+        return None;
+    }
+    Some(Found {
+        slot,
+        inumber: entry.inumber(),
+    })
+}

@@ -1,7 +1,0 @@
-use Rattle.std.proofs.Common.{◌≡◌, ℕ, ◌+◌, ◌<◌, ◌==◌, false}
-use Rattle.bp_layout.specs.Directory.{inumber_in}
-use Rattle.pm_region.specs.Memory.{current_words}
-use Rattle.bp_dirs.proofs.leaf.Leaf.first_empty.Given as goal
-
-abbrev pub invariant-loop-index : goal.invariant-loop-index
-invariant-loop-index g l = (k : ℕ) → k < l.index → (inumber_in (current_words (g.R.Region.memory l.region)) l.self.tree.root (l.self.first + k) == 0) ≡ false

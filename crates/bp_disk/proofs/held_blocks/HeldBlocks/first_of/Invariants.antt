@@ -1,0 +1,8 @@
+use Rattle.std.proofs.Common.{◌-◌, ◌≤◌}
+use Rattle.bp_disk.proofs.held_blocks.HeldBlocks.first_of.Given as goal
+
+abbrev pub invariant-loop-at : goal.invariant-loop-at
+invariant-loop-at l = record { low : l.fn.from ≤ l.at; high : l.at ≤ 65536 }
+
+abbrev pub decreases-loop-at : goal.decreases-loop-at
+decreases-loop-at l = 65536 - l.at

@@ -1,4 +1,0 @@
-pub mod Entries
-pub mod Hashes
-pub mod Index
-pub mod Slots

@@ -1,2 +1,0 @@
-pub mod InodeWords
-pub mod Filling

@@ -1,8 +1,0 @@
-use Rattle.std.proofs.Common.{◌-◌, ◌≡◌}
-use Rattle.bp_io.proofs.temp_file.write_zeros.Given as goal
-
-abbrev pub invariant-loop-at : goal.invariant-loop-at
-invariant-loop-at l = l.end ≡ l.fn.end
-
-abbrev pub decreases-loop-at : goal.decreases-loop-at
-decreases-loop-at l = l.end - l.at

@@ -1,0 +1,10 @@
+use Rattle.std.proofs.Common.{◌≡◌, ◌*◌, ◌-◌, ◌/◌, find}
+use Rattle.std.specs.List.{range_with_len}
+use Rattle.bp_layout.specs.Directory.{is_named_in, slot_named_in}
+use Rattle.pm_region.specs.Memory.{current_words}
+use Rattle.bp_read.proofs.directory.find_entry.Given as goal
+
+abbrev pub invariant-loop-number : goal.invariant-loop-number
+invariant-loop-number g l =
+    slot_named_in (current_words (g.R.Region.memory l.region)) l.tree.root l.tree.size l.name ≡
+    find (is_named_in (current_words (g.R.Region.memory l.region)) l.tree.root l.name) (range_with_len (16 * l.number) (l.tree.size / 256 - 16 * l.number))

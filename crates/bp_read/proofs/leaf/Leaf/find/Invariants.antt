@@ -1,0 +1,7 @@
+use Rattle.std.proofs.Common.{◌≡◌, ℕ, ◌+◌, ◌<◌, false}
+use Rattle.bp_layout.specs.Directory.{is_named_in}
+use Rattle.pm_region.specs.Memory.{current_words}
+use Rattle.bp_read.proofs.leaf.Leaf.find.Given as goal
+
+abbrev pub invariant-loop-index : goal.invariant-loop-index
+invariant-loop-index g l = (k : ℕ) → k < l.index → is_named_in (current_words (g.R.Region.memory l.region)) l.self.tree.root l.name (l.self.first + k) ≡ false

@@ -1,0 +1,12 @@
+use Rattle.std.proofs.Common.{arith}
+use Rattle.bp_read.proofs.RegionWords.{length_now}
+use Rattle.bp_read.proofs.tree.load_slot.Goals as goal
+
+pub overflow_mul-block : goal.overflow_mul-block
+overflow_mul-block g c = omega (arith, length_now (g.R.Region.memory c.args.region.now))
+
+pub overflow_add-block : goal.overflow_add-block
+overflow_add-block g c = omega (arith, length_now (g.R.Region.memory c.args.region.now))
+
+pub load-requires : goal.load-requires
+load-requires g c = omega (arith, length_now (g.R.Region.memory c.args.region.now))

@@ -1,0 +1,12 @@
+pub mod Bytes
+pub mod Counts
+pub mod Nulls
+pub mod Paths
+pub mod Within
+pub mod Leaves
+pub mod Filled
+pub mod EntryWords
+pub mod DirectoryLeaves
+pub mod Names
+pub mod Spots
+pub mod Written

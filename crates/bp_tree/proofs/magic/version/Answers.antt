@@ -1,6 +1,0 @@
-use Rattle.std.proofs.Common.{arith}
-use Rattle.bp_tree.proofs.RegionWords.{length_now}
-use Rattle.bp_tree.proofs.magic.version.Goals as goal
-
-pub load-requires : goal.load-requires
-load-requires g c = omega (arith, c.requires, length_now (g.R.Region.memory c.args.region.now))

@@ -1,6 +1,0 @@
-use Rattle.std.proofs.Common.{◌≡◌, ◌*◌, take}
-use Rattle.bp_tree.specs.Bytes.{stored_bytes}
-use Rattle.bp_tree.proofs.reads.unpack.Given as goal
-
-abbrev pub invariant-loop-line : goal.invariant-loop-line
-invariant-loop-line l = take (64 * l.line) l.into ≡ stored_bytes l.words 0 (64 * l.line)

@@ -30,8 +30,8 @@
  *
  * UNITS
  *   A word is a uint64_t; words are numbered from the start of the image. A block is 512 words,
- *   which are 4,096 bytes. An image has 8 to 65,536 blocks. Sizes and offsets of files are in
- *   bytes. Words are native integers here, and little endian in an image file.
+ *   which are 4,096 bytes. An image has 8 to 67,108,864 blocks (256 GiB). Sizes and offsets of
+ *   files are in bytes. Words are native integers here, and little endian in an image file.
  *
  * PATHS AND NAMES
  *   Paths and names are bytes with a length, not C strings. "/" is the root directory, "/a/b" is an
@@ -64,7 +64,7 @@
  *
  * COST
  *   A volume has its own copy of the words (4 KiB for each block), up to some 724 bytes more for
- *   each block, and a log of 524,288 events (23 MB). The system provides pages of these as they are
+ *   each block, and a log of 524,288 events (25 MB). The system provides pages of these as they are
  *   used. bpfs_mount, bpfs_format_events, bpfs_list and bpfs_snap_list allocate memory. Other calls
  *   may allocate some to remember where names are; if that fails, they return the same result.
  *
@@ -97,6 +97,10 @@
 #include <stdbool.h>
 #include <stddef.h>
 #include <stdint.h>
+
+#if SIZE_MAX < UINT64_MAX
+#error "bpfs.h needs a size_t of 64 bits: the library is built for 64-bit systems only"
+#endif
 
 #ifdef __cplusplus
 extern "C" {
@@ -132,7 +136,7 @@ enum {
 enum {
     BPFS_BLOCK_WORDS = 512,
     BPFS_MIN_BLOCKS = 8,
-    BPFS_MAX_BLOCKS = 65536,
+    BPFS_MAX_BLOCKS = 67108864,
     BPFS_MAX_NAME = 240,
     BPFS_MAX_PATH = 4096,
     BPFS_MAX_WRITE = 65536,     /* bytes of one write in version 1 */
@@ -160,7 +164,8 @@ typedef struct bpfs_lack {
  * that the image says that it has or, if no image has the size `found`, the size of an image that
  * is nearest. The other fields keep their values. */
 typedef struct bpfs_fault {
-    uint32_t check, place;
+    uint32_t check;
+    uint64_t place;
     uint64_t found, wanted;
 } bpfs_fault;
 
@@ -168,14 +173,15 @@ enum { BPFS_STORE = 0, BPFS_BARRIER = 1, BPFS_MARK = 2 };
 
 /* An event. `word` and `value` are 0 except for a store. */
 typedef struct bpfs_event {
-    uint32_t kind, word;
-    uint64_t value;
+    uint32_t kind;
+    uint64_t word, value;
 } bpfs_event;
 
 /* Consecutive events that store to consecutive words, of which `word` is the first; or one event
  * that is not a store, with word 0. */
 typedef struct bpfs_run {
-    uint32_t kind, word;
+    uint32_t kind;
+    uint64_t word;
 } bpfs_run;
 
 /* A file and its size in bytes, or a directory and its number of names. */
@@ -315,7 +321,7 @@ uint32_t bpfs_totals(bpfs *fs, bpfs_sums *sums);
 
 /* Copies `count` words from `first` on, as they are now, with all events applied.
  * BPFS_OUT_OF_RANGE. */
-uint32_t bpfs_words(bpfs *fs, uint32_t first, uint64_t *into, size_t count);
+uint32_t bpfs_words(bpfs *fs, uint64_t first, uint64_t *into, size_t count);
 
 /* ---- the log --------------------------------------------------------------------------------- */
 
@@ -434,7 +440,7 @@ static inline uint32_t bpfs_listed_any(bpfs *fs, size_t index, uint8_t *name, si
     return bpfs_listed(fs, index, (uint8_t *)bpfs_some(name, capacity), capacity, length, is_dir);
 }
 
-static inline uint32_t bpfs_words_any(bpfs *fs, uint32_t first, uint64_t *into, size_t count) {
+static inline uint32_t bpfs_words_any(bpfs *fs, uint64_t first, uint64_t *into, size_t count) {
     return bpfs_words(fs, first, (uint64_t *)bpfs_some(into, count), count);
 }
 

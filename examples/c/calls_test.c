@@ -28,7 +28,7 @@ static void is(uint64_t wanted, uint64_t found, const char *call, int line) {
 }
 
 /* A carrier to the words in memory. */
-static int put(bpfs_carrier *carrier, uint32_t word, const uint64_t *values, size_t count) {
+static int put(bpfs_carrier *carrier, uint64_t word, const uint64_t *values, size_t count) {
     (void)carrier;
     memcpy(words + word, values, 8 * count);
     return 0;
@@ -245,7 +245,7 @@ static void lists(void) {
 static void tells_words(void) {
     static uint64_t all[WORDS], some[16];
     IS(BPFS_OK, bpfs_words(&fs, 0, all, WORDS));
-    for (uint32_t first = 0; first < 12; first++)
+    for (uint64_t first = 0; first < 12; first++)
         for (size_t count = 0; count <= 16; count++) {
             IS(BPFS_OK, bpfs_words(&fs, first, some, count));
             IS(0, memcmp(some, all + first, 8 * count));
@@ -265,7 +265,7 @@ static int fail_or_not(bpfs_carrier *it) {
     return ++turn % 3 ? -1 : 0;
 }
 
-static int fail_or_put(bpfs_carrier *it, uint32_t word, const uint64_t *values, size_t count) {
+static int fail_or_put(bpfs_carrier *it, uint64_t word, const uint64_t *values, size_t count) {
     return fail_or_not(it) ? -1 : put(it, word, values, count);
 }
 

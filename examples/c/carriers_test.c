@@ -48,7 +48,7 @@ typedef struct memory {
 
 static memory one, two;
 
-static int put(bpfs_carrier *carrier, uint32_t word, const uint64_t *values, size_t count) {
+static int put(bpfs_carrier *carrier, uint64_t word, const uint64_t *values, size_t count) {
     memory *it = (memory *)carrier;
     it->puts++;
     memcpy(it->words + word, values, 8 * count);
@@ -314,6 +314,84 @@ static void journals(void) {
     IS(0, bpfs_file_close(&file));
 }
 
+/* ---- a journal of an earlier version */
+
+enum { OLD_HEAD = 6, OLD_SUM = 5 };
+
+static const uint64_t old_magic = 0x4f44455253465042; /* "BPFSREDO" */
+
+static uint64_t old_sum(const uint64_t *entry, size_t count) {
+    uint64_t a = 0x9e3779b97f4a7c15u, b = 0;
+    for (size_t i = 0; i < count; i++) {
+        if (i == OLD_SUM) continue;
+        a = (a ^ entry[i]) * 0x9e3779b97f4a7c15u;
+        a ^= a >> 29;
+        b += a;
+    }
+    return b ^ (b >> 32) ^ a;
+}
+
+/* Writes the sum of an entry, and the entry to the journal. Returns the note of an image that has the entry. */
+static uint64_t write_old(int fd, uint64_t *entry, size_t count, off_t at) {
+    entry[OLD_SUM] = old_sum(entry, count);
+    if (pwrite(fd, entry, 8 * count, at) != (ssize_t)(8 * count)) perror(journal), exit(2);
+    return 0x52444full << 40 | entry[OLD_SUM] >> 24;
+}
+
+static uint64_t word_of_image(uint64_t word) {
+    uint64_t value = UNSET;
+    int fd = open(image, O_RDONLY);
+    if (fd < 0 || pread(fd, &value, sizeof value, (off_t)(8 * word)) != sizeof value) perror(image), exit(2);
+    close(fd);
+    return value;
+}
+
+static void set_word_of_image(uint64_t word, uint64_t value) {
+    int fd = open(image, O_WRONLY);
+    if (fd < 0 || pwrite(fd, &value, sizeof value, (off_t)(8 * word)) != sizeof value) perror(image), exit(2);
+    close(fd);
+}
+
+/* Leaves an image with a note, and a journal with a word that the image lacks: 32 bits are the place of a run, and 32
+ * bits its count. */
+static void leave_old_journal(uint64_t value) {
+    struct stat it;
+    int fd = open(journal, O_WRONLY | O_CREAT | O_TRUNC, 0666);
+    if (fd < 0 || stat(image, &it)) perror(journal), exit(2);
+    uint64_t first[OLD_HEAD] = {old_magic, 12345, 1, it.st_ino, 0};
+    uint64_t note = write_old(fd, first, OLD_HEAD, 0);
+    uint64_t second[OLD_HEAD + 2] = {old_magic, note, 2, it.st_ino, 2, 0, BPFS_NOTE_WORD | 1ull << 32, value};
+    write_old(fd, second, OLD_HEAD + 2, 4096);
+    close(fd);
+    set_word_of_image(BPFS_REDO_WORD, note);
+    set_word_of_image(BPFS_NOTE_WORD, 0);
+}
+
+static void journals_of_an_earlier_version(void) {
+    const uint64_t note = 78;
+    bpfs_redo redo;
+    leave_old_journal(77);
+    int code = bpfs_redo_open(&redo, image, BPFS_FILE_WAITS);
+    IS(0, code);
+    if (code) return;
+    IS(77, word_of_image(BPFS_NOTE_WORD));
+    IS(0, redo.carrier.put(&redo.carrier, BPFS_NOTE_WORD, &note, 1)); /* an entry of this version follows */
+    IS(0, redo.carrier.settle(&redo.carrier));
+    redo.carrier.error = EIO;
+    FAILS(EIO, bpfs_redo_close(&redo));
+    set_word_of_image(BPFS_NOTE_WORD, 0);
+    IS(0, bpfs_redo_open(&redo, image, BPFS_FILE_WAITS));
+    IS(78, word_of_image(BPFS_NOTE_WORD));
+    IS(0, bpfs_redo_close(&redo));
+    IS(0, size_of(journal));
+    leave_old_journal(79);
+    set_word_of_image(BPFS_REDO_WORD, 0x52444full << 40 | 1); /* the note of another journal */
+    FAILS(ESTALE, bpfs_redo_open(&redo, image, BPFS_FILE_WAITS));
+    IS(0, word_of_image(BPFS_NOTE_WORD));
+    set_word_of_image(BPFS_REDO_WORD, 0);
+    unlink(journal);
+}
+
 /* A follower may be mounted between two epochs: a mount shows what was put and not settled. */
 static void mounts_with_words_that_wait(void) {
     const uint64_t note = 7;
@@ -453,6 +531,7 @@ int main(int argc, char **argv) {
     mounts_with_words_that_wait();
     foreign_journals();
     older_journals();
+    journals_of_an_earlier_version();
     no_images();
 #ifdef HAS_PMEM
     mapped_files();

@@ -124,10 +124,10 @@ int bpfs_format(bpfs_carrier *carrier, uint32_t blocks, uint32_t version) {
 
 /* Puts the words from `first` up to `end` as they are now, with a barrier now and then, so that no
  * epoch gets too long. */
-static int put_words(bpfs *fs, bpfs_carrier *carrier, uint32_t first, uint32_t end) {
+static int put_words(bpfs *fs, bpfs_carrier *carrier, uint64_t first, uint64_t end) {
     uint64_t values[PART];
     while (first < end) {
-        uint32_t count = end - first < PART ? end - first : PART;
+        size_t count = end - first < PART ? (size_t)(end - first) : PART;
         if (bpfs_words(fs, first, values, count)) return fail(EINVAL);
         if (carrier->put(carrier, first, values, count)) return -1;
         first += count;
@@ -145,7 +145,7 @@ int bpfs_copy_image(bpfs *fs, bpfs_carrier *carrier) {
     carrier->volume = 0;
     if (carrier->put(carrier, 0, &none, 1) || carrier->barrier(carrier)) return -1;
     if (put_words(fs, carrier, 1, BPFS_REDO_WORD)) return -1;
-    if (put_words(fs, carrier, BPFS_NOTE_WORD + 1, (uint32_t)blocks * BPFS_BLOCK_WORDS)) return -1;
+    if (put_words(fs, carrier, BPFS_NOTE_WORD + 1, blocks * BPFS_BLOCK_WORDS)) return -1;
     if (carrier->barrier(carrier) || put_words(fs, carrier, 0, 1) || carrier->barrier(carrier)) return -1;
     return carrier->settle(carrier) ? -1 : bpfs_bind(fs, carrier);
 }

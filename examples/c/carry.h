@@ -43,7 +43,7 @@ typedef struct bpfs_carrier bpfs_carrier;
 
 struct bpfs_carrier {
     /* Puts `count` values to the words from `word` on. */
-    int (*put)(bpfs_carrier *carrier, uint32_t word, const uint64_t *values, size_t count);
+    int (*put)(bpfs_carrier *carrier, uint64_t word, const uint64_t *values, size_t count);
     /* Orders: what is put later becomes durable later. Need not wait. */
     int (*barrier)(bpfs_carrier *carrier);
     /* Waits until all that was put is durable. */

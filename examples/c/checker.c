@@ -56,7 +56,7 @@ static bool chance(check *c, uint32_t of, uint32_t in) {
 
 static uint64_t other_words[OTHER_BLOCKS * BPFS_BLOCK_WORDS];
 
-static int put_other(bpfs_carrier *carrier, uint32_t word, const uint64_t *values, size_t count) {
+static int put_other(bpfs_carrier *carrier, uint64_t word, const uint64_t *values, size_t count) {
     (void)carrier;
     memcpy(other_words + word, values, 8 * count);
     return 0;
@@ -138,7 +138,8 @@ static turn mount_image(check *c) {
     bpfs_fault fault = {0};
     int code = c->of->mount(&c->fs, c->it, &fault);
     if (code == -1 || medium_has_ended()) return code ? failed(c, "mount", code) : IS_OVER;
-    if (code) return wrong(c, "what is left does not mount: %d, check %u at word %u", code, fault.check, fault.place);
+    if (code) return wrong(c, "what is left does not mount: %d, check %u at word %llu", code, fault.check,
+                           (unsigned long long)fault.place);
     c->counts->mounts++;
     return look(c);
 }

@@ -12,11 +12,12 @@
 
 enum { BLOCK_BYTES = 8 * BPFS_BLOCK_WORDS };
 
+_Static_assert(sizeof(off_t) == 8, "an image may have 256 GiB: offsets in a file need 64 bits");
 _Static_assert(__BYTE_ORDER__ == __ORDER_LITTLE_ENDIAN__, "words of an image file are little endian: swap them here");
 
 /* ---- the carrier */
 
-static int put(bpfs_carrier *carrier, uint32_t word, const uint64_t *values, size_t count) {
+static int put(bpfs_carrier *carrier, uint64_t word, const uint64_t *values, size_t count) {
     bpfs_file *file = (bpfs_file *)carrier;
     const char *from = (const char *)values;
     size_t left = 8 * count;
@@ -180,11 +181,18 @@ static int populate(void *words, size_t length) {
     return 0;
 }
 
+/* Whether the system gives memory for a copy of the words. If not, a large file is not read in vain. */
+static bool has_memory(size_t length) {
+    void *copy = mmap(NULL, length, PROT_READ | PROT_WRITE, MAP_PRIVATE | MAP_ANONYMOUS, -1, 0);
+    return copy != MAP_FAILED && munmap(copy, length) == 0;
+}
+
 int bpfs_file_mount(bpfs *fs, bpfs_file *file, bpfs_fault *fault) {
     struct stat it;
     if (bpfs_file_sync(file) || fstat(file->fd, &it)) return -1;
     size_t length = (size_t)it.st_size;
-    if (length == 0 || length % 8) return refuse_size(length, fault);
+    if (length == 0 || length % 8 || length > (size_t)BPFS_MAX_BLOCKS * BLOCK_BYTES) return refuse_size(length, fault);
+    if (!has_memory(length)) return BPFS_NO_MEMORY;
     void *words = mmap(NULL, length, PROT_READ, MAP_SHARED, file->fd, 0);
     if (words == MAP_FAILED) return -1;
     int code = populate(words, length) ? -1 : (int)bpfs_mount(fs, words, length / 8, fault), why = errno;

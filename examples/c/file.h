@@ -75,7 +75,7 @@ int bpfs_file_sync(bpfs_file *file);
 
 /* Syncs the file, mounts a copy of its words, and binds the carrier to the volume. Returns a BPFS_
  * number (those of bpfs_mount), or -1 with errno. A size that is no whole number of words, 0 too,
- * is BPFS_BAD_SIZE with `fault` filled in. */
+ * is BPFS_BAD_SIZE with `fault` filled in. BPFS_NO_MEMORY may come before the file is read. */
 int bpfs_file_mount(bpfs *fs, bpfs_file *file, bpfs_fault *fault);
 
 /* Renames the open file from `from` to `to`, which it replaces, durably: file, then name, then the

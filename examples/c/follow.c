@@ -17,6 +17,15 @@ static uint32_t high(uint64_t word) {
     return (uint32_t)(word >> 32);
 }
 
+/* The place of a run's first word. */
+static uint64_t place_of(uint64_t run) {
+    return run & ((1ull << BPFS_PLACE_BITS) - 1);
+}
+
+static size_t count_of(uint64_t run) {
+    return (size_t)(run >> BPFS_PLACE_BITS);
+}
+
 static bool has_word(uint64_t first, uint64_t length, uint64_t word) {
     return first <= word && word < first + length;
 }
@@ -25,7 +34,7 @@ static bool has_word(uint64_t first, uint64_t length, uint64_t word) {
 static bool runs_are_right(const bpfs_follower *follower, const uint64_t *payload, size_t count) {
     uint64_t words = (uint64_t)follower->blocks * BPFS_BLOCK_WORDS;
     for (size_t at = 0; at < count;) {
-        uint64_t first = low(payload[at]), length = high(payload[at]);
+        uint64_t first = place_of(payload[at]), length = count_of(payload[at]);
         if (length == 0 || length > count - at - 1 || first + length > words) return false;
         if (has_word(first, length, BPFS_NOTE_WORD) || has_word(first, length, BPFS_REDO_WORD)) return false;
         at += 1 + length;
@@ -37,9 +46,9 @@ static bool runs_are_right(const bpfs_follower *follower, const uint64_t *payloa
 static int apply(bpfs_follower *follower, const uint64_t *payload, size_t count) {
     bpfs_carrier *target = follower->target;
     for (size_t at = 0; at < count;) {
-        uint32_t length = high(payload[at]);
-        if (target->put(target, low(payload[at]), payload + at + 1, length)) return -1;
-        at += 1 + (size_t)length;
+        size_t length = count_of(payload[at]);
+        if (target->put(target, place_of(payload[at]), payload + at + 1, length)) return -1;
+        at += 1 + length;
     }
     if (target->put(target, BPFS_NOTE_WORD, &follower->number, 1)) return -1;
     if (target->barrier(target)) return -1;
@@ -121,7 +130,9 @@ int bpfs_follower_resume(bpfs_follower *follower, bpfs_carrier *target, int fd) 
     if (fsync(fd) || fstat(fd, &it)) return -1;
     ssize_t n = pread(fd, &noted, sizeof noted, 8 * BPFS_NOTE_WORD);
     if (n != sizeof noted) return n < 0 ? -1 : (errno = EINVAL, -1);
-    bpfs_follower_of(follower, target, (uint32_t)(it.st_size / 8 / BPFS_BLOCK_WORDS), noted);
+    uint64_t blocks = (uint64_t)it.st_size / 8 / BPFS_BLOCK_WORDS;
+    if (blocks > BPFS_MAX_BLOCKS) return errno = EFBIG, -1;
+    bpfs_follower_of(follower, target, (uint32_t)blocks, noted);
     return 0;
 }
 

@@ -74,7 +74,7 @@ typedef struct follower {
 
 typedef enum way { BY_WORDS, BY_FILE, BY_REDO } way;
 
-static int put(bpfs_carrier *carrier, uint32_t word, const uint64_t *values, size_t count) {
+static int put(bpfs_carrier *carrier, uint64_t word, const uint64_t *values, size_t count) {
     memcpy(((follower *)carrier)->words + word, values, 8 * count);
     return 0;
 }
@@ -122,7 +122,7 @@ static bool has_prefix(follower *it, model *tree, uint32_t *made, uint32_t least
     bpfs_fault fault = {0};
     uint32_t code = bpfs_mount(&fs, it->words, (size_t)BLOCKS * BPFS_BLOCK_WORDS, &fault);
     if (code == BPFS_NOT_FORMATTED && least == 0) return true; /* not all epochs of the format have come */
-    if (code) return fprintf(stderr, "%s: the follower does not mount: %u, check %u at word %u\n", what, code, fault.check, fault.place), false;
+    if (code) return fprintf(stderr, "%s: the follower does not mount: %u, check %u at word %llu\n", what, code, fault.check, (unsigned long long)fault.place), false;
     bpfs_found found;
     bool begun = bpfs_stat(&fs, (const uint8_t *)"/d1", 3, &found) == BPFS_OK;
     bool right = !begun && least == 0;

@@ -128,6 +128,11 @@ plant 'a close drops the note of an image that is not synced' redo.c 's/if (sync
 plant 'any journal is applied' redo.c 's/if (!it->any || (!it->has_note \&\& it->before != note)) return errno = ESTALE, -1;//; /other->number > it->number) return errno = ESTALE/d' carriers_test "$folder"
 plant 'any journal is dropped' redo.c 's/return is_needed(redo, halves) ? errno = ESTALE, -1 : drop_journal(redo);/return drop_journal(redo);/' carriers_test "$folder"
 
+plant 'a journal of an earlier version is passed over' redo.c 's/ \&\& head\[MAGIC\] != old_magic)/)/' carriers_test "$folder"
+plant 'the place of an old run is read as a new one' redo.c 's/entry\[MAGIC\] == old_magic ? OLD_PLACE_BITS : PLACE_BITS/PLACE_BITS/' carriers_test "$folder"
+plant 'a place in the journal has 32 bits' redo.c 's/= word | (uint64_t)count << PLACE_BITS/= (uint32_t)word | (uint64_t)count << PLACE_BITS/' large_test "$folder" 64
+plant 'a place in a file has 32 bits' file.c 's/(off_t)word \* 8/(off_t)(uint32_t)word * 8/' large_test "$folder" 64
+
 plant 'a mount forgets what was put and not settled' redo.c 's/^    if (commit(redo)) return -1; .*/    begin_entry(redo);/' carriers_test "$folder"
 
 # Persistent memory
@@ -141,6 +146,8 @@ if [ "${HAS_PMEM:-}" = yes ]; then
 fi
 
 # Streams and followers
+plant 'a place in a frame has 32 bits' stream.c 's/= word | (uint64_t)count << BPFS_PLACE_BITS/= (uint32_t)word | (uint64_t)count << BPFS_PLACE_BITS/' large_test "$folder" 64
+plant 'a follower takes 32 bits of a place' follow.c 's/return run & ((1ull << BPFS_PLACE_BITS) - 1);/return (uint32_t)run;/' large_test "$folder" 64
 plant 'two epochs are one frame' stream.c 's/    if (!payload) return 0;/    static int odd; if (!payload || (odd = !odd)) return 0;/' follow_test "$folder" 100 1
 plant 'the sum of a frame is not looked at' follow.c 's/words\[2\] != bpfs_frame_sum(words, payload) || //' follow_test "$folder" 100 1
 plant 'the number of a frame is not looked at' follow.c 's/ || words\[1\] > next//; s/} else if (words\[1\] == next) {/} else {/' follow_test "$folder" 100 1

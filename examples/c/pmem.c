@@ -44,7 +44,7 @@ static void put_line(bpfs_pmem *pmem, uint64_t *to, const uint64_t *values) {
 #endif
 }
 
-static int put(bpfs_carrier *carrier, uint32_t word, const uint64_t *values, size_t count) {
+static int put(bpfs_carrier *carrier, uint64_t word, const uint64_t *values, size_t count) {
     bpfs_pmem *pmem = (bpfs_pmem *)carrier;
     if (carrier->error) return errno = carrier->error, -1;
     if (word > pmem->count || count > pmem->count - word) return errno = EFBIG, -1;

@@ -14,13 +14,18 @@
  *
  * An entry: a magic word; the note (BPFS_REDO_WORD) of the image before it; its number; the inode
  * number of the image; the words of its payload; a sum over all of these. Then runs: a word with
- * the place of the first word in its low half and their count in its high half, and the values. The
- * sum also gives the note of the image after the entry. Entries begin at multiples of 4,096 bytes.
+ * the place of the first word in its low 41 bits and their count in its high 23 bits, and the
+ * values. The sum also gives the note of the image after the entry. Entries begin at multiples of
+ * 4,096 bytes.
+ *
+ * Entries of earlier versions have another magic word, and 32 bits for each of place and count.
+ * They are still applied, but not written any more.
  *
  * The first entry of a journal has no words. Once it is durable with the next one, the image gets
  * its note. Before a clean close empties the journal, an entry that is marked as closing says that
  * the image has all of it; then the image loses its note. */
 enum { MAGIC, BEFORE, NUMBER, INODE, LENGTH, SUM, HEAD };
+enum { PLACE_BITS = 41, OLD_PLACE_BITS = 32 };
 enum { MOST = 1 << 20 /* words of a payload: twice the log, so that a carry fits whatever its runs are */, ALIGN = 4096 };
 
 #ifndef BPFS_REDO_HALF
@@ -30,8 +35,11 @@ enum { MOST = 1 << 20 /* words of a payload: twice the log, so that a carry fits
 #define BPFS_REDO_FULL (1 << 20) /* bytes of a half after which the next entry begins the other one */
 #endif
 
-static const uint64_t magic = 0x4f44455253465042; /* "BPFSREDO" */
-static const uint64_t closing = 1ull << 63;       /* in LENGTH */
+static const uint64_t magic = 0x3244455253465042;     /* "BPFSRED2" */
+static const uint64_t old_magic = 0x4f44455253465042; /* "BPFSREDO" */
+static const uint64_t closing = 1ull << 63;           /* in LENGTH */
+
+_Static_assert(MOST < 1 << (64 - PLACE_BITS), "a run may have as many words as a payload");
 
 static uint64_t sum_of(const uint64_t *entry, size_t count) {
     uint64_t a = 0x9e3779b97f4a7c15u, b = 0;
@@ -47,6 +55,14 @@ static uint64_t sum_of(const uint64_t *entry, size_t count) {
 /* The note of an image that has this entry: bpfs_needs_journal is true of it. */
 static uint64_t note_after(const uint64_t *entry) {
     return 0x52444full << 40 | entry[SUM] >> 24;
+}
+
+static uint64_t place_of(uint64_t run, int bits) {
+    return run & ((1ull << bits) - 1);
+}
+
+static size_t count_of(uint64_t run, int bits) {
+    return (size_t)(run >> bits);
 }
 
 static uint64_t aligned(size_t words) {
@@ -112,11 +128,12 @@ static void begin_entry(bpfs_redo *redo) {
 
 /* Writes the runs of an entry to the image, in their order, and then its note. */
 static int apply(bpfs_redo *redo, const uint64_t *entry, size_t count) {
+    int bits = entry[MAGIC] == old_magic ? OLD_PLACE_BITS : PLACE_BITS;
     for (size_t i = HEAD, run; i < count; i += 1 + run) {
-        uint32_t word = (uint32_t)entry[i];
-        run = (size_t)(entry[i] >> 32);
+        uint64_t word = place_of(entry[i], bits);
+        run = count_of(entry[i], bits);
         if (run > count - i - 1 || word > redo->image.words || run > redo->image.words - word) return errno = ESTALE, -1;
-        if (write_all(redo->image.fd, entry + i + 1, 8 * run, 8 * (uint64_t)word)) return -1;
+        if (write_all(redo->image.fd, entry + i + 1, 8 * run, 8 * word)) return -1;
     }
     return write_note(redo, note_after(entry));
 }
@@ -197,20 +214,21 @@ static int commit(bpfs_redo *redo) {
 }
 
 /* Adds words to the entry: to its last run, or as a new one. There is room in the payload. */
-static int add(bpfs_redo *redo, uint32_t word, const uint64_t *values, size_t count) {
+static int add(bpfs_redo *redo, uint64_t word, const uint64_t *values, size_t count) {
     if (reserve(redo, redo->count + count + 1)) return -1;
     uint64_t *run = redo->run ? redo->entry + redo->run : NULL;
-    if (run && (uint32_t)*run + (*run >> 32) == word) *run += (uint64_t)count << 32;
-    else redo->run = redo->count, redo->entry[redo->count++] = word | (uint64_t)count << 32;
+    if (run && place_of(*run, PLACE_BITS) + count_of(*run, PLACE_BITS) == word) *run += (uint64_t)count << PLACE_BITS;
+    else redo->run = redo->count, redo->entry[redo->count++] = word | (uint64_t)count << PLACE_BITS;
     memcpy(redo->entry + redo->count, values, 8 * count);
     redo->count += count, redo->waiting += count;
     return 0;
 }
 
-static int put(bpfs_carrier *carrier, uint32_t word, const uint64_t *values, size_t count) {
+static int put(bpfs_carrier *carrier, uint64_t word, const uint64_t *values, size_t count) {
     bpfs_redo *redo = (bpfs_redo *)carrier;
     if (carrier->error) return errno = carrier->error, -1;
     if (word > redo->image.words || count > redo->image.words - word) return errno = EFBIG, -1;
+    if (word + count > 1ull << PLACE_BITS) return errno = EFBIG, -1;
     if (redo->written && commit(redo)) return -1;
     while (count) {
         size_t room = HEAD + MOST - redo->count, part = count < room ? count : room - 1;
@@ -219,7 +237,7 @@ static int put(bpfs_carrier *carrier, uint32_t word, const uint64_t *values, siz
             continue;
         }
         if (add(redo, word, values, part)) return -1;
-        word += (uint32_t)part, values += part, count -= part;
+        word += part, values += part, count -= part;
     }
     return 0;
 }
@@ -250,7 +268,7 @@ static long read_entry(bpfs_redo *redo, uint64_t at) {
     ssize_t n = read_all(redo->fd, head, sizeof head, at);
     if (n != sizeof head) return n < 0 ? -1 : 0;
     size_t length = (size_t)(head[LENGTH] & ~closing), count = HEAD + length;
-    if (head[MAGIC] != magic || length > MOST) return 0;
+    if ((head[MAGIC] != magic && head[MAGIC] != old_magic) || length > MOST) return 0;
     if (reserve(redo, count)) return -1;
     n = read_all(redo->fd, redo->entry, 8 * count, at);
     if (n != (ssize_t)(8 * count)) return n < 0 ? -1 : 0;
@@ -347,6 +365,7 @@ static void close_both(bpfs_redo *redo) {
     free(redo->entry);
     free(redo->name);
     redo->entry = NULL, redo->name = NULL, redo->capacity = 0, redo->fd = -1;
+    if (!redo->carrier.error) redo->carrier.error = EBADF; /* nothing can be carried to a closed image */
     errno = why;
 }
 

@@ -11,6 +11,8 @@
  * The journal is the file IMAGE-redo beside IMAGE. The first carry makes it; opening applies what
  * is in it; a clean close empties it: then IMAGE is complete by itself, and may be used in any way.
  * Until then
+ *   - keep to this version or a later one: an earlier one, with word numbers of 32 bits, does not
+ *     read the journal, while this one also applies journals of earlier ones;
  *   - keep the two files together, and do not remove IMAGE-redo;
  *   - do not change IMAGE otherwise: file.h and pmem.h refuse it (EUCLEAN), but the program bpfs
  *     does not.

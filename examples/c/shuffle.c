@@ -15,11 +15,11 @@ static int reserve(bpfs_shuffle *shuffle, size_t count) {
     return 0;
 }
 
-static int put(bpfs_carrier *carrier, uint32_t word, const uint64_t *values, size_t count) {
+static int put(bpfs_carrier *carrier, uint64_t word, const uint64_t *values, size_t count) {
     bpfs_shuffle *shuffle = (bpfs_shuffle *)carrier;
     if (reserve(shuffle, count)) return -1;
     for (size_t i = 0; i < count; i++, shuffle->count++)
-        shuffle->stores[shuffle->count] = (bpfs_event){(uint32_t)shuffle->count, word + (uint32_t)i, values[i]};
+        shuffle->stores[shuffle->count] = (bpfs_event){(uint32_t)shuffle->count, word + i, values[i]};
     return 0;
 }
 
@@ -54,7 +54,7 @@ static int let_all_through(bpfs_shuffle *shuffle) {
     mix_order(shuffle);
     for (size_t i = 0; i < shuffle->count; i++) {
         size_t first = shuffle->order[i];
-        uint32_t word = shuffle->stores[first].word;
+        uint64_t word = shuffle->stores[first].word;
         while (first > 0 && shuffle->stores[first - 1].word == word) first--;
         while (shuffle->stores[first].kind == UINT32_MAX) first++;
         if (let_through(shuffle, &shuffle->stores[first])) return -1;

@@ -10,6 +10,7 @@
 #include <unistd.h>
 
 _Static_assert(__BYTE_ORDER__ == __ORDER_LITTLE_ENDIAN__, "the words of a frame are little endian: swap them here");
+_Static_assert(BPFS_FRAME_MOST < 1 << (64 - BPFS_PLACE_BITS), "a run may have as many words as a payload");
 
 /* Each step is one-to-one in the word and in the sum so far, so a change of one word always changes the sum. */
 static uint64_t mix(uint64_t sum, uint64_t word) {
@@ -42,11 +43,12 @@ static int reserve(bpfs_stream *stream, size_t count) {
     return 0;
 }
 
-static int put(bpfs_carrier *carrier, uint32_t word, const uint64_t *values, size_t count) {
+static int put(bpfs_carrier *carrier, uint64_t word, const uint64_t *values, size_t count) {
     bpfs_stream *stream = (bpfs_stream *)carrier;
     if (carrier->error) return errno = carrier->error, -1;
+    if (word >> BPFS_PLACE_BITS) return errno = EFBIG, -1;
     if (reserve(stream, 1 + count)) return -1;
-    stream->frame[stream->count++] = word | (uint64_t)count << 32;
+    stream->frame[stream->count++] = word | (uint64_t)count << BPFS_PLACE_BITS;
     memcpy(stream->frame + stream->count, values, 8 * count);
     stream->count += count;
     return 0;

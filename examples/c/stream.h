@@ -5,10 +5,11 @@
  *     word 0      BPFS_FRAME_MARK in its low half, the number of words of the payload in its high half
  *     word 1      the number of the epoch: one more than in the frame before
  *     word 2      the checksum of words 0 and 1 and the payload
- *     payload     runs: a word with the place of the first word in its low half and their count in its high half,
- *                 then the values
+ *     payload     runs: a word with the place of the first word in its low 41 bits (BPFS_PLACE_BITS) and their count
+ *                 in its high 23 bits, then the values
  *
- * Words are little endian. A frame without payload, with the number of the last epoch, asks for an answer. An answer is one
+ * Words are little endian. (Frames of earlier versions have another BPFS_FRAME_MARK, and 32 bits for each of place and
+ * count: neither end takes those of the other.) A frame without payload, with the number of the last epoch, asks for an answer. An answer is one
  * word: the number of the last epoch that is durable at the follower.
  *
  * What this carrier relies on:
@@ -28,7 +29,12 @@
 extern "C" {
 #endif
 
-enum { BPFS_FRAME_MARK = 0x48435045 /* "EPCH" */, BPFS_FRAME_HEAD = 3, BPFS_FRAME_MOST = 1 << 20 /* words of a payload */ };
+enum {
+    BPFS_FRAME_MARK = 0x32435045, /* "EPC2" */
+    BPFS_FRAME_HEAD = 3,
+    BPFS_FRAME_MOST = 1 << 20, /* words of a payload */
+    BPFS_PLACE_BITS = 41,
+};
 
 /* Sends one frame: 0, or -1 with errno. */
 typedef int bpfs_send(void *to, const uint64_t *frame, size_t count);

@@ -214,7 +214,7 @@ static void epoch_is_too_long(void) {
 static uint64_t image[BLOCKS * BPFS_BLOCK_WORDS];
 static int stores, syncs;
 
-static int put_word(bpfs_carrier *carrier, uint32_t word, const uint64_t *values, size_t count) {
+static int put_word(bpfs_carrier *carrier, uint64_t word, const uint64_t *values, size_t count) {
     (void)carrier;
     memcpy(image + word, values, 8 * count);
     stores++;
@@ -229,12 +229,12 @@ static int nothing(bpfs_carrier *carrier) {
 static bpfs_carrier medium = {.put = put_word, .barrier = nothing, .settle = nothing};
 
 /* Gives a new follower one frame with one run. Whether it refuses it, and stores nothing. */
-static bool is_refused(uint32_t word, size_t count, uint64_t number) {
+static bool is_refused(uint64_t word, size_t count, uint64_t number) {
     uint64_t frame[BPFS_FRAME_HEAD + 1 + 8] = {0};
     bpfs_follower follower;
     frame[0] = BPFS_FRAME_MARK | (uint64_t)(1 + count) << 32;
     frame[1] = number;
-    frame[3] = word | (uint64_t)count << 32;
+    frame[3] = word | (uint64_t)count << BPFS_PLACE_BITS;
     frame[2] = bpfs_frame_sum(frame, 1 + count);
     bpfs_follower_of(&follower, &medium, BLOCKS, 0);
     stores = 0;

@@ -1,8 +1,8 @@
 #!/bin/sh
-# Runs the tests that make has built. test.sh ROUNDS CUTS FOLDER [CHECKER]: ROUNDS kills of each kind, CUTS simulated ends of each
-# carrier, images in FOLDER, and the program bpfs.
+# Runs the tests that make has built. test.sh ROUNDS CUTS FOLDER LARGE [CHECKER]: ROUNDS kills of each kind, CUTS simulated ends of
+# each carrier, images in FOLDER, LARGE blocks of the large one, and the program bpfs.
 set -u
-rounds=$1 cuts=$2 folder=$(mktemp -d "$3/bpfs-c-XXXXXX") checker=${4:-}
+rounds=$1 cuts=$2 folder=$(mktemp -d "$3/bpfs-c-XXXXXX") large=$4 checker=${5:-}
 trap 'rm -rf "$folder"' EXIT
 passed=0
 if [ "${HAS_PMEM:-}" = yes ]; then
@@ -60,6 +60,7 @@ for seed in 1 2 3; do
     passed=$((passed + 1))
 done
 run out/san-stream_test
+run out/san-large_test "$folder" "$large"
 run out/san-follow_test "$folder" "$rounds" 1
 run out/san-follower_test "$folder"
 run out/san-follower_restart_test $((cuts / 6)) 1

@@ -60,10 +60,10 @@ static int opening_failed(const char *path) {
 
 /* Reports the fault of an image that does not mount. */
 static int mounting_failed(const char *path, int code, const bpfs_fault *fault) {
-    unsigned long long found = fault->found, wanted = fault->wanted;
+    unsigned long long found = fault->found, wanted = fault->wanted, place = fault->place;
     if (code == BPFS_BAD_SIZE) report("%s: it has %llu bytes, and an image would have %llu", path, found, wanted);
     else if (code == BPFS_NOT_FORMATTED) report("%s: not an image", path);
-    else if (code == BPFS_DAMAGED) report("%s: damaged: check %u fails at word %u", path, fault->check, fault->place);
+    else if (code == BPFS_DAMAGED) report("%s: damaged: check %u fails at word %llu", path, fault->check, place);
     else if (code == BPFS_NO_MEMORY) report("%s: out of memory", path);
     else report("%s: not mounted (%d)", path, code);
     return NO_IMAGE;

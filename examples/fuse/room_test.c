@@ -26,7 +26,7 @@ static void must(bool it, const char *what) {
 
 /* ---- a volume whose log goes nowhere */
 
-static int put(bpfs_carrier *carrier, uint32_t word, const uint64_t *values, size_t count) {
+static int put(bpfs_carrier *carrier, uint64_t word, const uint64_t *values, size_t count) {
     (void)carrier, (void)word, (void)values, (void)count;
     return 0;
 }

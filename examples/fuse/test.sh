@@ -94,8 +94,8 @@ refuses() {
 opens_what_is_there() {
     refuses 7 'no such image' "$work/none" quiet || return 1
     refuses 7 'no such image' "$work/none" ro || return 1
-    refuses 2 'an image has 8 to 65536 blocks' "$work/none" format=7 || return 1
-    refuses 2 'an image has 8 to 65536 blocks' "$work/none" format=65537 || return 1
+    refuses 2 'an image has 8 to 67108864 blocks' "$work/none" format=7 || return 1
+    refuses 2 'an image has 8 to 67108864 blocks' "$work/none" format=67108865 || return 1
     refuses 2 'ro excludes' "$work/none" ro,format=64 || return 1
     refuses 7 'no such folder' "$work/none/image" format=64 || return 1
     head -c 65536 /dev/urandom > "$work/bytes"
@@ -251,17 +251,20 @@ reads_only() {
 
 # ---- kills
 
-# Endless transactions on a database. A row has its number printed when its commit has come back, if a file of the mount can
-# still be read then: in mode delete, sqlite3 takes a commit for done if it cannot open the folder that it has to sync, and
-# that is so when the mount was killed. (It syncs the folder with synchronous=extra only.)
+# Endless transactions on a database. A row has its number printed when its commit has come back. In mode delete, a file of
+# the mount has to be readable then: a commit ends with the removal of the journal and a sync of its folder there, and
+# sqlite3 (unixDelete) takes the commit for done if it cannot open the folder, as when the mount was killed. In the other
+# modes the last step of a commit is a sync of an open file, and no such failure is passed over.
 transactions() {
     base=$load_at/base-$1
     first=$(($(sqlite3 "$base" "select coalesce(max(n),0) from t" 2> /dev/null) + 1))
     awk -v first="$first" -v journal="$1" -v alive="$load_at/alive" 'BEGIN {
+        if (journal == "delete") committed = "iif(readfile(\047" alive "\047) is null, \047unsure\047, \047committed\047)"
+        else committed = "\047committed\047"
         print "pragma journal_mode=" journal "; pragma synchronous=extra;"
         for (n = first; ; n++)
             print "begin; insert into t values(" n ", randomblob(" (n * 37) % 3000 ")); update s set n=" n "; commit;",
-                "select iif(readfile(\047" alive "\047) is null, \047unsure\047, \047committed\047), " n ";"
+                "select " committed ", " n ";"
     }' | stdbuf -oL sqlite3 -bail "$base" > "$logs/transactions" 2> /dev/null
 }
 

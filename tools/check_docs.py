@@ -17,6 +17,7 @@ What is checked (one module of tools/checks for each subject):
 - links: links between documents lead to files and headings, and paths below crates/ exist.
 - style: the rules of docs/STYLE.md that a program can check, in the pages of the list FINISHED of checks/style.py.
 - gate: tools/gate_prices.txt has four numbers for each crate.
+- version: c/include/bpfs.h has the version of the file VERSION.
 
 Parts that are made. A page has
 
@@ -52,7 +53,7 @@ import sys
 
 sys.dont_write_bytecode = True  # (a CI run leaves no file in the clone)
 
-from checks import gate, layers, links, made, snippets, style
+from checks import gate, layers, links, made, snippets, style, version
 from checks.crates import Crates
 from checks.tree import pages
 
@@ -60,6 +61,7 @@ from checks.tree import pages
 def faults(crates):
     yield from crates.faults()
     yield from gate.faults(crates)
+    yield from version.faults()
     yield from made.faults(crates, pages())
     yield from layers.faults(crates)
     yield from links.faults(pages())

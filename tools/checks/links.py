@@ -32,7 +32,7 @@ def link_faults(page):
 
 
 def path_faults(page):
-    for path in re.findall(r"`(?:crates/)?(\w+/(?:src|specs|proofs|must-fail)(?:/[\w.]+)*)`", read(page)):
+    for path in re.findall(r"`(?:crates/)?((?!c/)\w+/(?:src|specs|proofs|must-fail)(?:/[\w.]+)*)`", read(page)):
         if "NAME" not in path and not any(exists(f"crates/{path}{suffix}") for suffix in SUFFIXES):
             yield f"{page}: crates/{path} does not exist"
 

@@ -7,7 +7,7 @@ from . import definitions
 from .tree import read
 
 # The pages that these rules hold for, as patterns.
-FINISHED = ["*.md", "docs/*.md", "crates/*/README.md", "examples/*/README.md", "docs/*.1"]
+FINISHED = ["*.md", "docs/*.md", "crates/*/README.md", "c/README.md", "c/*/README.md", "docs/*.1"]
 MOST_COLUMNS, MOST_IN_PARAGRAPH, MOST_IN_SENTENCE = 100, 80, 40
 WORDS = re.compile(r"\b(behind|tells?|told|so\s+many|but\s+for|anew|whoever|dear|stands\s+for)\b", re.I)
 # A made part that is checked where its text comes from.

@@ -1,0 +1,256 @@
+/* bpfs_fuse.c - mounts an image as a file system.
+ *
+ *     bpfs_fuse IMAGE MOUNTPOINT [-f] [-o OPTION,..]
+ *
+ * README.md has the options, what an operation guarantees, and what a volume does not have.
+ */
+#define _GNU_SOURCE
+#include <bpfs/redo.h>
+#include <bpfs/stream.h>
+#include "operations.h"
+#include "times.h"
+#include "volume.h"
+#include <errno.h>
+#include <fuse3/fuse_lowlevel.h>
+#include <poll.h>
+#include <signal.h>
+#include <stddef.h>
+#include <stdio.h>
+#include <stdlib.h>
+#include <string.h>
+#include <sys/socket.h>
+#include <sys/wait.h>
+#include <syslog.h>
+#include <unistd.h>
+
+enum { OK = 0, FAILED = 1, USAGE = 2, NO_IMAGE = 7, MAGIC_2 = 0x32 };
+
+static struct options {
+    unsigned blocks;
+    char *follower;
+    int cached, quiet, read_only;
+} options;
+
+/* IMAGE is open in one of these two: in the second one if nothing waits for the disk, or if it is only read. */
+static bpfs_redo image = {.fd = -1, .image = {.fd = -1}};
+static bpfs_file file = {.fd = -1};
+static bpfs_stream stream;
+
+/* ---- opening */
+
+static const char *what_is_missing(const char *path) {
+    if (access(path, F_OK) == 0) return "its journal, IMAGE-redo, is missing or damaged";
+    return options.blocks ? "no such folder" : "no such image; -o format=N makes a new one";
+}
+
+static const char *why_not(int error, const char *path) {
+    switch (error) {
+    case EWOULDBLOCK: return "in use by another process";
+    case ENOENT: return what_is_missing(path);
+    case EUCLEAN: return "the journal is not empty: mount the image once without ro";
+    case ESTALE: return "the journal IMAGE-redo belongs to another image, or to another copy of this one";
+    default: return strerror(error);
+    }
+}
+
+static int opening_failed(const char *path) {
+    report("%s: %s", path, why_not(errno, path));
+    return NO_IMAGE;
+}
+
+/* Reports the fault of an image that does not mount. */
+static int mounting_failed(const char *path, int code, const bpfs_fault *fault) {
+    unsigned long long found = fault->found, wanted = fault->wanted, place = fault->place;
+    if (code == BPFS_BAD_SIZE) report("%s: it has %llu bytes, and an image would have %llu", path, found, wanted);
+    else if (code == BPFS_NOT_FORMATTED) report("%s: not an image", path);
+    else if (code == BPFS_DAMAGED) report("%s: damaged: check %u fails at word %llu", path, fault->check, place);
+    else if (code == BPFS_NO_MEMORY) report("%s: out of memory", path);
+    else report("%s: not mounted (%d)", path, code);
+    return NO_IMAGE;
+}
+
+static int mount_to_read(const char *path, bpfs_fault *fault) {
+    if (bpfs_file_open_read(&file, path)) return -1;
+    return bpfs_file_mount(&volume.fs, &file, fault);
+}
+
+/* The path from the root. In the background, the working directory is another one. NULL, with errno: there is none. */
+static char *whole_path(const char *path) {
+    char *folder = *path == '/' ? NULL : getcwd(NULL, 0), *whole = NULL;
+    if (*path == '/') return strdup(path);
+    if (folder && asprintf(&whole, "%s/%s", folder, path) < 0) whole = NULL;
+    free(folder);
+    return whole;
+}
+
+/* Opens an image without a journal. One that an earlier mount left is applied first. */
+static int open_file(const char *path) {
+    if (bpfs_file_open(&file, path, BPFS_FILE_CACHED) == 0) return 0;
+    if (errno != EUCLEAN) return -1;
+    if (bpfs_redo_open(&image, path, BPFS_FILE_WAITS) || bpfs_redo_close(&image)) return -1;
+    return bpfs_file_open(&file, path, BPFS_FILE_CACHED);
+}
+
+static int mount_cached(const char *path, bool is_new, bpfs_fault *fault) {
+    int code = is_new ? bpfs_file_create(&file, path, options.blocks, 2, BPFS_FILE_CACHED) : open_file(path);
+    volume.carriers[0] = &file.carrier;
+    return code ? code : bpfs_file_mount(&volume.fs, &file, fault);
+}
+
+static int mount_with_journal(const char *path, bool is_new, bpfs_fault *fault) {
+    int code = is_new ? bpfs_redo_create(&image, path, options.blocks, 2, BPFS_FILE_WAITS)
+                      : bpfs_redo_open(&image, path, BPFS_FILE_WAITS);
+    volume.carriers[0] = &image.carrier;
+    return code ? code : bpfs_redo_mount(&volume.fs, &image, fault);
+}
+
+/* Only an image that does not exist is made. */
+static int mount_to_write(const char *path, bpfs_fault *fault) {
+    bool is_new = options.blocks && access(path, F_OK) && errno == ENOENT;
+    volume.carrier_count = 1;
+    return options.cached ? mount_cached(path, is_new, fault) : mount_with_journal(path, is_new, fault);
+}
+
+/* Starts the follower with a socket as its standard input and output, and gives it a copy of the image. */
+static int begin_to_lead(void) {
+    int ends[2];
+    if (socketpair(AF_UNIX, SOCK_STREAM | SOCK_CLOEXEC, 0, ends)) return -1;
+    pid_t pid = fork();
+    if (pid == 0) {
+        signal(SIGINT, SIG_IGN); /* it gets the last calls of a mount that a terminal interrupts */
+        dup2(ends[1], STDIN_FILENO);
+        dup2(ends[1], STDOUT_FILENO);
+        execl("/bin/sh", "sh", "-c", options.follower, (char *)NULL);
+        _exit(127);
+    }
+    close(ends[1]);
+    if (pid < 0 || bpfs_stream_of(&stream, ends[0], ends[0], 0)) return -1;
+    if (bpfs_copy_image(&volume.fs, &stream.carrier)) return -1;
+    volume.carriers[volume.carrier_count++] = &stream.carrier;
+    return 0;
+}
+
+static int open_image(const char *path) {
+    bpfs_fault fault = {0};
+    uint64_t magic = 0;
+    if (options.read_only && (options.blocks || options.follower)) return report("ro excludes format and follower"), USAGE;
+    int code = options.read_only ? mount_to_read(path, &fault) : mount_to_write(path, &fault);
+    if (code < 0) return opening_failed(path);
+    if (code == BPFS_OUT_OF_RANGE) {
+        report("format=%u: an image has %d to %d blocks", options.blocks, BPFS_MIN_BLOCKS, BPFS_MAX_BLOCKS);
+        return USAGE;
+    }
+    if (code) return mounting_failed(path, code, &fault);
+    bpfs_words(&volume.fs, 0, &magic, 1);
+    volume.max_write = magic >> 56 == MAGIC_2 ? BPFS_MAX_WRITE_2 : BPFS_MAX_WRITE;
+    times_begin();
+    if (options.read_only) return OK;
+    remove_hidden();
+    if (volume_carry()) return NO_IMAGE;
+    if (options.follower && begin_to_lead()) {
+        report("the follower has not taken its copy: %s", strerror(errno));
+        return NO_IMAGE;
+    }
+    return OK;
+}
+
+/* ---- serving */
+
+/* Takes one request, if there is one, and answers it. False: there will be no more. */
+static bool serve_one(struct fuse_session *session, struct fuse_buf *buffer) {
+    struct timespec began = volume_now();
+    int length = fuse_session_receive_buf(session, buffer);
+    if (length == -EINTR || length == -EAGAIN) return true;
+    if (length < 0) report("no more requests come: %s", strerror(-length));
+    if (length <= 0) return false;
+    fuse_session_process_buf(session, buffer);
+    volume_served(began);
+    return true;
+}
+
+/* Serves requests one by one. Between two of them, whether they come or not, the log is carried when its time has come. */
+static void serve(struct fuse_session *session) {
+    struct fuse_buf buffer = {0};
+    struct pollfd at = {fuse_session_fd(session), POLLIN, 0};
+    while (!fuse_session_exited(session)) {
+        int ready = poll(&at, 1, volume_wait());
+        if (ready < 0 && errno != EINTR) {
+            report("no more requests come: %s", strerror(errno));
+            break;
+        }
+        if (ready > 0 && !serve_one(session, &buffer)) break;
+        volume_carry_if_due();
+    }
+    free(buffer.mem);
+}
+
+static int serve_at(struct fuse_args *args, const char *mountpoint, bool foreground) {
+    struct fuse *fuse = fuse_new(args, &operations, sizeof operations, NULL);
+    if (!fuse) return FAILED; /* libfuse has printed why */
+    if (fuse_mount(fuse, mountpoint)) return fuse_destroy(fuse), FAILED;
+    if (fuse_daemonize(foreground)) {
+        report("can't go to the background: %s", strerror(errno));
+    } else {
+        volume.daemon = !foreground;
+        fuse_set_signal_handlers(fuse_get_session(fuse));
+        serve(fuse_get_session(fuse));
+        fuse_remove_signal_handlers(fuse_get_session(fuse));
+    }
+    fuse_unmount(fuse);
+    fuse_destroy(fuse);
+    return OK;
+}
+
+/* ---- closing */
+
+/* Carries what is left and closes all. Returns `code`, or FAILED if something is not durable. */
+static int close_image(const char *path, int code) {
+    if (volume.fs.is_open && !options.read_only && code == OK) {
+        remove_hidden();
+        if (volume_carry()) code = FAILED;
+    }
+    bpfs_close(&volume.fs);
+    bpfs_stream_close(&stream);
+    if (stream.send) close(stream.fd);
+    if (bpfs_redo_close(&image) || bpfs_file_close(&file)) {
+        report("%s: not closed cleanly: %s", path, strerror(errno));
+        if (code == OK) code = FAILED;
+    }
+    return code;
+}
+
+/* ---- the program */
+
+static const struct fuse_opt known[] = {
+    {"format=%u", offsetof(struct options, blocks), 0},
+    {"cached", offsetof(struct options, cached), 1},
+    {"follower=%s", offsetof(struct options, follower), 0},
+    {"quiet", offsetof(struct options, quiet), 1},
+    {"ro", offsetof(struct options, read_only), 1},
+    FUSE_OPT_KEY("ro", FUSE_OPT_KEY_KEEP), /* libfuse has to see it, too */
+    FUSE_OPT_END,
+};
+
+static int usage(void) {
+    fprintf(stderr, "usage: bpfs_fuse IMAGE MOUNTPOINT [-f] [-o format=N,cached,follower=COMMAND,quiet,ro,..]\n");
+    return USAGE;
+}
+
+int main(int argc, char **argv) {
+    if (argc < 3) return usage();
+    char *path = whole_path(argv[1]);
+    if (!path) return report("%s: %s", argv[1], strerror(errno)), NO_IMAGE;
+    argv[1] = argv[0];
+    struct fuse_args args = FUSE_ARGS_INIT(argc - 1, argv + 1);
+    struct fuse_cmdline_opts line = {0};
+    if (fuse_opt_parse(&args, &options, known, NULL) || fuse_parse_cmdline(&args, &line) || !line.mountpoint) return usage();
+    volume.owner = getuid(), volume.group = getgid(), volume.quiet = options.quiet;
+    int code = open_image(path);
+    if (code == OK) code = serve_at(&args, line.mountpoint, line.foreground);
+    code = close_image(path, code);
+    free(path);
+    free(line.mountpoint);
+    free(options.follower);
+    fuse_opt_free_args(&args);
+    return code;
+}

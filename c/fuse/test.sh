@@ -1,0 +1,464 @@
+#!/bin/bash
+# Uses mounted volumes by programs, and kills mounts under load.
+#
+#     test.sh FOLDER DISK KILLS [CHECKER]
+#
+# Images and mounts are in FOLDER; an fsync is measured in DISK; KILLS mounts are killed in each journal mode of SQLite;
+# CHECKER is the program bpfs.
+set -u
+kills=$3 checker=${4:-}
+work=$(mktemp -d "$1/bpfs-fuse-XXXXXX") disk=$(mktemp -d "$2/bpfs-fuse-XXXXXX")
+here=$(cd "$(dirname "$0")" && pwd)
+image=$work/image at=$work/mount own=$work/own logs=$work/logs
+load_at=$at/load # there is no such folder when the volume is gone
+mkdir "$at" "$own" "$logs" "$work/small"
+passed=0 daemon=
+
+cleanup() {
+    [ -n "$daemon" ] && kill -9 "$daemon" 2> /dev/null
+    umount -l "$at" 2> /dev/null
+    umount -l "$work/small" 2> /dev/null
+    rm -rf "$work" "$disk"
+}
+trap cleanup EXIT
+
+fail() {
+    echo "FAILED: $*"
+    exit 1
+}
+
+# step NAME COMMAND..: the command has to succeed
+step() {
+    name=$1
+    shift
+    "$@" > "$logs/output" 2>&1 || { cat "$logs/output"; fail "$name"; }
+    passed=$((passed + 1))
+    echo "$name: ok"
+}
+
+# mounts PROGRAM OPTIONS: starts it, and waits until the volume is there
+mounts() {
+    "$here/build/$1" "$image" "$at" -f -o "$2" 2> "$logs/messages" &
+    daemon=$!
+    for _ in $(seq 200); do
+        mountpoint -q "$at" && return
+        kill -0 $daemon 2> /dev/null || { cat "$logs/messages"; fail "$1 ends at once"; }
+        sleep 0.05
+    done
+    fail "no mount"
+}
+
+# unmounts [STATUS]: the mount has to end with this status, 0 if nothing else is said
+unmounts() {
+    umount "$at" || fail "no unmount"
+    wait $daemon
+    status=$?
+    daemon=
+    [ $status = "${1:-0}" ] || { cat "$logs/messages"; fail "bpfs_fuse ended with $status"; }
+    check
+}
+
+kills_it() {
+    kill -9 $daemon
+    wait $daemon 2> /dev/null
+    daemon=
+    umount -l "$at"
+}
+
+check() {
+    [ -z "$checker" ] || "$checker" check "$image" > /dev/null || fail "bpfs check: $("$checker" check "$image")"
+}
+
+# has_message PATTERN: the mount printed a line like this
+has_message() {
+    grep -q "$1" "$logs/messages" || { cat "$logs/messages"; return 1; }
+}
+
+# ---- opening
+
+# The files in FOLDER: their sizes, times and contents
+files() {
+    (cd "$work" && ls -l --time-style=full-iso | grep ^-; find . -maxdepth 1 -type f -exec cksum {} +)
+}
+
+# refuses STATUS PATTERN IMAGE OPTIONS: the mount ends with the status, prints such a line, and changes no file
+refuses() {
+    before=$(files)
+    "$here/build/san-bpfs_fuse" "$3" "$at" -f -o "$4" 2> "$logs/messages"
+    status=$?
+    [ $status = "$1" ] || { echo "$3, $4: status $status"; return 1; }
+    has_message "$2" || return 1
+    [ "$(files)" = "$before" ] || { diff <(echo "$before") <(files); return 1; }
+}
+
+opens_what_is_there() {
+    refuses 7 'no such image' "$work/none" quiet || return 1
+    refuses 7 'no such image' "$work/none" ro || return 1
+    refuses 2 'an image has 8 to 67108864 blocks' "$work/none" format=7 || return 1
+    refuses 2 'an image has 8 to 67108864 blocks' "$work/none" format=67108865 || return 1
+    refuses 2 'ro excludes' "$work/none" ro,format=64 || return 1
+    refuses 7 'no such folder' "$work/none/image" format=64 || return 1
+    head -c 65536 /dev/urandom > "$work/bytes"
+    refuses 7 'not an image' "$work/bytes" format=64 || return 1
+    echo text > "$work/bytes"
+    refuses 7 'it has 5 bytes' "$work/bytes" format=64 || return 1
+    : > "$work/bytes"
+    refuses 7 'it has 0 bytes' "$work/bytes" format=64 || return 1
+    exec 9> "$work/bytes" && flock 9 || return 1
+    refuses 7 'in use by another process' "$work/bytes" quiet
+    status=$?
+    exec 9>&-
+    rm "$work/bytes"
+    return $status
+}
+
+# ---- programs
+
+copies() {
+    mkdir "$own/tree" && cp -r "$here/../../docs" "$here/../../README.md" "$own/tree" || return 1
+    mkdir "$own/tree/c" && cp "$here"/../src/*.c "$here"/../test/*.[ch] "$own/tree/c" || return 1
+    chmod -R u=rwX,go=rX "$own/tree" && find "$own/tree" -type f -exec chmod 644 {} +
+    cp -r "$own/tree" "$at/tree" && diff -r "$own/tree" "$at/tree"
+}
+
+moves() {
+    mv "$at/tree/docs" "$at/docs" && diff -r "$own/tree/docs" "$at/docs" && mv "$at/docs" "$at/tree/docs" || return 1
+    mv "$at/tree" "$at/moved" && diff -r "$own/tree" "$at/moved"
+}
+
+pieces() {
+    head -c 5000000 /dev/urandom > "$own/bytes"
+    dd if="$own/bytes" of="$at/bytes" bs=1M 2> /dev/null && cmp "$own/bytes" "$at/bytes" || return 1
+    dd if="$own/bytes" of="$at/small" bs=777 count=200 conv=fsync 2> /dev/null && cmp -n 155400 "$own/bytes" "$at/small" || return 1
+    truncate -s 1234567 "$at/bytes" && cmp -n 1234567 "$own/bytes" "$at/bytes" && [ "$(stat -c %s "$at/bytes")" = 1234567 ] || return 1
+    truncate -s 9000000 "$at/bytes" && [ "$(tail -c 7000000 "$at/bytes" | tr -d '\0' | wc -c)" = 0 ]
+}
+
+removes_open_files() {
+    exec 3< "$at/small"
+    rm "$at/small"
+    head -c 155400 <&3 | cmp -n 155400 - "$own/bytes" && [ ! -e "$at/small" ]
+    status=$?
+    exec 3<&-
+    return $status
+}
+
+archives() {
+    tar -C "$own/tree" -cf "$at/tree.tar" . && mkdir "$at/untarred" && tar -C "$at/untarred" -xf "$at/tree.tar" &&
+        diff -r "$own/tree" "$at/untarred"
+}
+
+commits() {
+    export GIT_CONFIG_GLOBAL=/dev/null GIT_AUTHOR_NAME=a GIT_AUTHOR_EMAIL=a@b GIT_COMMITTER_NAME=a GIT_COMMITTER_EMAIL=a@b
+    git init -q "$at/repository" && cd "$at/repository" || return 1
+    for i in 1 2 3 4 5; do
+        cp "$own/tree/README.md" "file$i" && echo "$i" >> file1 && git add -A && git commit -qm "commit $i" || return 1
+    done
+    git gc -q && git fsck --strict && [ "$(git rev-list --count HEAD)" = 5 ] && git clone -q --no-hardlinks . ../clone &&
+        diff -r -x .git . ../clone
+    status=$?
+    cd "$here" && return $status
+}
+
+writes_at_random() {
+    fio --name=job --directory="$at" --size=8m --rw=randwrite --bs=4k --fsync=64 --verify=crc32c --verify_fatal=1 \
+        --verify_state_save=0 --ioengine=psync --runtime=20 --minimal > /dev/null
+}
+
+# database JOURNAL: transactions, one rolled back, and a look at all of it
+database() {
+    rm -f "$at/base"
+    sqlite3 -bail "$at/base" "pragma journal_mode=$1; pragma synchronous=full; create table t(n integer primary key, b blob);
+        with recursive r(n) as (select 1 union all select n+1 from r where n<2000) insert into t select n, randomblob(n%700) from r;
+        update t set b=zeroblob(10) where n%3=0; delete from t where n%5=0; vacuum;" > /dev/null || return 1
+    [ "$1" = off ] || sqlite3 -bail "$at/base" "begin; delete from t; rollback;" || return 1
+    [ "$(sqlite3 "$at/base" "pragma integrity_check; select count(*) from t;" | tr '\n' ' ')" = "ok 1600 " ]
+}
+
+# ---- when calls are carried
+
+# No call may run out of room in the log, however many come.
+looks_often() {
+    mkdir "$at/looked" && "$here/build/mounted_test" looks "$at/looked" 300000
+}
+
+# A file is durable a little more than a second after its write, also if calls come all the time.
+is_carried_under_load() {
+    echo bytes > "$at/late"
+    for _ in $(seq 16); do
+        stat "$at/late" > /dev/null
+        sleep 0.1
+    done
+    kills_it
+    mounts bpfs_fuse quiet
+    [ "$(cat "$at/late")" = bytes ]
+}
+
+is_carried_when_idle() {
+    echo bytes > "$at/idle"
+    sleep 1.6
+    kills_it
+    mounts bpfs_fuse quiet
+    [ "$(cat "$at/idle")" = bytes ]
+}
+
+# After a power failure IMAGE may lack what the journal has. An older copy of it has the same effect.
+applies_the_journal() {
+    echo first > "$at/first" && sync "$at/first" && cp "$image" "$own/older" || return 1
+    echo second > "$at/second" && sync "$at/second" || return 1
+    kills_it
+    cat "$own/older" > "$image"
+    mounts bpfs_fuse quiet
+    [ "$(cat "$at/first")" = first ] && [ "$(cat "$at/second")" = second ] || return 1
+    unmounts
+    [ ! -s "$image-redo" ] && mounts bpfs_fuse ro && [ "$(cat "$at/second")" = second ]
+}
+
+# syncs_many: 3,000 new files and one fsync take at most 0.2 s on a disk, in one of three trials
+syncs_many() {
+    for i in 1 2 3; do
+        mkdir "$at/many$i" && "$here/build/mounted_test" many "$at/many$i" 3000 || return 1
+    done | tee "$disk/times"
+    awk '$3 <= 5 && $6 <= 0.2 { found = 1 } END { exit !found }' "$disk/times"
+}
+
+# ---- failures
+
+# The folder of the image is full: calls fail, and go on when there is room again.
+fills_the_folder() {
+    head -c 3000000 /dev/urandom > "$own/many"
+    head -c 20m /dev/zero > "$work/small/filler" 2> /dev/null
+    cp "$own/many" "$at/first" && sync "$at/first" && return 1
+    has_message "can't be saved now: No space left on device" || return 1
+    rm "$work/small/filler"
+    cp "$own/many" "$at/first" && sync "$at/first" && kills_it && mounts san-bpfs_fuse quiet && cmp "$own/many" "$at/first"
+}
+
+# A follower that is gone: what is there can be read, and nothing is changed any more.
+loses_the_follower() {
+    echo bytes > "$at/before" && sync "$at/before" || return 1
+    kill -9 "$(cat "$work/pid")" || return 1
+    echo bytes > "$at/after" && sync "$at/after" && return 1
+    has_message 'changes are refused from now on' || return 1
+    [ "$(cat "$at/before")" = bytes ] && ! mkdir "$at/dir" && ! rm "$at/before"
+}
+
+reads_only() {
+    [ "$(cat "$at/bytes")" = bytes ] || return 1
+    ! touch "$at/new" && ! rm "$at/bytes" && "$here/build/mounted_test" looks "$at" 200 && return 1
+    for _ in $(seq 10); do find "$at" -type f -exec cat {} + > /dev/null || return 1; done
+}
+
+# ---- kills
+
+# Endless transactions on a database. A row has its number printed when its commit has come back. In mode delete, a file of
+# the mount has to be readable then: a commit ends with the removal of the journal and a sync of its folder there, and
+# sqlite3 (unixDelete) takes the commit for done if it cannot open the folder, as when the mount was killed. In the other
+# modes the last step of a commit is a sync of an open file, and no such failure is passed over.
+transactions() {
+    base=$load_at/base-$1
+    first=$(($(sqlite3 "$base" "select coalesce(max(n),0) from t" 2> /dev/null) + 1))
+    awk -v first="$first" -v journal="$1" -v alive="$load_at/alive" 'BEGIN {
+        if (journal == "delete") committed = "iif(readfile(\047" alive "\047) is null, \047unsure\047, \047committed\047)"
+        else committed = "\047committed\047"
+        print "pragma journal_mode=" journal "; pragma synchronous=extra;"
+        for (n = first; ; n++)
+            print "begin; insert into t values(" n ", randomblob(" (n * 37) % 3000 ")); update s set n=" n "; commit;",
+                "select " committed ", " n ";"
+    }' | stdbuf -oL sqlite3 -bail "$base" > "$logs/transactions" 2> /dev/null
+}
+
+# Endless new bytes for one file, each by a rename and without a sync.
+replacements() {
+    n=0
+    while yes "$n" 2> /dev/null | head -c 20000 > "$load_at/new" && mv "$load_at/new" "$load_at/current"; do n=$((n + 1)); done 2> /dev/null
+}
+
+is_whole() {
+    [ ! -e "$load_at/current" ] || { [ "$(stat -c %s "$load_at/current")" = 20000 ] && [ "$(head -c 19980 "$load_at/current" | sort -u | wc -l)" -le 2 ]; }
+}
+
+# look JOURNAL: ok, how many rows there are, how many there should be, the last one, and the number that changed with it
+look() {
+    sqlite3 "$load_at/base-$1" "pragma integrity_check; select count(*) from t; select coalesce(max(n)-min(n)+1,0) from t;
+        select coalesce(max(n),0) from t; select n from s;" 2>&1 | tr '\n' ' '
+}
+
+# is_right LAST WORDS..: what look has found: all rows, up to the last one that was committed at least
+is_right() {
+    [ $# = 6 ] && [ "$2" = ok ] && [ "$3" = "$4" ] && [ "$5" = "$6" ] && [ "$5" -ge "$1" ]
+}
+
+last_committed() {
+    last=$(grep -o '^committed|[0-9]*$' "$logs/transactions" | tail -1 | cut -d'|' -f2)
+    echo "${last:-0}"
+}
+
+waits_for_a_commit() {
+    for _ in $(seq 200); do
+        [ "$(last_committed)" != 0 ] && return
+        sleep 0.02
+    done
+    fail "no transaction"
+}
+
+# Keeps the database small.
+forgets_rows() {
+    sqlite3 "$load_at/base-$1" "delete from t where n <= (select max(n) from t) - 100" || fail "no delete"
+}
+
+kill_under_load() {
+    mounts bpfs_fuse quiet
+    : > "$logs/transactions"
+    transactions "$1" &
+    load=$!
+    replacements &
+    other=$!
+    waits_for_a_commit
+    sleep "0.$((RANDOM % 4))$((RANDOM % 10))"
+    kills_it
+    wait $load
+    kill $other 2> /dev/null
+    wait $other 2> /dev/null
+    check
+    mounts bpfs_fuse quiet
+    is_whole || fail "a renamed file is neither the old nor the new one"
+    last=$(last_committed) found=$(look "$1")
+    is_right "$last" $found || fail "after a kill in mode $1: $found, and $last was committed"
+    transactions_in_all=$(echo $found | cut -d' ' -f4)
+    [ -z "$(find "$at" -name '.fuse_hidden*')" ] || fail "hidden files are left"
+    forgets_rows "$1"
+    unmounts
+}
+
+kill_in_mode() {
+    for _ in $(seq "$kills"); do kill_under_load "$1"; done
+    echo "journal $1: killed $kills times under load, $transactions_in_all transactions, all that were committed are there, integrity_check is ok"
+    passed=$((passed + 1))
+}
+
+make_bases() {
+    mkdir "$load_at" && echo alive > "$load_at/alive"
+    for journal in $modes; do
+        sqlite3 "$load_at/base-$journal" "create table t(n integer primary key, b blob); create table s(n); insert into s values(0);"
+    done
+}
+
+# The leader is killed under load, and its image is deleted: the follower's has all that was committed.
+lead_and_lose() {
+    mounts bpfs_fuse "quiet,follower=exec '$here/build/san-follower' '$work/followed' 16384 cached 2> '$work/follower'"
+    : > "$logs/transactions"
+    transactions delete &
+    load=$!
+    waits_for_a_commit
+    sleep 1
+    kills_it
+    wait $load
+    for _ in $(seq 100); do
+        grep -q epoch "$work/follower" && break
+        sleep 0.05
+    done
+    cat "$work/follower"
+    rm -f "$image" "$image-redo"
+    flock "$work/followed" mv "$work/followed" "$image" # when the follower has closed it
+    check
+    mounts bpfs_fuse quiet
+    last=$(last_committed) found=$(look delete)
+    is_right "$last" $found || fail "at the follower: $found, and $last was committed"
+    unmounts
+    echo "the follower of a killed leader: ok, $last were committed, the last one there is $(echo $found | cut -d' ' -f4)"
+    passed=$((passed + 1))
+}
+
+# ---- all of it
+
+modes='delete truncate persist wal' # a kill within a transaction of the modes off and memory leaves no database
+step "images that can't be opened" opens_what_is_there
+
+mounts san-bpfs_fuse cached,format=16384
+mkdir "$at/calls"
+step "system calls" build/mounted_test calls "$at/calls"
+step "cp -r, diff -r" copies
+step "mv" moves
+step "dd, truncate" pieces
+step "rm of an open file" removes_open_files
+step "tar" archives
+if [ -x "$(command -v git)" ]; then step "git" commits; else echo "left out: git"; fi
+if [ -x "$(command -v fio)" ]; then step "fio" writes_at_random; else echo "left out: fio"; fi
+if [ -x "$(command -v sqlite3)" ]; then
+    for journal in $modes off memory; do step "sqlite3, journal $journal" database $journal; done
+else
+    echo "left out: sqlite3"
+fi
+sync "$at/moved/README.md" # so that the first mount writes nothing meanwhile
+step "a second mount is refused" refuses 7 'in use by another process' "$image" quiet
+unmounts
+mounts san-bpfs_fuse quiet
+step "mounted again" diff -r "$own/tree" "$at/moved"
+exec 3< "$at/bytes"
+rm "$at/bytes"
+sync "$at/moved/README.md"
+kills_it
+exec 3<&-
+step "read-only with a journal" refuses 7 'the journal is not empty' "$image" ro
+mv "$image-redo" "$own/journal"
+step "a journal that is missing" refuses 7 'its journal, IMAGE-redo, is missing or damaged' "$image" format=64
+head -c 3000000 /dev/zero > "$image-redo"
+step "a journal that is no journal" refuses 7 'its journal, IMAGE-redo, is missing or damaged' "$image" quiet
+mv "$own/journal" "$image-redo"
+mounts san-bpfs_fuse cached
+step "files that were open at a kill are deleted" test -z "$(find "$at" -name '.fuse_hidden*' -o -name bytes)"
+echo last > "$at/last"
+kill -TERM $daemon
+wait $daemon || fail "bpfs_fuse ended with $? at a SIGTERM"
+check
+mounts san-bpfs_fuse cached
+step "a SIGTERM unmounts" grep -q last "$at/last"
+echo bytes > "$at/bytes"
+unmounts
+sum=$(cksum < "$image")
+mounts san-bpfs_fuse ro
+step "a read-only mount" reads_only
+unmounts
+[ "$(cksum < "$image")" = "$sum" ] || fail "a read-only mount changed the image"
+rm -f "$image" "$image-redo"
+
+mounts bpfs_fuse quiet,format=16384
+step "300,000 times fstat" looks_often
+step "carried under load" is_carried_under_load
+step "carried when idle" is_carried_when_idle
+step "the journal is applied, and emptied" applies_the_journal
+unmounts
+rm -f "$image" "$image-redo"
+
+image=$disk/image
+mounts bpfs_fuse quiet,format=16384
+step "3,000 files and one fsync" syncs_many
+cat "$disk/times"
+unmounts
+
+if mount -t tmpfs -o size=12m none "$work/small" 2> /dev/null; then
+    image=$work/small/image
+    mounts san-bpfs_fuse quiet,format=1024
+    step "a full folder" fills_the_folder
+    unmounts
+    umount "$work/small"
+else
+    echo "left out: a full folder (no tmpfs can be mounted)"
+fi
+
+image=$work/image
+mounts san-bpfs_fuse "format=1024,follower=echo \$\$ > '$work/pid'; exec '$here/build/san-follower' '$work/followed' 1024 2> '$work/follower'"
+step "a follower that is gone" loses_the_follower
+unmounts 1
+rm -f "$image" "$image-redo" "$work/followed"*
+
+if [ -x "$(command -v sqlite3)" ]; then
+    mounts bpfs_fuse quiet,format=16384
+    make_bases
+    unmounts
+    for journal in $modes; do kill_in_mode $journal; done
+    lead_and_lose
+fi
+[ -n "$checker" ] || echo "left out: bpfs check of each image (the program is not built)"
+echo "$passed passed, 0 failed"

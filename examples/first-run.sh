@@ -2,7 +2,8 @@
 # Runs a sample script with bpfs, then proves and builds bpfs.
 #
 # Usage: examples/first-run.sh                    all steps
-#        examples/first-run.sh --unproved [OUT]   step 1 only; with OUT, also builds the unproved program as OUT
+#        examples/first-run.sh --unproved         step 1 only
+#        examples/first-run.sh --unproved OUT     builds the program as OUT without proofs, and runs the script with it
 #        examples/first-run.sh --proved           steps 2 and 3 only
 #
 # 1. Compiles bpfs without proofs and runs the script (1 to 2 minutes).
@@ -54,7 +55,7 @@ watch() {
 }
 
 ticker=
-trap '[ -z "$ticker" ] || kill "$ticker" 2> /dev/null || true' EXIT
+trap '[ -z "$ticker" ] || kill "$ticker" 2> /dev/null || true; rm -rf "$work"' EXIT
 trap 'exit 130' INT
 
 # beside FILE: prints each line of the script with its reply from FILE. The reply to `list` has several lines.
@@ -103,15 +104,38 @@ build_unproved() {
     python3 "$top/examples/unproved_build.py" "$1" > "$work/log" 2>&1
 }
 
-# leave_unproved OUT: builds the program without proofs as OUT.
+# run_commands PROGRAM: formats an image, runs the script over it, and checks it.
+run_commands() {
+    echo "\$ bpfs format $work/f --blocks 8 --version 2"
+    "$1" format "$work/f" --blocks 8 --version 2
+    echo "\$ bpfs run $work/f    # each line with its reply"
+    "$1" run "$work/f" < "$script" > "$work/replies"
+    beside "$work/replies"
+    echo "\$ bpfs check $work/f"
+    "$1" check "$work/f"
+}
+
+# leave_unproved OUT: builds the program without proofs as OUT, and runs it.
 leave_unproved() {
-    echo "== Building the unproved program (1 to 2 minutes)"
-    watch "building" build_unproved "$1" || { echo "   It was not built. The end of the output:"; tail -20 "$work/log"; exit 1; }
+    if ! command -v python3 > /dev/null; then
+        echo "first-run: \`python3\` is not in PATH" >&2
+        exit 1
+    elif [ -d "$1" ] || [ ! -d "$(dirname "$1")" ]; then
+        echo "first-run: $1: give the path of a file, in a directory that exists" >&2
+        exit 1
+    fi
+    echo "== Building bpfs without proofs (1 to 2 minutes)"
+    watch "building" build_unproved "$1" ||
+        { echo "first-run: bpfs was not built. The end of the output:" >&2; tail -20 "$work/log" >&2; exit 1; }
     program=$(realpath "$1")
-    echo "   The program is $program: the code of bpfs, compiled without proofs. Try it:"
-    echo "       $program format disk.img --blocks 256 --version 2"
-    echo "       $program run disk.img < $top/examples/first.bpfs"
-    echo "       $program check disk.img"
+    run_commands "$program"
+    cat << END
+== The program is $program
+   It is NOT PROVED: the code of bpfs, compiled without its proofs. Next, with an image of your own:
+       $program format my.img --blocks 256 --version 2
+       $program run my.img < $top/examples/first.bpfs
+       $program check my.img
+END
 }
 
 prove_all() {
@@ -133,19 +157,13 @@ proved_run() {
     bpfs=$top/crates/bpfs/out/bpfs
     [ -x "$bpfs" ] || { echo "first-run: bpfs was not built; run \`rt check\` in crates/bpfs. The end of the output:" >&2; tail -20 "$work/log" >&2; exit 1; }
 
-    echo "\$ bpfs format $work/f --blocks 8"
-    "$bpfs" format "$work/f" --blocks 8
-    echo "\$ bpfs run $work/f    # each line with its reply"
-    "$bpfs" run "$work/f" < "$script" > "$work/replies"
-    beside "$work/replies"
-    echo "\$ bpfs check $work/f"
-    "$bpfs" check "$work/f"
+    run_commands "$bpfs"
     echo "The program is $bpfs"
 }
 
 case "${1:-}" in
-    --unproved) unproved_run; [ -z "${2:-}" ] || leave_unproved "$2" ;;
+    --unproved) if [ -n "${2:-}" ]; then leave_unproved "$2"; else unproved_run; fi ;;
     --proved) prove_all; proved_run ;;
     "") unproved_run; prove_all; proved_run ;;
-    *) sed -n '2,10s/^# \{0,1\}//p' "$0" >&2; exit 1 ;;
+    *) sed -n '2,11s/^# \{0,1\}//p' "$0" >&2; exit 1 ;;
 esac

@@ -38,6 +38,13 @@ for script in "$examples"/*.bpfs; do
   row "$name" '> ' > found; cp "$script" wanted; expect "$name, as a row" 0 0
 done
 
+# The README runs the row `first` over an image of version 2.
+"$program" format disk.img --blocks 8 --version 2 > formatted || exit 1
+cp "$examples/first.replies" wanted
+"$program" run disk.img < "$examples/first.bpfs" > found; expect 'first, in version 2' 0 $?
+echo 'clean 1 2 5 4 3' > wanted
+"$program" check disk.img > found; expect 'first in version 2, and then a check' 0 $?
+
 "$program" format disk.img --blocks 8 > formatted || exit 1
 "$program" run disk.img < "$examples/export.bpfs" > replies
 "$program" export disk.img > wanted

@@ -17,7 +17,7 @@ What is checked (one module of tools/checks for each subject):
 - links: links between documents lead to files and headings, and paths below crates/ exist.
 - style: the rules of docs/STYLE.md that a program can check, in the pages of the list FINISHED of checks/style.py.
 - gate: tools/gate_prices.txt has four numbers for each crate.
-- version: c/include/bpfs.h has the version of the file VERSION.
+from checks import completions, gate, layers, links, made, snippets, style, version
 
 Parts that are made. A page has
 
@@ -53,7 +53,7 @@ import sys
 
 sys.dont_write_bytecode = True  # (a CI run leaves no file in the clone)
 
-from checks import gate, layers, links, made, snippets, style, version
+from checks import completions, gate, layers, links, made, snippets, style, version
 from checks.crates import Crates
 from checks.tree import pages
 
@@ -65,6 +65,7 @@ def faults(crates):
     yield from made.faults(crates, pages())
     yield from layers.faults(crates)
     yield from links.faults(pages())
+    yield from completions.faults()
     yield from snippets.faults([*pages(), "docs/bpfs.1"])
     yield from style.faults(crates, [*pages(), "docs/bpfs.1"])
 

@@ -1,8 +1,8 @@
-"""Links between documents, and the paths that they name."""
+"""Links between documents, and the paths that they name. The index links to each page of docs and of the top."""
 import os
 import re
 
-from .tree import exists, files_below, read
+from .tree import TOP, exists, files_below, read
 
 INDEX = "docs/README.md"
 SUFFIXES = ("", ".antt", ".rt", ".edit")
@@ -39,7 +39,8 @@ def path_faults(page):
 
 def index_faults():
     linked = re.findall(r"\]\(([^)\s#]+)", read(INDEX))
-    for page in files_below("docs", (".md", ".1")):
+    tops = sorted(name for name in os.listdir(TOP) if name.endswith(".md"))
+    for page in [*tops, *files_below("docs", (".md", ".1"))]:
         if page != INDEX and os.path.relpath(page, "docs") not in linked:
             yield f"{INDEX}: no link to {page}"
 

@@ -17,6 +17,10 @@ pub(crate) trait Blank: Copy {
     /// Returns the value of an entry that was never set.
     fn blank() -> Self
         ensures { result ≡ blank };
+
+    /// Makes all entries of a list blank.
+    fn make_blank(list: &mut [Self])
+        ensures { list.new ≡ replicate (length list.old) blank };
 }
 
 impl Blank for u32 {
@@ -25,6 +29,10 @@ impl Blank for u32 {
     fn blank() -> u32 {
         0
     }
+
+    fn make_blank(list: &mut [u32]) {
+        list.fill(0);
+    }
 }
 
 impl Blank for u64 {
@@ -32,6 +40,10 @@ impl Blank for u64 {
 
     fn blank() -> u64 {
         0
+    }
+
+    fn make_blank(list: &mut [u64]) {
+        list.fill(0);
     }
 }
 
@@ -141,10 +153,11 @@ impl<T: Blank> Padded<T> {
         self.stored[i] = entry;
     }
 
-    /// Makes all entries blank. It touches none of them.
+    /// Makes all entries blank. It touches those that are stored, and keeps them stored, so that setting them again does
+    /// not append them once more.
     pub fn clear(&mut self)
         ensures { self.new ≡ replicate (length self.old) T.blank }
     {
-        self.stored.clear();
+        T::make_blank(&mut self.stored[..]);
     }
 }

@@ -3,7 +3,7 @@
 ghost use Rattle.std.specs.Prelude.{Some, ◌≡◌, ℕ, ◌+◌, ◌-◌, ◌*◌, ◌/◌, ◌%◌, ◌<◌, ◌≤◌, ◌^◌, [], false, true, length, IfOk, IfSome, MatchOption};
 ghost use Rattle.std.specs.Int.{div_ceil};
 ghost use Rattle.std.proofs.Common.{arith};
-ghost use Rattle.bp_free.specs.Looks.{looks};
+ghost use Rattle.bp_free.specs.Looks.{looks, LooksFrom};
 ghost use Rattle.bp_free.specs.Set.{Set, has, members, with, without, empty, IsLeast, TakesLeast, TakesOne, Fills, IsComplement};
 ghost use Rattle.bp_free.specs.Words.{ReportsAlone, IsCounted};
 
@@ -118,8 +118,7 @@ fn take_from<C: Looks>(
         (λ i. IsLeast free.old i × (free.new ≡ without free.old i)) }
     ensures room { length free.new ≡ length free.old }
     ensures from { IfSome result (λ i. summary.new.from ≡ i / 4096) }
-    ensures looks { MatchOption result (C.taken counter.new ≡ C.taken counter.old)
-        (λ i. C.taken counter.new + summary.old.from ≤ C.taken counter.old + i / 4096 + 2) }
+    ensures looks { LooksFrom summary.old.from (C.taken counter.old) (C.taken counter.new) result }
 {
     if *count == 0 {
         return None;

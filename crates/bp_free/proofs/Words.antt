@@ -2,7 +2,7 @@
 use Rattle.std.proofs.Common.{◌≡◌, ◌↔◌, ℕ, zero, suc, ◌+◌, ◌-◌, ◌*◌, ◌/◌, ◌%◌, ◌^◌, ◌<◌, ◌≤◌, ◌≢◌, min, max, List, length, Bool, true, false, set, replicate, get_or, refl, sym, ◌∙◌, ap, subst, arith, inl, inr}
 use Rattle.std.specs.Prelude.{eqb}
 use Rattle.std.specs.Int.{bit_at, bit_not, w64, trailing_zeros}
-use Rattle.std.specs.Int.Bits.{bit_and, bit_or}
+use Rattle.std.specs.Int.Bits.{bit_and, bit_or, and_zero_l}
 use Rattle.std.proofs.lemmas.Bool.{cases_eq, cases_lt, eqb-true}
 use Rattle.std.proofs.lemmas.List.{get_or_read, get_or-set_same, get_or-set_other, get_or_past, get_or-replicate, length-set, length-replicate, ext_get_or}
 use Rattle.std.proofs.lemmas.List.FromFn.{length-map-range_with_len, get_or-map-range_with_len}
@@ -195,6 +195,12 @@ set_read words room seen i v hold view low read =
     let at = word_seen words room seen i hold view low in
     let value : get_or words (i / 64) 0 ≡ v = sym (get_or_read words (i / 64) v at read 0) in
     subst (λ n. Changes words (set words (i / 64) (bit_or n (1 * 2 ^ (i % 64) % 2 ^ 64))) i true) value (set_changes words i at)
+
+-- a word without bits has none without a bit
+pub clear_blank : (words : List ℕ) (room : ℕ) (seen : Set) (i v : ℕ) → HoldRoom words room → set_in words room ≡ seen → i < length seen → v ≡ get_or words (i / 64) v → get_or words (i / 64) 0 ≡ 0 → bit_and v (bit_not w64 (1 * 2 ^ (i % 64) % 2 ^ 64)) ≡ 0
+clear_blank words room seen i v hold view low read blank =
+    let mask : ℕ = bit_not w64 (1 * 2 ^ (i % 64) % 2 ^ 64) in
+    ap (λ n. bit_and n mask) (get_or_read words (i / 64) v (word_seen words room seen i hold view low) read 0 ∙ blank) ∙ and_zero_l mask
 
 clear_read : (words : List ℕ) (room : ℕ) (seen : Set) (i v : ℕ) → HoldRoom words room → set_in words room ≡ seen → i < length seen → v ≡ get_or words (i / 64) v → Changes words (set words (i / 64) (bit_and v (bit_not w64 (1 * 2 ^ (i % 64) % 2 ^ 64)))) i false
 clear_read words room seen i v hold view low read =

@@ -145,7 +145,7 @@ impl Bits {
         ensures { self.new ≡ without self.old i }
     {
         let word = self.words.get(i / WORD) & !(1 << (i % WORD));
-        self.words.set(i / WORD, word);
+        self.words.set_stored(i / WORD, word);
     }
 
     /// Returns a number, with whether no other number of its word is a member.

@@ -153,6 +153,17 @@ impl<T: Blank> Padded<T> {
         self.stored[i] = entry;
     }
 
+    /// Sets an entry, to the blank value if it has that. So it appends nothing.
+    pub fn set_stored(&mut self, i: usize, entry: T)
+        requires in_range { i < length self.old }
+        requires blank { slice_index_or self.old i T.blank ≡ T.blank → entry ≡ T.blank }
+        ensures { self.new ≡ slice_set self.old i entry }
+    {
+        if i < self.stored.len() {
+            self.stored[i] = entry;
+        }
+    }
+
     /// Makes all entries blank. It touches those that are stored, and keeps them stored, so that setting them again does
     /// not append them once more.
     pub fn clear(&mut self)

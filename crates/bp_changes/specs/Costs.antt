@@ -9,7 +9,7 @@ use Rattle.bp_layout.specs.Need.{Change}
 use Rattle.bp_layout.specs.Reached.{IsFreeBlock}
 use Rattle.bp_layout.specs.Same.{Same}
 use Rattle.bp_layout.specs.Thaw.{full_need}
-use Rattle.bp_changes.specs.Performs.{InBlock, IsShort}
+use Rattle.bp_changes.specs.Performs.{InBlock, IsPerformed, IsShort}
 
 -- the call costs no more than its need requires
 abbrev pub IsShortBetween : (ℕ → Bool) → Memory → Memory → Change → Type 0
@@ -30,3 +30,8 @@ abbrev pub LeavesFreeBlock : (ℕ → Bool) → Memory → Memory → Change →
 LeavesFreeBlock in_snapshot old new change b =
     full_need (current_words old) in_snapshot change ≡ 0 → IsFreeBlock (current_words old) in_snapshot b →
     StoresTo (InBlock b) (events_between old new) → ⊥
+
+-- the property holds for each performed call
+abbrev pub ForPerformed : ((ℕ → Bool) → Memory → Memory → Change → Type 0) → Type 0
+ForPerformed Holds = (in_snapshot : ℕ → Bool) (old new : Memory) (change : Change) → IsPerformed in_snapshot old new change →
+    Holds in_snapshot old new change

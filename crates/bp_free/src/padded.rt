@@ -7,7 +7,7 @@ use std::alloc::{AllocError, Global};
 use std::marker::Model;
 
 /// The number of entries that are stored at once past the one that is needed.
-const SPARE: usize = 512;
+const SPARE: usize = 64;
 
 /// A type of entries.
 pub(crate) trait Blank: Copy {

@@ -4,6 +4,7 @@ use Rattle.std.specs.Prelude.{◌≡◌, ◌⊎◌, ℕ, ◌+◌, ◌*◌, ◌�
 use Rattle.arrayvec.specs.ArrayVec.{ArrayVec}
 use Rattle.bp_changes.specs.Thawed.{SameShape}
 use Rattle.bp_free.specs.Set.{Set, has, members}
+use Rattle.bp_free.specs.declared.parts.Parts.{Parts}
 use Rattle.bp_layout.specs.Free.{AreFreeBlocks}
 use Rattle.bp_layout.specs.Members.{Each, Has}
 use Rattle.bp_layout.specs.Reached.{IsLiveBlock}
@@ -41,3 +42,8 @@ pub record Thaws (in_snapshot : ℕ → Bool) (paths : List WordPath) (old new :
   pub used : (b : ℕ) → Has taken b → IsLiveBlock (current_words new) b
   pub stay : (b : ℕ) → IsLiveBlock (current_words old) b → IsLiveBlock (current_words new) b ⊎ (in_snapshot b ≡ true)
   pub free : AreFreeBlocks (current_words new) in_snapshot (has after)
+
+-- The effect of a thaw of these paths on the parts of a file system.
+abbrev pub ThawsIn : {R : Type 0} → (R → Memory) → List WordPath → Parts R → Parts R → Type 0
+ThawsIn memory paths old new =
+    Thaws (has old.snapshot_blocks) paths (memory old.region) (memory new.region) old.free_blocks new.free_blocks

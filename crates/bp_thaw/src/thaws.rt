@@ -10,7 +10,7 @@ ghost use Rattle.bp_layout.specs.Words.{block_count};
 ghost use Rattle.pm_region.specs.Memory.{words_in};
 ghost use Rattle.bp_layout.specs.Thaw.{thawed_on};
 ghost use Rattle.bp_thaw.specs.Prefixes.{IsWayIn};
-ghost use Rattle.bp_thaw.specs.Thaws.{CanThaw, Thaws, paths_in};
+ghost use Rattle.bp_thaw.specs.Thaws.{CanThaw, ThawsIn, paths_in};
 
 use crate::copies::{fill_all, take_all};
 use crate::find::find;
@@ -38,8 +38,7 @@ pub fn thaw_need<R: Region>(parts: &Parts<R>, targets: &ArrayVec<Slots, 8>) -> u
 pub fn thaw<R: Region>(parts: &mut Parts<R>, targets: &ArrayVec<Slots, 8>)
     requires can { CanThaw (has parts.old.snapshot_blocks) (paths_in targets.now) (R.memory parts.old.region) parts.old.free_blocks }
     requires snapshot_blocks { block_count (words_in R.memory parts.old.region) ≤ length parts.old.snapshot_blocks }
-    ensures thaws { Thaws (has parts.old.snapshot_blocks) (paths_in targets.now)
-        (R.memory parts.old.region) (R.memory parts.new.region) parts.old.free_blocks parts.new.free_blocks }
+    ensures thaws { ThawsIn R.memory (paths_in targets.now) parts.old parts.new }
     ensures keeps { KeepsSets parts.old parts.new }
 {
     let places = find(&parts.region, &parts.snapshot_blocks, targets);

@@ -37,7 +37,7 @@ impl Hints {
 
     /// Returns the block that may have an older version of this one, 0 if none is known.
     pub fn older(&self, block: u64) -> u32 {
-        if block < self.before.room() as u64 {
+        if block < self.before.stored() as u64 {
             self.before.get(block as usize)
         } else {
             0

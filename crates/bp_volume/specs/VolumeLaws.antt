@@ -1,11 +1,12 @@
 -- Properties that hold for all volumes.
-use Rattle.std.specs.Prelude.{ℕ, ◌≤◌, List, length}
+use Rattle.std.specs.Prelude.{◌≡◌, ℕ, ◌≤◌, List, length, None}
 use Rattle.bp_calls.specs.InPlace.{LiesInWord}
 use Rattle.bp_layout.specs.Whole.{SameFiles}
 use Rattle.bp_layout.specs.Words.{Image}
 use Rattle.bp_plain.specs.Calls.Call.{truncate, write}
 use Rattle.bp_plain.specs.Plain.{bytes_at, path_named}
 use Rattle.bp_plain.specs.PlainTree.{FileTree}
+use Rattle.bp_plain.specs.Stands.{Stands}
 use Rattle.bp_volume.specs.Step.{IsNeverShort, PathFinds}
 use Rattle.pm_epochs.specs.Replay.{after_calls, kept_calls}
 use Rattle.pm_region.specs.Memory.{Memory}
@@ -29,3 +30,7 @@ ShortensInPlace image tree text size =
 abbrev pub WritesInPlace : Image → FileTree → List ℕ → ℕ → ℕ → List ℕ → Type 0
 WritesInPlace image tree text i offset new =
     PathFinds image text i → LiesInWord image i offset (length new) → IsNeverShort image tree (write text offset new)
+
+-- The property holds for each tree for which the image stands, if it has no snapshot.
+abbrev pub WithoutSnapshot : Image → (FileTree → Type 0) → Type 0
+WithoutSnapshot image Holds = (tree : FileTree) → Stands image tree → tree.snap ≡ None → Holds tree

@@ -1,12 +1,11 @@
 //! Properties of volumes. Each is the contract of a function with an empty body.
 
-ghost use Rattle.std.specs.Prelude.{◌≡◌, ℕ, List, None};
+ghost use Rattle.std.specs.Prelude.{ℕ, List};
 ghost use Rattle.bp_layout.specs.Whole.{SameFiles};
 ghost use Rattle.bp_plain.specs.Calls.Call.{rmdir, unlink};
 ghost use Rattle.bp_plain.specs.PlainTree.{FileTree};
-ghost use Rattle.bp_plain.specs.Stands.{Stands};
 ghost use Rattle.bp_volume.specs.Step.{IsNeverShort};
-ghost use Rattle.bp_volume.specs.VolumeLaws.{ShortensInPlace, ShowsFirstCalls, WritesInPlace};
+ghost use Rattle.bp_volume.specs.VolumeLaws.{ShortensInPlace, ShowsFirstCalls, WithoutSnapshot, WritesInPlace};
 ghost use Rattle.pm_region.specs.Memory.{Memory};
 ghost use Rattle.pm_region.specs.Safe.{IsSafe};
 ghost use Rattle.pm_steps.specs.Machine.{MachineState, MachineStep};
@@ -23,12 +22,8 @@ pub fn memory_is_as_after_a_call()
 /// unlink, an rmdir, a truncate that does not make the file longer, and a write of bytes that lie in one word and not
 /// in a hole. They have the answer of the abstract tree, and are never refused for lack of space.
 pub fn calls_in_place_need_no_space(image: &[u64])
-    ensures unlink { (tree : FileTree) (text : List ℕ) → Stands image.now tree → tree.snap ≡ None
-        → IsNeverShort image.now tree (unlink text) }
-    ensures rmdir { (tree : FileTree) (text : List ℕ) → Stands image.now tree → tree.snap ≡ None
-        → IsNeverShort image.now tree (rmdir text) }
-    ensures truncate { (tree : FileTree) (text : List ℕ) (size : ℕ) → Stands image.now tree → tree.snap ≡ None
-        → ShortensInPlace image.now tree text size }
-    ensures write { (tree : FileTree) (text new : List ℕ) (i offset : ℕ) → Stands image.now tree → tree.snap ≡ None
-        → WritesInPlace image.now tree text i offset new }
+    ensures unlink { WithoutSnapshot image.now (λ tree. (text : List ℕ) → IsNeverShort image.now tree (unlink text)) }
+    ensures rmdir { WithoutSnapshot image.now (λ tree. (text : List ℕ) → IsNeverShort image.now tree (rmdir text)) }
+    ensures truncate { WithoutSnapshot image.now (λ tree. (text : List ℕ) (size : ℕ) → ShortensInPlace image.now tree text size) }
+    ensures write { WithoutSnapshot image.now (λ tree. (text new : List ℕ) (i offset : ℕ) → WritesInPlace image.now tree text i offset new) }
 {}

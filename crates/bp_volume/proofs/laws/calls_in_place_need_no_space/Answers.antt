@@ -3,8 +3,8 @@ use Rattle.bp_volume.proofs.laws.calls_in_place_need_no_space.Goals as goal
 
 pub returns : goal.returns
 returns c = record {
-  unlink = λ tree text stands alone. unlink_plainly c.args.image.now tree stands alone text;
-  rmdir = λ tree text stands alone. rmdir_plainly c.args.image.now tree stands alone text;
-  truncate = λ tree text size stands alone. truncate_plainly c.args.image.now tree stands alone text size;
-  write = λ tree text new i offset stands alone. write_plainly c.args.image.now tree stands alone text new i offset;
+  unlink = λ tree stands alone text. unlink_plainly c.args.image.now tree stands alone text;
+  rmdir = λ tree stands alone text. rmdir_plainly c.args.image.now tree stands alone text;
+  truncate = λ tree stands alone text size. truncate_plainly c.args.image.now tree stands alone text size;
+  write = λ tree stands alone text new i offset. write_plainly c.args.image.now tree stands alone text new i offset;
 }

@@ -1,4 +1,5 @@
 mod Blocks
+mod LentValues
 mod EntryLaws
 mod WordLaws
 mod RunLaws

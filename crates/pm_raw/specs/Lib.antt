@@ -1,5 +1,6 @@
 pub mod Ownership
 pub mod Block
+pub mod Lent
 pub mod Lends
 pub mod RawArray
 pub mod RawLends

@@ -1,12 +1,13 @@
 -- What the places and the deed of a block own and lend, for items of the row R.
-use Rattle.std.specs.Prelude.{ℕ, ◌-◌, ◌*◌, ◌^◌, List, length}
+use Rattle.std.specs.Prelude.{ℕ, ◌-◌, ◌*◌, ◌^◌, Bool, true, false, List, length, Option, Some, None}
 use Rattle.std.specs.Mem.{type_size}
 use base.Fraction.{full_share}
-use base.Fml.{Lft, Fml, fsep, flt}
+use base.Fml.{Lft, Fml, feq, fsep, flt}
 use mir.Syntax.{Ty, ty_array}
 use mir.Raw.{raw}
 use denote.RattleType.{RattleType}
 use denote.Array.{Array}
+use denote.Builtin.{u64}
 use denote.Memory.{lone}
 use denote.RawPtr.{Ptr, lies_at, room_for, ◌+ₚ◌}
 use denote.Sharing.{said, beside}
@@ -32,3 +33,9 @@ module _ (R : RattleType) where
   -- The allocator's token for such a block.
   abbrev pub deed_owns : (Ty → Ptr → Fml) → Ptr → ℕ → Fml
   deed_owns token at count = token (empty_places count) at
+
+-- Lent words: none, or the places of a block, each with a word.
+abbrev pub lent_owns : Ptr → ℕ → Bool → Option (List ℕ) → Fml
+lent_owns at count is_there None = feq Bool is_there false
+lent_owns at count is_there (Some words) =
+    fsep (feq Bool is_there true) (fsep (feq ℕ (length words) count) (places_own u64 at words count))

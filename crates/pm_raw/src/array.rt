@@ -1,20 +1,21 @@
 //! Arrays of a fixed length over raw memory.
-ghost use Rattle.std.specs.Prelude.{◌≡◌, ◌+◌, ◌/◌, ◌^◌, ◌<◌, ◌≤◌, [], ◌++◌, length, replicate, slice_set, IfOk};
+ghost use Rattle.std.specs.Prelude.{◌≡◌, ◌+◌, ◌/◌, ◌^◌, ◌<◌, ◌≤◌, [], ◌++◌, length, replicate, slice_set, IfOk, MatchOption, None, Some};
 ghost use Rattle.std.specs.Borrow.{sem};
 ghost use Rattle.std.specs.Vec.Ownership.{FitsInBlock};
 ghost use Rattle.pm_raw.specs.Spelled.{spelled_words};
 
-use super::cells::{Base, Cells, Deed};
+use super::cells::{Base, Cells, Deed, Lent};
 use pm_words::word_at;
 use std::alloc::{AllocError, Global};
 use std::marker::Model;
 
-/// An array in its own block of memory, which is freed when the array is dropped. Its model is the list of its items.
+/// An array in a block of memory. Its model is the list of its items. When the array is dropped, the block is freed if
+/// it came from the allocator, and left to its owner if it was lent.
 pub struct RawArray<T: Copy> {
     base: Base<T>,
     len: usize,
     cells: Cells<T>,
-    deed: Deed<T, Global>,
+    deed: Option<Deed<T, Global>>,
     alloc: Global,
 }
 
@@ -42,7 +43,9 @@ impl<T: Copy> Drop for RawArray<T> {
             deed,
             alloc,
         } = self;
-        Base::deallocate(&alloc, base, len, cells, deed);
+        if let Some(deed) = deed {
+            Base::deallocate(&alloc, base, len, cells, deed);
+        }
     }
 }
 
@@ -78,7 +81,7 @@ impl<T: Copy> RawArray<T> {
             base,
             len,
             cells,
-            deed,
+            deed: Some(deed),
             alloc,
         })
     }
@@ -113,6 +116,42 @@ impl<T: Copy> RawArray<T> {
         ensures { self.new ≡ slice_set self.old i value }
     {
         self.as_mut_slice()[i] = value;
+    }
+}
+
+impl RawArray<u64> {
+    /// Makes an array of the words that are lent, in the memory where they are. It is `None` if none are.
+    pub fn of_lent(alloc: Global, lent: Lent) -> Option<RawArray<u64>>
+        ensures { MatchOption result (lent.words ≡ None) (λ array. lent.words ≡ Some array) }
+    {
+        match lent.unseal() {
+            Some((base, len, cells)) => Some(RawArray {
+                base,
+                len,
+                cells,
+                deed: None,
+                alloc,
+            }),
+            None => None,
+        }
+    }
+
+    /// Lends the words with their memory, which the array does not free then: memory that was lent goes back, and
+    /// memory of the allocator passes to the borrower.
+    pub fn into_lent(self) -> Lent
+        ensures { result.words ≡ Some self }
+    {
+        let RawArray {
+            base,
+            len,
+            cells,
+            deed,
+            alloc: _,
+        } = self;
+        if let Some(deed) = deed {
+            deed.waive();
+        }
+        Lent::seal(base, len, cells)
     }
 }
 
@@ -219,7 +258,7 @@ impl Filling {
             base,
             len: size,
             cells,
-            deed,
+            deed: Some(deed),
             alloc,
         }
     }

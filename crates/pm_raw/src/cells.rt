@@ -1,15 +1,16 @@
 //! The raw memory of an array: a block of places, of which the first have an item each and the others are empty. All
 //! raw pointers of the crate are in this file.
-ghost use Rattle.std.specs.Prelude.{◌≡◌, ℕ, ◌<◌, ◌≤◌, List, [], ◌∷◌, ◌++◌, length, IfOk};
+ghost use Rattle.std.specs.Prelude.{◌≡◌, ℕ, ◌<◌, ◌≤◌, List, [], ◌∷◌, ◌++◌, length, IfOk, Option, None, Some};
 ghost use Rattle.std.specs.Borrow.{sem};
 ghost use Rattle.std.specs.Vec.Ownership.{FitsInBlock};
 ghost use base.Fml.{ftrue};
 ghost use denote.RawPtr.{Ptr};
-ghost use Rattle.pm_raw.specs.Ownership.{places_own, places_lend, deed_owns};
+ghost use Rattle.pm_raw.specs.Ownership.{places_own, places_lend, deed_owns, lent_owns};
 
-use std::alloc::{AllocError, Allocator};
+use std::alloc::{AllocError, Allocator, Global};
 use std::marker::{Model, PhantomData};
 use std::mem::{align_of, size_of};
+use std::ptr::null_mut;
 use std::slice;
 
 /// The address of a block. It owns nothing, so it is copied freely.
@@ -18,7 +19,9 @@ pub struct Base<T> {
     address: *mut T,
 }
 
-/// The owner of a block's `count` places, of which the first hold `items`. It has no bytes.
+/// The owner of a block's `count` places, of which the first hold `items`. It has no bytes. Dropping it
+/// frees nothing: the right to free a block is its deed, and a lent block has none.
+#[derive(Drop)]
 pub struct Cells<T> {
     of: PhantomData<*const T>,
     ghost at: { Ptr },
@@ -44,6 +47,13 @@ impl<T, A: Allocator> Model for Deed<T, A> {
     ghost also_owns = { λ deed. deed_owns T.row (A.dealloc_token deed.alloc) deed.at deed.count };
 
     ghost also_shares = { λ _ _ _. ftrue };
+}
+
+impl Deed<u64, Global> {
+    /// Gives up the right to free the block: its memory belongs to whoever has the places.
+    pub(crate) fn waive(self) {
+        let Deed { of: _ } = self;
+    }
 }
 
 impl<T> Base<T> {
@@ -122,5 +132,68 @@ impl<T> Cells<T> {
         ensures value { result.now ≡ self.old.items }
     {
         unsafe { slice::from_raw_parts_mut(base.address, len) }
+    }
+}
+
+/// Words in memory that the caller lends, or none. C sees their address, their number, and whether there are any.
+/// Dropping it frees nothing.
+#[repr(C)]
+#[derive(Drop)]
+pub struct Lent {
+    at: *mut u64,
+    count: usize,
+    is_there: bool,
+    /// The words.
+    pub ghost words: { Option (List ℕ) },
+}
+
+impl Model for Lent {
+    ghost also_owns = { λ lent. lent_owns lent.at lent.count lent.is_there lent.words };
+}
+
+impl Lent {
+    ghost use Rattle.pm_raw.specs.Lent.{IsFull, IsUnsealed};
+
+    /// Returns the value that lends nothing.
+    pub fn none() -> Lent
+        ensures { result.words ≡ None }
+    {
+        Lent {
+            at: null_mut(),
+            count: 0,
+            is_there: false,
+        }
+    }
+
+    /// Lends a block whose places all have a word.
+    pub(crate) fn seal(base: Base<u64>, count: usize, cells: Cells<u64>) -> Lent
+        requires { IsFull base count cells }
+        ensures { result.words ≡ Some cells.items }
+    {
+        let Base { address } = base;
+        let Cells { of: _ } = cells;
+        Lent {
+            at: address,
+            count,
+            is_there: true,
+        }
+    }
+
+    /// Returns the block that is lent, or `None` if none is.
+    pub(crate) fn unseal(self) -> Option<(Base<u64>, usize, Cells<u64>)>
+        ensures { IsUnsealed self.words result }
+    {
+        let Lent {
+            at,
+            count,
+            is_there,
+        } = self;
+        if is_there {
+            let base = Base { address: at };
+            let cells = Cells { of: PhantomData };
+            Some((base, count, cells))
+        } else {
+            None
+        }
     }
 }

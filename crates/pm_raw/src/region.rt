@@ -1,7 +1,7 @@
 //! A region over raw memory.
 
 ghost use Rattle.std.specs.Prelude.{◌≡◌, ◌+◌, ◌^◌, ◌<◌, [], ◌∷◌, ◌++◌, ◌≤◌, IfOk, length, replicate};
-ghost use Rattle.pm_region.specs.Memory.{with_values};
+ghost use Rattle.pm_region.specs.Memory.{current_words, with_values};
 ghost use Rattle.pm_raw.specs.Entries.{signal_of};
 ghost use Rattle.pm_raw.specs.Places.{is_barrier, is_call_end, places_where};
 
@@ -109,6 +109,13 @@ impl RawRegion {
         ensures { self.new ≡ record self.old { base = words } }
     {
         self.current = words;
+    }
+
+    /// Returns the current words, without the region.
+    pub fn into_words(self) -> RawArray<u64>
+        ensures { result ≡ current_words self }
+    {
+        self.current
     }
 
     /// Appends an event that is no store to the log, by its value.

@@ -1,6 +1,7 @@
 //! A region that stores the values of its log.
 ghost use Rattle.std.specs.Prelude.{◌≡◌, ◌+◌, ◌^◌, ◌<◌, ◌≤◌, [], ◌++◌, IfOk, length, map, replicate};
 ghost use Rattle.pm_epochs.specs.Kind.{event_value};
+ghost use Rattle.pm_region.specs.Memory.{current_words};
 
 use pm_epochs::{BadChoice, Choice, Event, EventKind, Kept};
 use pm_raw::values::add;
@@ -60,6 +61,13 @@ impl RedoRegion {
         ensures { self.new ≡ record self.old { base = words } }
     {
         self.region.adopt_all(words);
+    }
+
+    /// Returns the current words, without the region.
+    pub fn into_words(self) -> RawArray<u64>
+        ensures { result ≡ current_words self }
+    {
+        self.region.into_words()
     }
 
     /// Returns the value of each event of the log, 0 for an event that is no store.

@@ -160,6 +160,25 @@ impl<R: Region> Volume<R> {
         &self.parts.region
     }
 
+    /// Returns the region, without the volume.
+    pub fn into_region(self) -> R
+        ensures { R.memory result ≡ self }
+    {
+        let Volume {
+            parts,
+            pending: _,
+            cache: _,
+        } = self;
+        let Parts {
+            region,
+            free_blocks: _,
+            free_inodes: _,
+            link_counts: _,
+            snapshot_blocks: _,
+        } = parts;
+        region
+    }
+
     /// Waits until all stores of the calls so far are written back, and empties the log.
     pub fn sync(&mut self)
         ensures drained { self.new ≡ drained self.old }

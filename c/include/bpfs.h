@@ -48,8 +48,8 @@
  * OWNERSHIP
  *   You own the handle: initialize it with BPFS_CLOSED, and never copy one that is open. bpfs_mount
  *   allocates a volume for it, and bpfs_close frees that volume. Closing twice is harmless and
- *   returns BPFS_HAS_NONE. You own all other memory. The library uses it only during the call. It
- *   may overlap with no other argument of the call.
+ *   returns BPFS_HAS_NONE. You own all other memory. The library uses it only during the call,
+ *   except what bpfs_mount_at lends. It may overlap with no other argument of the call.
  *
  * POINTERS
  *   A pointer that comes with a length may be NULL if the length is 0. A pointer to a single result
@@ -65,9 +65,9 @@
  *   here from a signal handler, and use no handle in both processes after a fork.
  *
  * COST
- *   A volume has its own copy of the words (4 KiB for each block), up to some 724 bytes more for
- *   each block, and a log of 524,288 events (25 MB). The system provides pages of these as they are
- *   used. bpfs_mount, bpfs_format_events, bpfs_list and bpfs_snap_list allocate memory. Other calls
+ *   A volume has its own copy of the words (4 KiB for each block), unless they are lent
+ *   (bpfs_mount_at), up to some 724 bytes more for each block, and a log of 524,288 events (25 MB).
+ *   The system provides pages of these as they are used. bpfs_mount, bpfs_mount_at, bpfs_format_events, bpfs_list and bpfs_snap_list allocate memory. Other calls
  *   may allocate some to remember where names are; if that fails, they return the same result.
  *
  * CARRYING
@@ -161,6 +161,14 @@ typedef struct bpfs {
 
 #define BPFS_CLOSED {NULL, false}
 
+/* Memory with the words of an image, which bpfs_mount_at lends to the library. `is_there` is false
+ * while the library has it, and where there is none. */
+typedef struct bpfs_lent {
+    uint64_t *words;
+    size_t count;
+    bool is_there;
+} bpfs_lent;
+
 /* Set by BPFS_NO_SPACE: the number of blocks that the call needs, and of free blocks. */
 typedef struct bpfs_lack {
     uint32_t need, free;
@@ -232,8 +240,22 @@ uint32_t bpfs_format_events(uint32_t blocks, uint32_t version, bpfs_event *into,
  * exactly if the words are not an image. BPFS_HAS_ONE. BPFS_NO_MEMORY. */
 uint32_t bpfs_mount(bpfs *fs, const uint64_t *words, size_t count, bpfs_fault *fault);
 
-/* Frees the volume and closes the handle. Events that were not carried are lost. BPFS_HAS_NONE. */
+/* Opens the handle as bpfs_mount does, but over the words where they are. It copies none, and reads
+ * only blocks that are in use, so a large image in a sparse mapping costs what its files cost. The
+ * library has the memory until bpfs_close_at: do not read, write or free it, and set nothing in
+ * *lent. On BPFS_OK, is_there becomes false. On any other result the memory is yours, unchanged.
+ *   The library changes the words at once, before a barrier, so the memory must not itself be what
+ * a power failure leaves: lend anonymous memory or a private mapping, and carry the events to the
+ * medium. BPFS_OUT_OF_RANGE: is_there is false. Other results are those of bpfs_mount. */
+uint32_t bpfs_mount_at(bpfs *fs, bpfs_lent *lent, bpfs_fault *fault);
+
+/* Frees the volume and closes the handle. Events that were not carried are lost. Memory that was
+ * lent is not freed. BPFS_HAS_NONE. */
 uint32_t bpfs_close(bpfs *fs);
+
+/* Closes the handle as bpfs_close does, and sets *lent to the memory with the words as they are
+ * now, which is yours then. If bpfs_mount allocated it, free lent->words. BPFS_HAS_NONE. */
+uint32_t bpfs_close_at(bpfs *fs, bpfs_lent *lent);
 
 /* ---- calls that change the tree -------------------------------------------------------------- */
 
@@ -388,6 +410,11 @@ static inline uint32_t bpfs_mount_any(bpfs *fs, const uint64_t *words, size_t co
     return bpfs_mount(fs, (const uint64_t *)bpfs_some(words, count), count, fault ? fault : &unused);
 }
 
+static inline uint32_t bpfs_mount_at_any(bpfs *fs, bpfs_lent *lent, bpfs_fault *fault) {
+    bpfs_fault unused;
+    return bpfs_mount_at(fs, lent, fault ? fault : &unused);
+}
+
 static inline uint32_t bpfs_create_any(bpfs *fs, const uint8_t *path, size_t length, bpfs_lack *lack) {
     bpfs_lack unused;
     return bpfs_create(fs, BPFS_BYTES(path, length), length, lack ? lack : &unused);
@@ -503,6 +530,7 @@ static inline size_t bpfs_run_at_any(bpfs *fs, size_t first, bpfs_run *run, uint
 #undef BPFS_BYTES
 #define bpfs_format_events(...) bpfs_format_events_any(__VA_ARGS__)
 #define bpfs_mount(...) bpfs_mount_any(__VA_ARGS__)
+#define bpfs_mount_at(...) bpfs_mount_at_any(__VA_ARGS__)
 #define bpfs_create(...) bpfs_create_any(__VA_ARGS__)
 #define bpfs_mkdir(...) bpfs_mkdir_any(__VA_ARGS__)
 #define bpfs_unlink(...) bpfs_unlink_any(__VA_ARGS__)

@@ -89,6 +89,52 @@ static void mounts(void) {
     IS(false, fs.is_open);
 }
 
+/* The memory is ours, and it is this. */
+static void is_lent(const bpfs_lent *lent, const uint64_t *at, size_t count) {
+    IS(true, lent->is_there);
+    IS(true, lent->words == at);
+    IS(count, lent->count);
+}
+
+static void mounts_lent_words(void) {
+    bpfs_lent lent = {words, WORDS, true};
+    make(1);
+    IS(BPFS_HAS_ONE, bpfs_mount_at(&fs, &lent, &fault));
+    is_lent(&lent, words, WORDS);
+    IS(BPFS_OK, bpfs_close(&fs));
+    IS(BPFS_HAS_NONE, bpfs_close_at(&fs, &lent));
+    is_lent(&lent, words, WORDS);
+    IS(BPFS_OK, bpfs_mount_at(&fs, &lent, &fault));
+    IS(false, lent.is_there);
+    IS(BPFS_OK, bpfs_create(&fs, PATH("/a"), &lack)); /* the words change with no carry */
+    IS(BPFS_OK, bpfs_close_at(&fs, &lent));
+    is_lent(&lent, words, WORDS);
+    IS(BPFS_OK, bpfs_mount(&fs, words, WORDS, &fault));
+    IS(BPFS_OK, bpfs_stat(&fs, PATH("/a"), NULL));
+    IS(BPFS_OK, bpfs_close_at(&fs, &lent)); /* these are of malloc */
+    IS(true, lent.is_there && lent.words != words && lent.count == WORDS);
+    IS(0, memcmp(lent.words, words, sizeof words));
+    free(lent.words);
+    lent = (bpfs_lent){words, WORDS, true};
+    IS(BPFS_OK, bpfs_mount_at(&fs, &lent, NULL));
+    IS(BPFS_OK, bpfs_close(&fs)); /* frees no memory that was lent */
+    lent = (bpfs_lent){words, WORDS - 1, true};
+    IS(BPFS_BAD_SIZE, bpfs_mount_at(&fs, &lent, &fault));
+    IS((WORDS - 1) * 8, fault.found);
+    is_lent(&lent, words, WORDS - 1);
+    words[2] ^= 8;
+    lent.count = WORDS;
+    IS(BPFS_DAMAGED, bpfs_mount_at(&fs, &lent, &fault));
+    IS(2, fault.place);
+    is_lent(&lent, words, WORDS);
+    words[0] = 0;
+    IS(BPFS_NOT_FORMATTED, bpfs_mount_at(&fs, &lent, NULL));
+    is_lent(&lent, words, WORDS);
+    lent.is_there = false;
+    IS(BPFS_OUT_OF_RANGE, bpfs_mount_at(&fs, &lent, &fault));
+    IS(false, lent.is_there || fs.is_open);
+}
+
 static void closed_handles(void) {
     uint8_t bytes[4];
     size_t count;
@@ -444,6 +490,7 @@ static void unwanted_results(void) {
 int main(void) {
     formats();
     mounts();
+    mounts_lent_words();
     closed_handles();
     changes();
     writes();

@@ -1,11 +1,15 @@
-/* large_test.c - an image of the maximum size, 256 GiB, in a sparse file, and a mount of a large image.
+/* large_test.c - an image of the maximum size, 256 GiB, in a sparse file and in sparse memory, and a mount of a large image.
  *
  *     large_test FOLDER BLOCKS
  *
  * The sparse image is created, formatted and mapped. Each carrier to a file, and a follower, stores words past the first
  * 2^32 and up to the last one; a journal with such words is applied. The image uses little room on the disk.
  *
- * A mount copies all words of an image, so the second image has BLOCKS blocks only. It is filled with one file, which is
+ * The image in memory is in a mapping that takes pages as they are written. It is mounted where it is (bpfs_mount_at), files are
+ * made, the log is carried to another such mapping, and that is mounted in turn. Both together take little memory, which is
+ * printed. If the system does not give address space for that, this is left out.
+ *
+ * bpfs_mount copies all words of an image, so the third image has BLOCKS blocks only. It is filled with one file, which is
  * read back, and read back again after another mount. It needs 4 KiB of memory and of the disk for each block; if there
  * is not twice that memory, the mount is left out.
  *
@@ -22,6 +26,7 @@
 #include <string.h>
 #include <sys/mman.h>
 #include <sys/stat.h>
+#include <time.h>
 #include <unistd.h>
 
 #define PATH(text) (const uint8_t *)(text), sizeof(text) - 1
@@ -205,6 +210,195 @@ static bool largest(void) {
     return true;
 }
 
+/* ---- a mount of the maximum size, in sparse memory */
+
+static uint8_t bytes[PART], read_back[PART];
+
+static void fill(uint64_t at) {
+    for (size_t i = 0; i < PART; i += 8) {
+        uint64_t value = at + i + 1;
+        memcpy(bytes + i, &value, 8);
+    }
+}
+
+enum { FILES = 2000, PARTS = 64, RESIDENT = 1 << 30 };
+
+/* Words of a sparse mapping, the medium to which the log is carried, and its carrier. */
+static uint64_t *medium;
+
+static int put_words(bpfs_carrier *carrier, uint64_t word, const uint64_t *values, size_t count) {
+    (void)carrier;
+    memcpy(medium + word, values, 8 * count);
+    return 0;
+}
+
+static int waits_for_nothing(bpfs_carrier *carrier) {
+    (void)carrier;
+    return 0;
+}
+
+/* Memory whose pages come as they are written, and for which no memory is reserved. NULL: the system refuses it. */
+static uint64_t *sparse(void) {
+    void *at = mmap(NULL, 8 * all_words, PROT_READ | PROT_WRITE, MAP_PRIVATE | MAP_ANONYMOUS | MAP_NORESERVE, -1, 0);
+    return at == MAP_FAILED ? NULL : at;
+}
+
+static void format_words(uint64_t *into) {
+    bpfs_event events[EVENTS];
+    size_t count = 0;
+    IS(BPFS_OK, bpfs_format_events(BPFS_MAX_BLOCKS, 2, events, EVENTS, &count));
+    for (size_t i = 0; i < count; i++)
+        if (events[i].kind == BPFS_STORE) into[events[i].word] = events[i].value;
+}
+
+/* The memory of this process that is in use, in bytes. */
+static uint64_t resident(void) {
+    unsigned long long size, pages = 0;
+    FILE *it = fopen("/proc/self/statm", "r");
+    if (!it || fscanf(it, "%llu %llu", &size, &pages) != 2) perror("/proc/self/statm"), exit(2);
+    fclose(it);
+    return pages * (uint64_t)sysconf(_SC_PAGESIZE);
+}
+
+static double seconds(void) {
+    struct timespec now;
+    clock_gettime(CLOCK_MONOTONIC, &now);
+    return (double)now.tv_sec + 1e-9 * (double)now.tv_nsec;
+}
+
+static uint32_t mounts_words(bpfs *fs, uint64_t *words_there) {
+    bpfs_lent lent = {words_there, all_words, true};
+    uint32_t code = bpfs_mount_at(fs, &lent, &fault);
+    IS(code != BPFS_OK, lent.is_there);
+    if (code) IS(true, lent.words == words_there && lent.count == all_words);
+    return code;
+}
+
+static void closes_words(bpfs *fs, const uint64_t *words_there) {
+    bpfs_lent lent = {NULL, 0, false};
+    IS(BPFS_OK, bpfs_close_at(fs, &lent));
+    IS(true, lent.is_there && lent.words == words_there && lent.count == all_words);
+}
+
+static size_t name_file(char *path, int i) {
+    return (size_t)snprintf(path, 32, "/files/%d", i);
+}
+
+/* Small files, a file of PARTS MiB, one that ends at 2^50 bytes and has holes, and one of one block. */
+static void makes_files(bpfs *fs, bpfs_carrier *carrier) {
+    const uint64_t word = 77;
+    char path[32];
+    IS(BPFS_OK, bpfs_mkdir(fs, PATH("/files"), &lack));
+    for (int i = 0; i < FILES; i++) {
+        size_t length = name_file(path, i);
+        IS(BPFS_OK, bpfs_create(fs, (const uint8_t *)path, length, &lack));
+        fill((uint64_t)i);
+        IS(BPFS_OK, bpfs_write(fs, (const uint8_t *)path, length, 0, bytes, 100, &lack));
+    }
+    IS(BPFS_OK, bpfs_create(fs, PATH("/a"), &lack));
+    for (uint64_t at = 0; at < PARTS * (uint64_t)PART; at += PART) {
+        fill(at);
+        IS(BPFS_OK, bpfs_write(fs, PATH("/a"), at, bytes, PART, &lack));
+        IS(0, bpfs_carry(fs, carrier));
+    }
+    IS(BPFS_OK, bpfs_create(fs, PATH("/holes"), &lack));
+    IS(BPFS_OK, bpfs_write(fs, PATH("/holes"), (1ull << 50) - 8, (const uint8_t *)&word, 8, &lack));
+    IS(BPFS_OK, bpfs_create(fs, PATH("/last"), &lack));
+    fill(12345);
+    IS(BPFS_OK, bpfs_write(fs, PATH("/last"), 0, bytes, 4096, &lack));
+    IS(0, bpfs_carry(fs, carrier));
+}
+
+static void has_files(bpfs *fs) {
+    char path[32];
+    size_t count = 0;
+    bpfs_found found;
+    bpfs_sums sums;
+    bpfs_blocks blocks;
+    uint64_t word = 0;
+    for (int i = 0; i < FILES; i++) {
+        size_t length = name_file(path, i);
+        fill((uint64_t)i);
+        IS(BPFS_OK, bpfs_read(fs, (const uint8_t *)path, length, 0, read_back, PART, &count));
+        IS(true, count == 100 && !memcmp(bytes, read_back, count));
+    }
+    for (uint64_t at = 0; at < PARTS * (uint64_t)PART; at += PART) {
+        fill(at);
+        IS(BPFS_OK, bpfs_read(fs, PATH("/a"), at, read_back, PART, &count));
+        IS(true, count == PART && !memcmp(bytes, read_back, count));
+    }
+    IS(BPFS_OK, bpfs_stat(fs, PATH("/holes"), &found));
+    IS(1ull << 50, found.size);
+    IS(BPFS_OK, bpfs_read(fs, PATH("/holes"), (1ull << 50) - 8, (uint8_t *)&word, 8, &count));
+    IS(77, word);
+    IS(BPFS_OK, bpfs_read(fs, PATH("/holes"), 1ull << 49, (uint8_t *)&word, 8, &count));
+    IS(0, word);
+    fill(12345);
+    IS(BPFS_OK, bpfs_read(fs, PATH("/last"), 0, read_back, PART, &count));
+    IS(true, count == 4096 && !memcmp(bytes, read_back, count));
+    IS(BPFS_OK, bpfs_list(fs, PATH("/files"), &count));
+    IS(FILES, count);
+    IS(BPFS_OK, bpfs_totals(fs, &sums));
+    IS(FILES + 3, sums.files);
+    IS(2, sums.dirs);
+    IS(BPFS_OK, bpfs_space(fs, &blocks));
+    IS(BPFS_MAX_BLOCKS - 1, (uint64_t)blocks.free + blocks.live);
+    IS(sums.live, blocks.live);
+    IS(true, blocks.live < 20000);
+}
+
+/* Moves the block of /last to the last block of the image: such an image can be, and its words have numbers above 2^34. */
+static void moves_last(uint64_t *image_words) {
+    uint64_t block = 1, used = 40000, *pointer = NULL;
+    fill(12345);
+    while (block < used && memcmp(image_words + block * BPFS_BLOCK_WORDS, bytes, 4096)) block++;
+    for (uint64_t i = BPFS_BLOCK_WORDS; i + 2 < used * BPFS_BLOCK_WORDS; i++)
+        if (image_words[i] == 1 && image_words[i + 1] == block << 12 && image_words[i + 2] == 4096) pointer = image_words + i + 1;
+    if (!pointer) return IS(true, false);
+    memcpy(image_words + all_words - BPFS_BLOCK_WORDS, bytes, 4096);
+    memset(image_words + block * BPFS_BLOCK_WORDS, 255, 4096);
+    *pointer = (BPFS_MAX_BLOCKS - 1ull) << 12;
+}
+
+/* False: the system refuses the address space. */
+static bool in_memory(void) {
+    bpfs fs = BPFS_CLOSED;
+    bpfs_carrier carrier = {.put = put_words, .barrier = waits_for_nothing, .settle = waits_for_nothing};
+    const uint64_t word = 4711;
+    uint64_t before = resident(), *memory = sparse();
+    medium = sparse();
+    bool is_there = memory && medium;
+    double start = seconds(), mounted, called;
+    if (is_there) {
+        format_words(memory);
+        format_words(medium);
+        is_there = mounts_words(&fs, memory) == BPFS_OK;
+    }
+    if (is_there) {
+        mounted = seconds();
+        uint64_t at_mount = resident() - before;
+        IS(0, bpfs_bind(&fs, &carrier));
+        makes_files(&fs, &carrier);
+        has_files(&fs);
+        IS(0, bpfs_carry(&fs, &carrier));
+        called = seconds();
+        closes_words(&fs, memory);
+        moves_last(medium);
+        IS(BPFS_OK, mounts_words(&fs, medium));
+        has_files(&fs);
+        IS(BPFS_OK, bpfs_write(&fs, PATH("/last"), 4088, (const uint8_t *)&word, 8, &lack));
+        IS(word, medium[all_words - 1]);
+        uint64_t in_use = resident() - before;
+        closes_words(&fs, medium);
+        IS(true, in_use < RESIDENT);
+        printf("an image of 256 GiB in memory: mounted in %.3f s with %llu MiB, files made in %.3f s, mounted again; %llu MiB in the end\n",
+               mounted - start, (unsigned long long)at_mount >> 20, called - mounted, (unsigned long long)in_use >> 20);
+    }
+    if (memory) munmap(memory, 8 * all_words);
+    if (medium) munmap(medium, 8 * all_words);
+    return is_there;
+}
+
 /* ---- a mount */
 
 /* The available memory in bytes, or UINT64_MAX if that is not known. */
@@ -216,15 +410,6 @@ static uint64_t available(void) {
         if (sscanf(line, "MemAvailable: %llu", &kilobytes) == 1) break;
     if (it) fclose(it);
     return (uint64_t)kilobytes << 10;
-}
-
-static uint8_t bytes[PART], read_back[PART];
-
-static void fill(uint64_t at) {
-    for (size_t i = 0; i < PART; i += 8) {
-        uint64_t value = at + i + 1;
-        memcpy(bytes + i, &value, 8);
-    }
 }
 
 /* Writes a file until no block is free. Returns its size. */
@@ -283,6 +468,7 @@ int main(int argc, char **argv) {
     snprintf(image, sizeof image, "%s/large", argv[1]);
     snprintf(journal, sizeof journal, "%s/large-redo", argv[1]);
     if (!largest()) puts("left out: an image of 256 GiB (the file system has no such files)");
+    if (!in_memory()) puts("left out: an image of 256 GiB in memory (the system refuses address space for it)");
     if (available() / 8192 < blocks) puts("left out: a mount of a large image (too little memory)");
     else printf("an image of %lu blocks, full of a file of %llu bytes; ", blocks, (unsigned long long)mounts((uint32_t)blocks));
     printf("large: %d checks%s\n", checks, wrong ? ", some FAILED" : "");

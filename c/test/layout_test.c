@@ -16,6 +16,11 @@ HAS(bpfs, 16);
 AT(bpfs, volume, 0);
 AT(bpfs, is_open, 8);
 
+HAS(bpfs_lent, 24);
+AT(bpfs_lent, words, 0);
+AT(bpfs_lent, count, 8);
+AT(bpfs_lent, is_there, 16);
+
 HAS(bpfs_lack, 8);
 AT(bpfs_lack, need, 0);
 AT(bpfs_lack, free, 4);

@@ -1,4 +1,4 @@
--- How a handle gets a volume, and how it loses it.
+-- How a handle gets a volume, and how it loses it, with its memory or without.
 use Rattle.std.specs.Prelude.{◌≡◌, ◌⊎◌, ℕ, ◌*◌, ◌^◌, ◌-◌, List, [], length, min, Option, None, Some, Result, Ok, Err}
 use Rattle.bp_layout.specs.Checks.{number_of}
 use Rattle.bp_layout.specs.Formatted.{IsSized}
@@ -8,7 +8,7 @@ use Rattle.bp_scan.specs.Faults.{IsFault}
 use Rattle.bp_scan.specs.Length.{wanted_length}
 use Rattle.bp_scan.specs.declared.fault.MountFault.{MountFault}
 use Rattle.bp_scan.specs.declared.fault.MountFault.TheVariants.{NotFormatted, BadSize, Damaged, Memory as Lacking}
-use Rattle.pm_region.specs.Memory.{Memory}
+use Rattle.pm_region.specs.Memory.{Memory, current_words}
 use Rattle.bpfs_c.specs.declared.mounted.Mounted.{Mounted}
 use Rattle.bpfs_c.specs.declared.mount.Fault.{Fault}
 
@@ -76,3 +76,34 @@ pub data Opens (words : List ℕ) (old : Option Mounted) (fault : Fault) (code :
 abbrev pub ReportsWhetherHeld : Option Mounted → ℕ → Type 0
 ReportsWhetherHeld None code = code ≡ 32
 ReportsWhetherHeld (Some held) code = code ≡ 0
+
+-- The volume is over these words, and they are a file system. Else the words come back, and the fault names the cause
+-- as for `Mounts`.
+abbrev pub MountsAt : List ℕ → Result Memory (List ℕ × MountFault) → Type 0
+MountsAt words (Ok volume) = Mounts words (Ok volume)
+MountsAt words (Err (again, fault)) = (again ≡ words) × Mounts words (Err fault)
+
+-- The handle holds this volume and no listing (0), or allocation failed (12): then the handle is unchanged, and the
+-- words of the volume are lent again.
+abbrev pub HoldsAt : Memory → Option Mounted → Option (List ℕ) → ℕ → Option Mounted → Option (List ℕ) → Type 0
+HoldsAt volume old lent code new new_lent =
+    ((code ≡ 0) × (new ≡ Some (mounted_of volume)) × (new_lent ≡ lent))
+    ⊎ ((code ≡ 12) × (new ≡ old) × (new_lent ≡ Some (current_words volume)))
+
+-- Lent words are mounted where they are, as `Opens` says of a copy of them, and then belong to the handle. They are
+-- lent again if there is no volume. A handle that held a volume keeps it, and what is lent stays (33). The number is
+-- 38 where nothing is lent.
+pub data OpensAt (lent : Option (List ℕ)) (old : Option Mounted) (fault : Fault) (code : ℕ) (new : Option Mounted) (new_lent : Option (List ℕ)) (new_fault : Fault) : Type 0 where
+  nothing : lent ≡ None → old ≡ None → code ≡ 38 → new ≡ None → new_lent ≡ None → new_fault ≡ fault →
+      OpensAt lent old fault code new new_lent new_fault
+  busy : (held : Mounted) → old ≡ Some held → code ≡ 33 → new ≡ old → new_lent ≡ lent → new_fault ≡ fault →
+      OpensAt lent old fault code new new_lent new_fault
+  opened_at : (words : List ℕ) → lent ≡ Some words → old ≡ None → code ≡ 0 → Opens words old fault code new new_fault →
+      new_lent ≡ None → OpensAt lent old fault code new new_lent new_fault
+  refused : (words : List ℕ) → lent ≡ Some words → old ≡ None → Opens words old fault code new new_fault → new ≡ None →
+      new_lent ≡ Some words → OpensAt lent old fault code new new_lent new_fault
+
+-- The words of the volume that the handle held, as they are now, are lent. Without a volume nothing changes.
+abbrev pub GivesBack : Option Mounted → Option (List ℕ) → Option (List ℕ) → Type 0
+GivesBack None lent new = new ≡ lent
+GivesBack (Some held) lent new = new ≡ Some (current_words held.volume)

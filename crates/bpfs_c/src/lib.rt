@@ -11,6 +11,7 @@ pub mod listing;
 pub mod log;
 mod loose;
 pub mod mount;
+pub mod mount_at;
 pub mod mounted;
 pub mod queries;
 pub mod runs;

@@ -32,7 +32,7 @@ pub struct Fault {
 }
 
 /// Returns the number of a mount fault, and stores its details.
-fn faulty(fault: MountFault, reported: &mut Fault) -> u32
+pub(crate) fn faulty(fault: MountFault, reported: &mut Fault) -> u32
     ensures { IsMountFault fault reported.old result reported.new }
 {
     match fault {
@@ -52,7 +52,7 @@ fn faulty(fault: MountFault, reported: &mut Fault) -> u32
 }
 
 /// Tests whether an image may have this number of words.
-fn test_size(words: &[u64]) -> Result<(), MountFault>
+pub(crate) fn test_size(words: &[u64]) -> Result<(), MountFault>
     ensures { IsSizedOr words.now result }
 {
     image_length(MAX_BLOCKS, (words.len() as u64).saturating_mul(8))?;

@@ -1,18 +1,18 @@
 //! One entry of a directory.
 
-ghost use Rattle.std.specs.Prelude.{◌≡◌, ◌≢◌, ℕ, ◌/◌, ◌<◌, ◌≤◌, length, slice_index, IfSome, IfNone};
-ghost use Rattle.bp_read.specs.EntryWords.{HasWords};
+ghost use Rattle.std.specs.Prelude.{◌≡◌, ◌≢◌, ◌/◌, ◌<◌, ◌≤◌, length, IfSome, IfNone};
+ghost use Rattle.bp_layout.specs.EntryWords.{HasWords};
 ghost use Rattle.bp_cache.specs.Entries.{IsEntryAt, IsNotAt};
-ghost use Rattle.bp_layout.specs.Directory.{inumber_in, is_named_in};
+ghost use Rattle.bp_layout.specs.Directory.{inumber_in};
 ghost use Rattle.bp_layout.specs.Tree.{IsSound};
-ghost use Rattle.bp_layout.specs.Words.{Image};
 ghost use Rattle.bp_limits.specs.Limits.{entry_size};
 ghost use Rattle.bp_limits.specs.CallLimits.{max_name};
 ghost use Rattle.pm_region.specs.Memory.{words_in};
 
-use bp_limits::{ENTRY_SIZE, MAX_NAME};
+use bp_layout::{EntryView, last_word};
+use bp_limits::ENTRY_SIZE;
 use bp_read::directory::entry;
-use bp_read::{EntryView, Found, Tree};
+use bp_read::{Found, Tree};
 use pm_region::Region;
 
 /// Returns the entry in a slot; `None` if it is empty.
@@ -30,20 +30,6 @@ pub(crate) fn live_entry<R: Region>(region: &R, tree: Tree, slot: u64) -> Option
     Some(entry)
 }
 
-/// Returns whether an entry that refers to an inode has this name.
-fn has_name(entry: &EntryView<'_>, name: &[u8]) -> bool
-    requires some { slice_index entry.now.words.now 0 ≢ 0 }
-    requires short { length name.now ≤ max_name }
-    ensures { (image : Image) (root slot : ℕ) → HasWords image root slot entry.now.words.now
-        → result ≡ is_named_in image root name.now slot }
-{
-    if entry.name_len() != name.len() as u64 {
-        return false;
-    }
-    let mut buffer = [0; MAX_NAME];
-    entry.read_name(&mut buffer) == name
-}
-
 /// Returns the entry in a slot; `None` if it is not below the size, or does not refer to an inode by this name.
 pub(crate) fn find_at<R: Region>(region: &R, tree: Tree, slot: u64, name: &[u8]) -> Option<Found>
     requires sound { IsSound (words_in R.memory region.now) tree.root tree.size }
@@ -55,7 +41,7 @@ pub(crate) fn find_at<R: Region>(region: &R, tree: Tree, slot: u64, name: &[u8])
         return None;
     }
     let entry = live_entry(region, tree, slot)?;
-    if !has_name(&entry, name) {
+    if !entry.is_named(name, last_word(name)) {
         return None;
     }
     Some(Found {

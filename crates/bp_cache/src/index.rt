@@ -2,7 +2,7 @@
 
 ghost use Rattle.std.specs.Prelude.{◌≡◌, ℕ, ◌/◌, ◌<◌, ◌≤◌, true, length, IfOk, IfSome};
 ghost use Rattle.std.specs.Bool.{OnTrue};
-ghost use Rattle.bp_read.specs.EntryWords.{HasWords};
+ghost use Rattle.bp_layout.specs.EntryWords.{HasWords};
 ghost use Rattle.bp_read.specs.Spots.{FreeIs, found_slot, named_slot};
 ghost use Rattle.bp_cache.specs.Index.{CanEnter, EntersEntry, EntersSlot, IsEmptyIndex, IsIndexOf, IsIndexed, KeepsIndexed, LeavesSlot};
 ghost use Rattle.bp_layout.specs.Directory.{empty_slot_in, inumber_in, slot_named_in};
@@ -16,9 +16,10 @@ use crate::entry::{find_at, live_entry};
 use crate::hash::hash_of;
 use crate::slots::{SlotNumbers, put_in, take_out};
 use bp_free::Numbers;
+use bp_layout::EntryView;
 use bp_limits::{ENTRY_SIZE, MAX_NAME};
 use bp_read::directory::inumber;
-use bp_read::{EntryView, Found, Spot, Tree};
+use bp_read::{Found, Spot, Tree};
 use pm_region::Region;
 use std::alloc::{AllocError, Global};
 use std::collections::HashMap;

@@ -10,8 +10,8 @@ use Rattle.bp_layout.specs.Directory.{inumber_in, inumber_at, name_at}
 use Rattle.bp_layout.specs.Fields.{kind_word, name_of}
 use Rattle.bp_layout.specs.declared.fields.Kind.{Kind}
 use Rattle.bp_layout.specs.WellFormed.{IsWellFormed}
-use Rattle.bp_read.specs.EntryWords.{HasWords, IsRow}
-use Rattle.bp_read.proofs.EntryWords.{name_in-words}
+use Rattle.bp_layout.specs.EntryWords.{HasWords, IsRow}
+use Rattle.bp_layout.proofs.EntryWords.{name_in-words}
 use Rattle.bp_calls.specs.Asked.{kind_seen, entry_seen, entries_seen}
 use Rattle.bp_calls.specs.Rows.{IsEntryRow}
 use Rattle.bp_calls.proofs.ReadingLaws.{IsInode, inode_here, name_most, kind_from_word, seen-parts, seen-none}

@@ -2,7 +2,7 @@
 use Rattle.std.specs.Prelude.{◌≡◌, ◌+◌, ◌<◌, ◌≤◌, ℕ, List, [], ◌++◌}
 use Rattle.std.specs.List.{cons_option, filter_map, range_with_len}
 use Rattle.bp_calls.specs.Asked.{entry_seen}
-use Rattle.bp_read.specs.EntryWords.{HasWords, IsRow}
+use Rattle.bp_layout.specs.EntryWords.{HasWords, IsRow}
 use Rattle.bp_layout.specs.Words.{Image}
 use Rattle.bp_layout.specs.Directory.{entry_count}
 use Rattle.bp_layout.specs.Paths.{Name}

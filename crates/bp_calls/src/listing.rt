@@ -9,11 +9,11 @@ ghost use Rattle.bp_layout.specs.Reached.{IsReached};
 ghost use Rattle.bp_layout.specs.WellFormed.{IsWellFormed};
 ghost use Rattle.pm_region.specs.Memory.{words_in};
 
-use bp_layout::Listing;
+use bp_layout::{EntryView, Listing};
 use bp_limits::{BLOCK_ENTRIES, ENTRY_SIZE, ENTRY_WORDS, MAX_NAME};
 use bp_read::directory::count;
 use bp_read::inodes::{get, tree_of};
-use bp_read::{EntryView, leaf_words};
+use bp_read::leaf_words;
 use pm_region::Region;
 use std::alloc::{AllocError, Global};
 
@@ -63,7 +63,7 @@ fn list_row<R: Region>(region: &R, words: &[u64], listing: &mut Listing) -> Resu
     ensures { OnOk result (AddsEntries (words_in R.memory region.now) words.now listing.old listing.new) }
 {
     for index in 0..words.len() / ENTRY {
-        let view = EntryView::new(&words[ENTRY * index..ENTRY * index + ENTRY]);
+        let view = EntryView::in_row(words, index);
         list_entry(region, view, listing)?;
     }
     Ok(())

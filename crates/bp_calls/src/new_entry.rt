@@ -21,18 +21,18 @@ ghost use Rattle.pm_region.specs.Memory.{words_in, room_in};
 use crate::targets::{Targets, entry_path, push_end};
 use bp_append::stage_append;
 use bp_free::Parts;
-use bp_layout::Kind;
+use bp_layout::{INUMBER_WORD, Kind, LENGTH_WORD, NAME_WORD};
 use bp_limits::{ENTRY_SIZE, SIZE_FIELD, WORD_SIZE};
 use bp_read::directory::entry_place;
 use bp_read::inodes::{fill, place, root_path, size_path, tree_of};
 use bp_read::{Tree, content_word, put_name};
 use pm_region::{Region, commit_word};
 
-/// The size of a word of an entry in bytes. The first word is the inode number, the second the length of the name.
-const WORD: usize = WORD_SIZE as usize;
+/// The offset of the length of the name in an entry, in bytes: after the inode number.
+const LENGTH_AT: usize = (LENGTH_WORD * WORD_SIZE) as usize;
 
-/// The offset of the name in an entry, in bytes: after these two words.
-const NAME_AT: usize = 2 * WORD;
+/// The offset of the name in an entry, in bytes: after its length.
+const NAME_AT: usize = (NAME_WORD * WORD_SIZE) as usize;
 
 /// Returns the words near which a name of a directory is stored, given its least empty slot: the inode number of the
 /// entry there, or else the size, which then includes an entry after the last one.
@@ -72,7 +72,7 @@ pub(crate) fn enter_slot<R: Region>(
     ensures counts { CountsName (words_in R.memory region.old) (words_in R.memory region.new) ino }
 {
     let tree = tree_of(region, dir);
-    let entry = entry_place(region, tree, slot, 0);
+    let entry = entry_place(region, tree, slot, INUMBER_WORD);
     fill(region, ino, kind);
     put_name(region, entry, name);
     commit_word(region, entry, u64::from(ino));
@@ -83,10 +83,10 @@ pub(crate) fn enter_slot<R: Region>(
 fn entry_byte(ino: u32, name: &[u8], at: usize) -> u8
     ensures { result ≡ entry_byte ino name.now at }
 {
-    if at < WORD {
+    if at < LENGTH_AT {
         u64::from(ino).to_le_bytes()[at]
     } else if at < NAME_AT {
-        (name.len() as u64).to_le_bytes()[at - WORD]
+        (name.len() as u64).to_le_bytes()[at - LENGTH_AT]
     } else if at - NAME_AT < name.len() {
         name[at - NAME_AT]
     } else {
@@ -122,8 +122,9 @@ pub fn append_entry<R: Region>(parts: &mut Parts<R>, dir: u32, tree: Tree, ino: 
         size: end,
     };
     // A preparation describes bytes. The values of two words follow once they are read, as words of 64 bits.
-    let inumber = content_word(&parts.region, prepared, tree.size / WORD_SIZE);
-    let length = content_word(&parts.region, prepared, tree.size / WORD_SIZE + 1);
+    let first = tree.size / WORD_SIZE;
+    let inumber = content_word(&parts.region, prepared, first + INUMBER_WORD);
+    let length = content_word(&parts.region, prepared, first + LENGTH_WORD);
     prove_eq!(inumber, u64::from(ino));
     prove_eq!(length, name.len() as u64);
 }

@@ -16,6 +16,7 @@ use crate::release::free_tree;
 use crate::targets::leaving;
 use crate::thaw::thaw_before;
 use bp_free::{NoSpace, Parts};
+use bp_layout::INUMBER_WORD;
 use bp_read::directory::{entry_place, inumber};
 use bp_read::inodes::tree_of;
 use pm_region::{Region, commit_word};
@@ -54,7 +55,7 @@ fn take_out<R: Region>(parts: &mut Parts<R>, dir: u32, slot: u64)
     ensures { CommitsChange R.memory parts.old parts.new (leaves dir slot) (λ image after. RemovesEntry image after dir slot) }
 {
     let directory = tree_of(&parts.region, dir);
-    let entry = entry_place(&parts.region, directory, slot, 0);
+    let entry = entry_place(&parts.region, directory, slot, INUMBER_WORD);
     let ino = inumber(&parts.region, directory, slot) as u32;
     let tree = tree_of(&parts.region, ino);
     let names = parts.link_counts.names(ino) - 1;

@@ -21,7 +21,8 @@ use crate::commit::{run_for, touched_by};
 use arrayvec::ArrayVec;
 use bp_cow::cover;
 use bp_free::Parts;
-use bp_limits::ENTRY_SIZE;
+use bp_layout::INUMBER_WORD;
+use bp_limits::{ENTRY_SIZE, WORD_SIZE};
 use bp_read::inodes::{root_path, size_path, tree_of};
 use bp_read::{Slots, Tree, word_path};
 use pm_region::Region;
@@ -55,7 +56,12 @@ pub fn entry_path<R: Region>(region: &R, dir: u32, slot: u64) -> Slots
     requires live { slot < entry_count (words_in R.memory region.now) dir }
     ensures { result.items ≡ entry_path_at (heights_now (words_in R.memory region.now)) dir slot 0 }
 {
-    content_path(region, dir, tree_of(region, dir), slot * ENTRY_SIZE)
+    content_path(
+        region,
+        dir,
+        tree_of(region, dir),
+        slot * ENTRY_SIZE + WORD_SIZE * INUMBER_WORD,
+    )
 }
 
 /// Returns the target of the removal of the entry in `slot`: its inode number alone.

@@ -16,8 +16,8 @@ use Rattle.bp_layout.specs.Reached.IsReached.{inode_file, named}
 use Rattle.bp_layout.specs.WellFormed.{IsWellFormed}
 use Rattle.bp_layout.proofs.FewLeaves.{few_inodes}
 use Rattle.bp_layout.proofs.Reached.{reached-in_file}
-use Rattle.bp_read.specs.EntryWords.{HasWords, IsRow}
-use Rattle.bp_read.proofs.EntryWords.{entry_of, name_in-words}
+use Rattle.bp_layout.specs.EntryWords.{HasWords, IsRow}
+use Rattle.bp_layout.proofs.EntryWords.{entry_of, name_in-words}
 use Rattle.bp_export.specs.Entries.{entries_named, entry_named}
 use Rattle.bp_export.specs.Rows.{EachEntry, HasEntryForm, NamesReached, row_length}
 

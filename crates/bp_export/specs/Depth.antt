@@ -1,6 +1,6 @@
 -- Directories with a path below them that is too long.
 use Rattle.std.specs.Prelude.{◌≡◌, ◌≢◌, ◌↔◌, ℕ, ◌+◌, ◌<◌, ◌≤◌, List, ◌∷◌, length, Bool, IsTrue, Some}
-use Rattle.bp_read.specs.EntryWords.{HasWords, IsRow}
+use Rattle.bp_layout.specs.EntryWords.{HasWords, IsRow}
 use Rattle.bp_layout.specs.Directory.{inumber_at, name_at}
 use Rattle.bp_layout.specs.Inode.{root_of}
 use Rattle.bp_layout.specs.Lookup.{lookup_from}

@@ -3,7 +3,7 @@ use Rattle.std.specs.Prelude.{◌≡◌, ℕ, ◌==◌, List, [], ◌++◌, All,
 use Rattle.std.specs.Cmp.Lexicographic.{slice_cmp}
 use Rattle.std.specs.List.{cons_option, filter_map, range_with_len}
 use Rattle.std.specs.Ordering.{is_lt, nat_cmp}
-use Rattle.bp_read.specs.EntryWords.{HasWords, IsRow}
+use Rattle.bp_layout.specs.EntryWords.{HasWords, IsRow}
 use Rattle.bp_layout.specs.Directory.{inumber_at, lookup_in, name_at}
 use Rattle.bp_layout.specs.Paths.{Name, Path}
 use Rattle.bp_layout.specs.Inode.{root_of}

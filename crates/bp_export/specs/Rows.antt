@@ -1,6 +1,6 @@
 -- Consecutive entries of a directory, as their words.
 use Rattle.std.specs.Prelude.{◌≡◌, ◌≢◌, ℕ, ◌+◌, ◌-◌, ◌*◌, ◌/◌, ◌^◌, ◌<◌, ◌≤◌, min, List, length, slice_index, slice_range}
-use Rattle.bp_read.specs.EntryWords.{IsRow}
+use Rattle.bp_layout.specs.EntryWords.{IsRow}
 use Rattle.bp_limits.specs.Limits.{block_entries, entry_size, entry_words}
 use Rattle.bp_limits.specs.CallLimits.{max_name}
 use Rattle.bp_layout.specs.Directory.{inumber_in}

@@ -9,8 +9,7 @@ ghost use Rattle.bp_layout.specs.WellFormed.{IsWellFormed};
 ghost use Rattle.pm_region.specs.Memory.{words_in};
 
 use crate::rows::{ENTRY, entry_row, leaf_count};
-use bp_layout::Kind;
-use bp_read::EntryView;
+use bp_layout::{EntryView, Kind};
 use bp_read::inodes::{get, tree_of};
 use pm_region::Region;
 
@@ -42,7 +41,7 @@ fn has_long_entry<R: Region>(region: &R, words: &[u64], left: usize) -> bool
     ensures { ReportsLongRow (words_in R.memory region.now) words.now left result }
 {
     for index in 0..words.len() / ENTRY {
-        let view = EntryView::new(&words[ENTRY * index..ENTRY * index + ENTRY]);
+        let view = EntryView::in_row(words, index);
         if is_long(region, view, left) {
             return true;
         }

@@ -12,8 +12,8 @@ ghost use Rattle.bp_limits.specs.CallLimits.{max_name};
 ghost use Rattle.pm_region.specs.Memory.{words_in};
 
 use crate::rows::{ENTRY, entry_row, leaf_count};
+use bp_layout::EntryView;
 use bp_limits::MAX_NAME;
-use bp_read::EntryView;
 use bp_read::directory::count;
 use bp_read::inodes::tree_of;
 use pm_region::Region;
@@ -108,7 +108,7 @@ impl Entries {
         ensures { PutsRow words.now result self.old self.new }
     {
         for index in 0..words.len() / ENTRY {
-            self.add(EntryView::new(&words[ENTRY * index..ENTRY * index + ENTRY]))?;
+            self.add(EntryView::in_row(words, index))?;
         }
         Ok(())
     }

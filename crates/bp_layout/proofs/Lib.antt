@@ -29,3 +29,8 @@ pub mod Pieces
 pub mod ListedLaws
 pub mod ThawLaws
 pub mod HintLaws
+pub mod LoadedWords
+pub mod Ranges
+pub mod StoredBytes
+pub mod EntryWords
+pub mod PartLaws

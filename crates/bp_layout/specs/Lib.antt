@@ -21,6 +21,7 @@ pub mod Fields
 pub mod Listed
 pub mod Listing
 pub mod Bytes
+pub mod EntryWords
 -- stores, and a format
 pub mod Stores
 pub mod Format

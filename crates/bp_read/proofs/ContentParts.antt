@@ -6,7 +6,7 @@ use Rattle.std.proofs.lemmas.List.FromFn.{length-map-range_with_len, take-map-ra
 use Rattle.bp_layout.specs.Words.{Image}
 use Rattle.bp_layout.specs.Tree.{byte, content}
 use Rattle.bp_read.specs.Bytes.{content_part}
-use Rattle.bp_read.proofs.Ranges.{in_a_row}
+use Rattle.bp_layout.proofs.Ranges.{in_a_row}
 
 -- it is what stands there in the whole content
 pub content_part-is : (image : Image) (root size offset count : ℕ) → offset + count ≤ size → content_part image root offset count ≡ take count (drop offset (content image root size))

@@ -2,6 +2,7 @@
 use Rattle.std.proofs.Common.{◌≡◌, ℕ, zero, suc, ◌+◌, ◌-◌, ◌<◌, ◌≤◌, Bool, true, false, not, ◌==◌, length, filter, inl, inr, ◌⊎◌, refl, sym, ◌∙◌, ap, arith}
 use Rattle.std.specs.List.{range_with_len}
 use Rattle.std.proofs.lemmas.Bool.{eqb-true, eqb-false}
+use Rattle.bp_layout.proofs.Finding.{unequal}
 
 one_more : (p : ℕ → Bool) (first index end : ℕ) → index < end →
     range_with_len (first + index) (end - index) ≡ range_with_len (first + index) (suc (end - (index + 1)))
@@ -44,13 +45,6 @@ some_counted p a (suc n) k low high passes = go (λ l h. some_counted p (a + 1) 
         later rest false is = rest (omega (arith, eqb-false a k is)) (omega arith)
 
 -- a number is 0, or is not
-pub unequal : (a b : ℕ) → (a ≡ b → ⊥) → (a == b) ≡ false
-unequal a b other = go (a == b) refl
-  where
-    go : (t : Bool) → (a == b) ≡ t → (a == b) ≡ false
-    go true at = absurd (other (eqb-true a b at))
-    go false at = at
-
 pub is_some : (n : ℕ) → (n ≡ 0 → ⊥) → not (n == 0) ≡ true
 is_some n other = ap not (unequal n 0 other)
 

@@ -4,7 +4,7 @@ use Rattle.bp_layout.specs.Words.{Image, block_count, height_of, slot_word, word
 use Rattle.bp_layout.specs.Tree.{node, IsSound, IsLivePointer}
 use Rattle.bp_layout.specs.Inode.{inode_word, inode_count, kind_of, root_of, size_of}
 use Rattle.bp_layout.proofs.TreeLaws.{slot_word-at, tree_word-suc}
-use Rattle.bp_read.proofs.LoadedWords.{loaded_word}
+use Rattle.bp_layout.proofs.LoadedWords.{loaded_word}
 
 -- the leaf with an inode that is there is live
 pub leaf_pointer : (image : Image) (i : ℕ) → i < inode_count image → IsLivePointer (root_of image 0) (size_of image 0) (height_of (root_of image 0)) (i / 64)

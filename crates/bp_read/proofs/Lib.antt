@@ -4,10 +4,8 @@ pub mod ContentParts
 pub mod Digits
 pub mod ExistingPaths
 pub mod LooseWays
-pub mod LoadedWords
 pub mod NextSlot
 pub mod PathLaws
-pub mod Ranges
 pub mod NullLeaves
 pub mod RegionWords
 pub mod SetSizes
@@ -20,6 +18,4 @@ pub mod Filling
 pub mod Counting
 pub mod EntryWords
 pub mod DirectoryLeaves
-pub mod PartLaws
-pub mod WordBytes
 pub mod NameStores

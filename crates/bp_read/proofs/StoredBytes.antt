@@ -8,31 +8,10 @@ use Rattle.bp_layout.specs.Words.{Image, word, height_of, slot_word, byte_of}
 use Rattle.bp_layout.specs.Tree.{node, byte, content_word}
 use Rattle.bp_layout.proofs.TreeLaws.{tree_word-suc, slot_word-at}
 use Rattle.bp_layout.proofs.WordBytes.{to_le-byte}
-use Rattle.bp_read.specs.Bytes.{stored_byte, stored_bytes, content_part}
-use Rattle.bp_read.proofs.LoadedWords.{loaded_word}
-use Rattle.bp_read.proofs.Ranges.{from_elements, same_values}
-
--- some of the bytes of a word
-pub word_part : (image : Image) (at first n value : ℕ) → first + n ≤ 8 → value ≡ word image at →
-    between first (first + n) (to_le_bytes w64 value) ≡ stored_bytes image (8 * at + first) n
-word_part image at first n value within is =
-    from_elements (stored_byte image) (8 * at + first) n (between first (first + n) (to_le_bytes w64 value))
-    (length-between (to_le_bytes w64 value) first (first + n) (omega (arith, within)) ∙ omega arith)
-    (λ i low.
-    let here : (8 * at + first + i) / 8 ≡ at = omega (arith, within, low) in
-    let column : (8 * at + first + i) % 8 ≡ first + i = omega (arith, within, low) in
-    get_or-between (to_le_bytes w64 value) first (first + n) i 0 (omega (arith, low))
-    ∙ to_le-byte value (first + i) (omega (arith, within, low))
-    ∙ rw (here, column, is) refl)
-
--- all of them
-pub whole_word : (image : Image) (at value : ℕ) → value ≡ word image at → to_le_bytes w64 value ≡ stored_bytes image (8 * at) 8
-whole_word image at value is =
-    from_elements (stored_byte image) (8 * at) 8 (to_le_bytes w64 value) refl
-    (λ i low.
-    let here : (8 * at + i) / 8 ≡ at = omega (arith, low) in
-    let column : (8 * at + i) % 8 ≡ i = omega (arith, low) in
-    to_le-byte value i low ∙ rw (here, column, is) refl)
+use Rattle.bp_layout.specs.Bytes.{stored_byte, stored_bytes}
+use Rattle.bp_read.specs.Bytes.{content_part}
+use Rattle.bp_layout.proofs.LoadedWords.{loaded_word}
+use Rattle.bp_layout.proofs.Ranges.{from_elements, same_values}
 
 -- a byte of a tree, by the leaf that it stands in
 in_leaf : (image : Image) (root offset leaf : ℕ) → leaf ≡ node image root (height_of root) (offset / 4096) →
@@ -65,17 +44,6 @@ leaf_part image root offset n leaf present is within =
     ap₂ (λ p c. byte_of (word image p) c) place column
     ∙ ap (λ w. byte_of w ((offset + i) % 8)) (sym (slot_word-at image leaf ((offset + i) / 8 % 512) present))
     ∙ sym (in_leaf image root (offset + i) leaf (is ∙ ap (node image root (height_of root)) (sym same))))
-
--- the bytes of words that are loaded in one go
-pub run_part : (image words : Image) (first count n : ℕ) → words ≡ slice_range image first (first + count) → n ≤ 8 * count →
-    stored_bytes words 0 n ≡ stored_bytes image (8 * first) n
-run_part image words first count n run within =
-    same_values (stored_byte words) (stored_byte image) 0 (8 * first) n
-    (λ i low.
-    let here : (8 * first + i) / 8 ≡ first + (0 + i) / 8 = omega arith in
-    let column : (8 * first + i) % 8 ≡ (0 + i) % 8 = omega arith in
-    ap (λ w. byte_of w ((0 + i) % 8)) (loaded_word image words first count run ((0 + i) / 8) (omega (arith, low, within)))
-    ∙ ap₂ (λ p k. byte_of (word image p) k) (sym here) (sym column))
 
 -- a content word, by the leaf that it stands in
 pub leaf_word : (image : Image) (root leaf block i : ℕ) → i < 512 → block ≡ node image root (height_of root) leaf →

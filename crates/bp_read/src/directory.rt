@@ -7,15 +7,15 @@ ghost use Rattle.bp_layout.specs.Directory.{inumber_in, word_in, empty_slot_in, 
 ghost use Rattle.bp_limits.specs.Limits.{block_words, entry_size, entry_words};
 ghost use Rattle.bp_limits.specs.CallLimits.{max_name};
 ghost use Rattle.pm_region.specs.Memory.{words_in};
-ghost use Rattle.bp_read.specs.EntryWords.{HasWords, word_place_in};
+ghost use Rattle.bp_layout.specs.EntryWords.{HasWords};
+ghost use Rattle.bp_read.specs.EntryWords.{word_place_in};
 ghost use Rattle.bp_read.specs.Names.{name_count};
 ghost use Rattle.bp_read.specs.Spots.{FreeIs, found_slot, named_slot};
 
-use crate::entry_view::EntryView;
 use crate::leaf::{leaf_count, leaf_from};
-use crate::name_words::last_word;
 use crate::spot::{Both, Found, Spot};
 use crate::tree::{Tree, content_place, content_word};
+use bp_layout::{EntryView, INUMBER_WORD, last_word};
 use bp_limits::{BLOCK_ENTRIES, ENTRY_WORDS};
 use pm_region::Region;
 
@@ -25,7 +25,7 @@ pub fn inumber<R: Region>(region: &R, tree: Tree, slot: u64) -> u64
     requires live { slot < tree.size / entry_size }
     ensures { result ≡ inumber_in (words_in R.memory region.now) tree.root slot }
 {
-    content_word(region, tree, ENTRY_WORDS * slot)
+    content_word(region, tree, ENTRY_WORDS * slot + INUMBER_WORD)
 }
 
 /// Returns the entry in a slot, or `None` if it is empty because its block is null.

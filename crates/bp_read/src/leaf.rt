@@ -4,21 +4,18 @@ ghost use Rattle.std.specs.Prelude.{◌≡◌, ◌≢◌, ℕ, ◌+◌, ◌-◌,
 ghost use Rattle.bp_layout.specs.Tree.{IsSound};
 ghost use Rattle.bp_layout.specs.Directory.{inumber_in};
 ghost use Rattle.pm_region.specs.Memory.{words_in};
-ghost use Rattle.bp_read.specs.EntryWords.{HasWords, IsLeaf, IsRow, IsZeroEntry, last_part, part_word};
+ghost use Rattle.bp_layout.specs.EntryWords.{HasWords, IsRow, IsZeroEntry, last_part, part_word};
+ghost use Rattle.bp_read.specs.EntryWords.{IsLeaf};
 ghost use Rattle.bp_read.specs.DirectoryLeaves.{empty_in_leaf, named_in_leaf, names_in_leaf};
 ghost use Rattle.bp_read.specs.Spots.{found_slot};
 ghost use Rattle.bp_limits.specs.Limits.{block_entries, entry_size};
 ghost use Rattle.bp_limits.specs.CallLimits.{max_name};
 
-use crate::entry_view::EntryView;
-use crate::entry_words::is_named;
 use crate::spot::Found;
 use crate::tree::{Tree, leaf_block};
+use bp_layout::EntryView;
 use bp_limits::{BLOCK_ENTRIES, BLOCK_WORDS, ENTRY_SIZE, ENTRY_WORDS};
 use pm_region::Region;
-
-/// Words of an entry, as a length.
-const ENTRY: usize = ENTRY_WORDS as usize;
 
 /// Consecutive slots whose entries share a block.
 #[derive(Clone, Copy)]
@@ -68,7 +65,10 @@ impl Leaf {
     {
         // A region has fewer than 2^41 words, so the place of a word fits.
         let _words = region.words();
-        region.load_words(BLOCK_WORDS * self.block, ENTRY * self.count as usize)
+        region.load_words(
+            BLOCK_WORDS * self.block,
+            (ENTRY_WORDS * self.count) as usize,
+        )
     }
 
     /// Returns one of the entries, or `None` if all of them are empty because the block is null.
@@ -83,8 +83,7 @@ impl Leaf {
         if self.block == 0 {
             return None;
         }
-        let at = ENTRY * index as usize;
-        Some(EntryView::new(&self.words(region)[at..at + ENTRY]))
+        Some(EntryView::in_row(self.words(region), index as usize))
     }
 
     /// Returns the first entry that names an inode by this name, whose last word is `last`.
@@ -101,11 +100,11 @@ impl Leaf {
         }
         let words = self.words(region);
         for index in 0..self.count {
-            let at = ENTRY * index as usize;
-            if is_named(&words[at..at + ENTRY], name, last) {
+            let entry = EntryView::in_row(words, index as usize);
+            if entry.is_named(name, last) {
                 return Some(Found {
                     slot: self.first + index,
-                    inumber: words[at],
+                    inumber: entry.inumber(),
                 });
             }
         }
@@ -146,7 +145,7 @@ impl Leaf {
         }
         let words = self.words(region);
         for index in 0..self.count {
-            if words[ENTRY * index as usize] == 0 {
+            if EntryView::in_row(words, index as usize).inumber() == 0 {
                 return Some(self.first + index);
             }
         }
@@ -177,7 +176,7 @@ impl Leaf {
         let words = self.words(region);
         let mut names = 0;
         for index in 0..self.count {
-            if words[ENTRY * index as usize] != 0 {
+            if EntryView::in_row(words, index as usize).inumber() != 0 {
                 names += 1;
             }
         }

@@ -9,7 +9,7 @@ ghost use Rattle.pm_epochs.specs.May.{AnyAt};
 ghost use Rattle.pm_region.specs.Memory.{words_in, room_in};
 ghost use Rattle.pm_region.specs.Safe.{AddsMay};
 
-use bp_layout::name_word;
+use bp_layout::{LENGTH_WORD, NAME_WORD, name_word};
 use pm_region::Region;
 
 /// Writes a name to the entry at a place of the region: its length in bytes, and its bytes.
@@ -23,8 +23,8 @@ pub fn put_name<R: Region>(region: &mut R, place: u64, name: &[u8])
     ensures name { HasNameAt (words_in R.memory region.new) place name.now }
 {
     let _words = region.words();
-    region.store(place + 1, name.len() as u64);
+    region.store(place + LENGTH_WORD, name.len() as u64);
     for i in 0..name.len().div_ceil(8) {
-        region.store(place + 2 + i as u64, name_word(name, i));
+        region.store(place + NAME_WORD + i as u64, name_word(name, i));
     }
 }

@@ -19,6 +19,7 @@ use crate::touched_words::{touched_two, trees_of_both};
 use bp_calls::entry_path;
 use bp_cow::{FoundWays, Touched, commit_at};
 use bp_free::{NoSpace, Parts};
+use bp_layout::INUMBER_WORD;
 use bp_read::directory::{entry_place, inumber};
 use bp_read::inodes::tree_of;
 use bp_read::{Slots, put_name};
@@ -58,7 +59,7 @@ fn move_into<R: Region>(
     ensures { CommitsChange R.memory parts.old parts.new (change_across to_move.now) (RenamesEntry to_move.now) }
 {
     let target = tree_of(&parts.region, to_move.to_dir);
-    let entry = entry_place(&parts.region, target, slot, 0);
+    let entry = entry_place(&parts.region, target, slot, INUMBER_WORD);
     put_name(&mut parts.region, entry, to_move.name);
     // The store of `commit_at` has a barrier before it anyway. But its contract on crashes starts from the words that
     // it finds, so all stores before it are written back first.

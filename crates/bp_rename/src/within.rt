@@ -16,9 +16,13 @@ use crate::needs::ready_ways;
 use bp_calls::touched_by;
 use bp_cow::{Run, commit_at};
 use bp_free::{NoSpace, Parts};
-use bp_limits::{ENTRY_SIZE, MAX_NAME};
+use bp_layout::{LENGTH_WORD, NAME_WORD};
+use bp_limits::{ENTRY_SIZE, MAX_NAME, WORD_SIZE};
 use bp_read::inodes::{root_path, tree_of};
 use pm_region::Region;
+
+/// The size of the length of a name in an entry, in bytes. The name follows it.
+const LENGTH_SIZE: usize = ((NAME_WORD - LENGTH_WORD) * WORD_SIZE) as usize;
 
 /// Returns a byte of an entry after its inode number: eight are the length of the name, least significant first, and
 /// then comes the name, followed by zeros.
@@ -26,22 +30,22 @@ fn respelled_byte(name: &[u8], at: usize) -> u8
     requires { length name.now ≤ max_name }
     ensures { result ≡ respelled_byte name.now at }
 {
-    if at < 8 {
+    if at < LENGTH_SIZE {
         (name.len() as u64).to_le_bytes()[at]
-    } else if at - 8 < name.len() {
-        name[at - 8]
+    } else if at - LENGTH_SIZE < name.len() {
+        name[at - LENGTH_SIZE]
     } else {
         0
     }
 }
 
 /// Returns the bytes of an entry after its inode number.
-fn respelled(name: &[u8]) -> [u8; MAX_NAME + 8]
+fn respelled(name: &[u8]) -> [u8; MAX_NAME + LENGTH_SIZE]
     requires { length name.now ≤ max_name }
     ensures { IsRespelled name.now result }
 {
-    let mut bytes = [0; MAX_NAME + 8];
-    for at in 0..8 + name.len() {
+    let mut bytes = [0; MAX_NAME + LENGTH_SIZE];
+    for at in 0..LENGTH_SIZE + name.len() {
         bytes[at] = respelled_byte(name, at);
     }
     bytes
@@ -49,7 +53,11 @@ fn respelled(name: &[u8]) -> [u8; MAX_NAME + 8]
 
 /// Returns the run of the words that change: that of the length of the name, and those of the name up to the end of
 /// its last word.
-fn name_run<'a, R: Region>(region: &R, to_move: &Move<'_>, bytes: &'a [u8; MAX_NAME + 8]) -> Run<'a>
+fn name_run<'a, R: Region>(
+    region: &R,
+    to_move: &Move<'_>,
+    bytes: &'a [u8; MAX_NAME + LENGTH_SIZE],
+) -> Run<'a>
     requires can { CanRename (words_in R.memory region.now) to_move.now }
     requires bytes { IsRespelled to_move.now.name.now bytes.now }
     ensures { IsNameRun (words_in R.memory region.now) to_move.now.from_dir to_move.now.from_slot
@@ -60,8 +68,8 @@ fn name_run<'a, R: Region>(region: &R, to_move: &Move<'_>, bytes: &'a [u8; MAX_N
         root: root_path(region, to_move.from_dir),
         height: tree.height(),
         size: tree.size,
-        offset: to_move.from_slot * ENTRY_SIZE + 8,
-        bytes: &bytes[..8 + 8 * to_move.name.len().div_ceil(8)],
+        offset: to_move.from_slot * ENTRY_SIZE + LENGTH_WORD * WORD_SIZE,
+        bytes: &bytes[..LENGTH_SIZE + 8 * to_move.name.len().div_ceil(8)],
     }
 }
 

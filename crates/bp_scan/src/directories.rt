@@ -15,7 +15,7 @@ ghost use Rattle.pm_region.specs.Memory.{words_in};
 
 use crate::trees::enter;
 use crate::work::{Scan, make_numbers, make_room};
-use bp_layout::{Check, Kind};
+use bp_layout::{Check, INUMBER_WORD, Kind};
 use bp_limits::{ENTRY_SIZE, INODE_SIZE};
 use bp_read::Tree;
 use bp_read::directory::entry_place;
@@ -52,7 +52,7 @@ fn entry_fault<R: Region>(region: &R, directory: Directory, slot: u64, check: Ch
 {
     CheckFault {
         check,
-        place: entry_place(region, directory.tree, slot, 0),
+        place: entry_place(region, directory.tree, slot, INUMBER_WORD),
     }
 }
 

@@ -7,7 +7,8 @@ use Rattle.bp_layout.specs.Directory.{inumber_in, word_in, name_in}
 use Rattle.bp_layout.specs.Paths.{IsName}
 use Rattle.bp_layout.proofs.Finding.{map-same}
 use Rattle.bp_layout.proofs.TreeLaws.{slot_word-at}
-use Rattle.bp_read.proofs.EntryWords.{word_in-at, byte-at, leaf_pointer, leaf_in_range}
+use Rattle.bp_layout.proofs.EntryWords.{byte-at}
+use Rattle.bp_read.proofs.EntryWords.{word_in-at, leaf_pointer, leaf_in_range}
 use Rattle.bp_spelling.specs.Names.{entry_place_in}
 use Rattle.bp_spelling.specs.Places.{name_there}
 use Rattle.bp_spelling.proofs.KeyNames.{length-name}

@@ -6,7 +6,7 @@ use Rattle.std.proofs.lemmas.List.{get_or_past}
 use Rattle.std.proofs.lemmas.List.FromFn.{get_or-map-range_with_len, length-map-range_with_len}
 use Rattle.bp_layout.specs.Words.{Image, word, byte_of}
 use Rattle.bp_layout.proofs.Finding.{map-same}
-use Rattle.bp_read.proofs.WordBytes.{spelled, read_back}
+use Rattle.bp_layout.proofs.WordBytes.{spelled, read_back}
 use Rattle.pm_words.specs.Bytes.{word_of}
 use Rattle.bp_spelling.specs.Places.{name_there, key_word, keys, name_key}
 

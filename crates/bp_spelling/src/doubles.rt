@@ -9,6 +9,7 @@ ghost use Rattle.pm_region.specs.Memory.{words_in};
 
 use crate::entry::Spelled;
 use crate::name_words::{compare_words, word_at};
+use bp_layout::{LENGTH_WORD, NAME_WORDS};
 use pm_region::Region;
 use std::cmp::Ordering;
 
@@ -20,9 +21,10 @@ fn compare_bytes<R: Region>(region: &R, a: u64, b: u64, count: u64) -> Ordering
     requires second { word (words_in R.memory region.now) (b + 1) ≡ count }
     ensures { result ≡ rest_cmp (words_in R.memory region.now) a b 1 }
 {
-    for part in 1..31u64 {
-        let x = word_at(region, a + 1 + part);
-        let y = word_at(region, b + 1 + part);
+    // The words of the name follow that of its length.
+    for part in 1..NAME_WORDS as u64 + 1 {
+        let x = word_at(region, a + LENGTH_WORD + part);
+        let y = word_at(region, b + LENGTH_WORD + part);
         match compare_words(x, y, count.saturating_sub(8 * (part - 1))) {
             Ordering::Equal => {}
             unequal => return unequal,
@@ -37,8 +39,8 @@ fn compare_names<R: Region>(region: &R, a: u64, b: u64) -> Ordering
     requires b_low { b < 2 ^ 37 }
     ensures { result ≡ name_cmp (words_in R.memory region.now) a b }
 {
-    let count = word_at(region, a + 1);
-    let other = word_at(region, b + 1);
+    let count = word_at(region, a + LENGTH_WORD);
+    let other = word_at(region, b + LENGTH_WORD);
     if count < other {
         return Ordering::Less;
     }

@@ -8,6 +8,7 @@ ghost use Rattle.bp_limits.specs.CallLimits.{max_name};
 ghost use Rattle.bp_spelling.specs.Places.{name_there, IsPlain, ArePlain, ArePlainBytes, IsDots};
 ghost use Rattle.pm_region.specs.Memory.{words_in};
 
+use bp_layout::{LENGTH_WORD, NAME_WORD, NAME_WORDS};
 use bp_limits::MAX_NAME;
 use pm_region::{HEAD_WORDS, Region};
 use pm_words::low_bytes;
@@ -55,7 +56,7 @@ fn are_plain<R: Region>(region: &R, first: u64, count: u64) -> bool
     ensures { IsTrue result ↔ ArePlain (words_in R.memory region.now) first count }
 {
     let _words = region.words();
-    let words = region.load_words(first, 30);
+    let words = region.load_words(first, NAME_WORDS);
     let whole = count as usize / 8;
     if !are_plain_words(&words[..whole]) {
         return false;
@@ -82,16 +83,16 @@ pub(crate) fn is_name<R: Region>(region: &R, place: u64) -> bool
     ensures { IsTrue result ↔ IsName (name_there (words_in R.memory region.now) place) }
 {
     let _words = region.words();
-    let count = region.load(place + 1);
+    let count = region.load(place + LENGTH_WORD);
     if count == 0 {
         return false;
     }
     if count > MAX_NAME as u64 {
         return false;
     }
-    let first = region.load(place + 2);
+    let first = region.load(place + NAME_WORD);
     if is_dots(first, count) {
         return false;
     }
-    are_plain(region, place + 2, count)
+    are_plain(region, place + NAME_WORD, count)
 }

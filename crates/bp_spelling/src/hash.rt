@@ -7,6 +7,7 @@ ghost use Rattle.bp_limits.specs.CallLimits.{max_name};
 ghost use Rattle.bp_spelling.specs.Hashes.{mixed, name_hash};
 ghost use Rattle.pm_region.specs.Memory.{words_in};
 
+use bp_layout::{LENGTH_WORD, NAME_WORD, NAME_WORDS};
 use pm_region::{HEAD_WORDS, Region};
 use pm_words::low_bytes;
 
@@ -31,8 +32,8 @@ pub(crate) fn hash_name<R: Region>(region: &R, place: u64) -> u32
     ensures { result ≡ name_hash (words_in R.memory region.now) place }
 {
     let _words = region.words();
-    let count = region.load(place + 1);
-    let words = region.load_words(place + 2, 30);
+    let count = region.load(place + LENGTH_WORD);
+    let words = region.load_words(place + NAME_WORD, NAME_WORDS);
     let whole = count as usize / 8;
     let mut state = mix(0, count);
     for word in &words[..whole] {

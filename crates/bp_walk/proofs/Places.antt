@@ -6,7 +6,7 @@ use Rattle.bp_layout.specs.Inode.{root_of}
 use Rattle.bp_layout.specs.Checks.{IsFound, IsPointer, root_place}
 use Rattle.bp_layout.proofs.TreeLaws.{tree_word-zero, tree_word-suc, slot_word-at}
 use Rattle.bp_layout.proofs.OnePlace.{inode_block}
-use Rattle.bp_read.proofs.LoadedWords.{length-loaded, loaded_word}
+use Rattle.bp_layout.proofs.LoadedWords.{length-loaded, loaded_word}
 
 pub word_below : (image : Image) (at root d k : ℕ) → node image root d (k / 512) ≢ 0 → word image (place_of image at root (suc d) k) ≡ tree_word image root (suc d) k
 word_below image at root d k present = sym (slot_word-at image (node image root d (k / 512)) (k % 512) present) ∙ sym (tree_word-suc image root d k)

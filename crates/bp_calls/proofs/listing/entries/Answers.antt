@@ -5,7 +5,7 @@ use Rattle.bp_layout.specs.Inode.{root_of}
 use Rattle.bp_layout.specs.Tree.{content_word}
 use Rattle.bp_layout.specs.Words.{Image}
 use Rattle.pm_region.specs.Memory.{current_words}
-use Rattle.bp_read.specs.EntryWords.{IsRow}
+use Rattle.bp_layout.specs.EntryWords.{IsRow}
 use Rattle.bp_calls.specs.Asked.{entry_seen}
 use Rattle.bp_calls.proofs.RowLaws.{leaf_row, leaf_more, null_leaf_more}
 use Rattle.bp_calls.proofs.listing.entries.Goals as goal

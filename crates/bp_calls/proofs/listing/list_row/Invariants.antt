@@ -2,7 +2,7 @@ use Rattle.std.proofs.Common.{◌≡◌, ℕ, ◌++◌}
 use Rattle.std.specs.List.{filter_map, range_with_len}
 use Rattle.bp_layout.specs.Inode.{root_of}
 use Rattle.pm_region.specs.Memory.{current_words}
-use Rattle.bp_read.specs.EntryWords.{IsRow}
+use Rattle.bp_layout.specs.EntryWords.{IsRow}
 use Rattle.bp_calls.specs.Asked.{entry_seen}
 use Rattle.bp_calls.proofs.listing.list_row.Given as goal
 

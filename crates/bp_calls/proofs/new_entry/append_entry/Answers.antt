@@ -1,4 +1,4 @@
-use Rattle.std.proofs.Common.{sym, ◌∙◌, arith}
+use Rattle.std.proofs.Common.{◌≡◌, ◌+◌, ◌/◌, sym, ◌∙◌, arith}
 use Rattle.pm_region.specs.Memory.{current_words}
 use Rattle.bp_free.specs.Set.{members}
 use Rattle.bp_changes.specs.Sets.{in_snapshot_of}
@@ -58,23 +58,26 @@ content_word-length-requires-clause-sound g c =
 
 pub prove_eq-unreachable-requires : goal.prove_eq-unreachable-requires
 prove_eq-unreachable-requires g c =
+    let first : c.args.tree.size / 8 + 0 ≡ c.args.tree.size / 8 = omega arith in
     let number = c.content_word-inumber in
     let length = c.content_word-length in
-    let is = put_number (puts g (goal.at.prove_eq-unreachable-requires g c).After-stage_append) c.tree_of.ensures.root number.ensures length.ensures
+    let is = put_number (puts g (goal.at.prove_eq-unreachable-requires g c).After-stage_append) c.tree_of.ensures.root (rw first at number.ensures) length.ensures
     number.type_inv length.type_inv (omega (arith, c.ranges.ino)) in
     c.if-prove_eq.true (is ∙ sym c.from.ensures)
 
 pub prove_eq-unreachable-requires-2 : goal.prove_eq-unreachable-requires-2
 prove_eq-unreachable-requires-2 g c =
+    let first : c.args.tree.size / 8 + 0 ≡ c.args.tree.size / 8 = omega arith in
     let number = c.content_word-inumber in
     let length = c.content_word-length in
     c.if-prove_eq-2.true
-    (put_count (puts g (goal.at.prove_eq-unreachable-requires-2 g c).After-stage_append) c.tree_of.ensures.root number.ensures length.ensures
+    (put_count (puts g (goal.at.prove_eq-unreachable-requires-2 g c).After-stage_append) c.tree_of.ensures.root (rw first at number.ensures) length.ensures
     number.type_inv length.type_inv (omega (arith, c.ranges.ino)))
 
 pub returns-clause-puts : goal.returns-clause-puts
 returns-clause-puts g c =
+    let first : c.args.tree.size / 8 + 0 ≡ c.args.tree.size / 8 = omega arith in
     let number = c.content_word-inumber in
     let length = c.content_word-length in
-    put_done (puts g (goal.at.returns-clause-puts g c).After-stage_append) c.tree_of.ensures.root number.ensures length.ensures
+    put_done (puts g (goal.at.returns-clause-puts g c).After-stage_append) c.tree_of.ensures.root (rw first at number.ensures) length.ensures
     number.type_inv length.type_inv (omega (arith, c.ranges.ino))

@@ -2,7 +2,7 @@ use Rattle.std.proofs.Common.{◌≡◌, ◌⊎◌, ℕ, ◌+◌, ◌*◌, ◌<�
 use Rattle.std.proofs.lemmas.Bool.{cases_lt}
 use Rattle.bp_layout.specs.Words.{word}
 use Rattle.pm_region.specs.Memory.{current_words}
-use Rattle.bp_read.proofs.LoadedWords.{length-loaded, loaded_word}
+use Rattle.bp_layout.proofs.LoadedWords.{length-loaded, loaded_word}
 use Rattle.bp_cow.specs.Copies.{HoldsPrefix}
 use Rattle.bp_cow.proofs.CopyLaws.{prefix_none, prefix_more, prefix_room, prefix_long, stored_words, filled}
 use Rattle.bp_cow.proofs.copies.copy_pieces.Goals as goal

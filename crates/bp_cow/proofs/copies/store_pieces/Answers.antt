@@ -1,6 +1,6 @@
 use Rattle.std.proofs.Common.{◌≡◌, ℕ, ◌+◌, ◌*◌, ◌≤◌, length, get_or, slice_range, nat_eq, refl, ap, subst, arith}
 use Rattle.pm_region.specs.Memory.{current_words}
-use Rattle.bp_read.proofs.LoadedWords.{length-loaded, loaded_word}
+use Rattle.bp_layout.proofs.LoadedWords.{length-loaded, loaded_word}
 use Rattle.bp_cow.specs.Copies.{HoldsPrefix}
 use Rattle.bp_cow.proofs.CopyLaws.{prefix_none, prefix_more, prefix_room, prefix_long, stored_words, filled}
 use Rattle.bp_cow.proofs.copies.store_pieces.Goals as goal

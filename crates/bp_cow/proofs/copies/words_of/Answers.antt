@@ -1,6 +1,6 @@
 use Rattle.std.proofs.Common.{◌*◌, arith}
 use Rattle.pm_region.specs.Memory.{current_words}
-use Rattle.bp_read.proofs.LoadedWords.{length-loaded, loaded_word}
+use Rattle.bp_layout.proofs.LoadedWords.{length-loaded, loaded_word}
 use Rattle.bp_read.proofs.RegionWords.{length_now}
 use Rattle.bp_cow.proofs.copies.words_of.Goals as goal
 

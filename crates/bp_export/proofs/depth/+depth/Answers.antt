@@ -1,5 +1,5 @@
 use Rattle.std.proofs.Common.{◌≡◌, ◌≢◌, ℕ, ◌+◌, ◌-◌, ◌*◌, ◌<◌, ◌≤◌, List, min, length, slice_index, refl, sym, ◌∙◌, ap, subst, subst₂, arith}
-use Rattle.bp_read.proofs.EntryWords.{entry_of}
+use Rattle.bp_layout.proofs.EntryWords.{entry_of}
 use Rattle.bp_layout.specs.Directory.{entry_count, inumber_at, inumber_in, name_at}
 use Rattle.bp_layout.specs.Fields.{kind_word}
 use Rattle.bp_layout.specs.Inode.{kind_of, root_of}
@@ -73,7 +73,7 @@ has_long_entry-returns-then-is_long g t c i first count row =
     let image : Image = current_words (g.R.Region.memory c.args.region.now) in
     let index : ℕ = c.loop-index.index in
     let inside : index < count = omega (arith, row.long) in
-    let reports = c.is_long.ensures i (first + index) (rw c.new-view.ensures (entry_of image (root_of image i) first count index c.args.words.now row inside)) in (
+    let reports = c.is_long.ensures i (first + index) (rw c.in_row-view.ensures (entry_of image (root_of image i) first count index c.args.words.now row inside)) in (
       λ yes. record { slot = first + index; low = omega arith; high = omega (arith, inside); is = reports.0 c.if-is_long.true },
       λ has. refl,
     )
@@ -83,7 +83,7 @@ has_long_entry-loop-index-preserved g t c i first count row =
     let image : Image = current_words (g.R.Region.memory c.args.region.now) in
     let index : ℕ = c.loop-index.index in
     let inside : index < count = omega (arith, row.long) in
-    let reports = c.is_long.ensures i (first + index) (rw c.new-view.ensures (entry_of image (root_of image i) first count index c.args.words.now row inside)) in
+    let reports = c.is_long.ensures i (first + index) (rw c.in_row-view.ensures (entry_of image (root_of image i) first count index c.args.words.now row inside)) in
     let no = c.if-is_long.false in
     none_more image i c.args.left first index (c.loop-index.invariant i first count row) (λ is. let yes = reports.1 is in absurd (cc))
 

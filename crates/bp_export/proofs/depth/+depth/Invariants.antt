@@ -1,5 +1,5 @@
 use Rattle.std.proofs.Common.{ℕ, ◌+◌, ◌*◌, min}
-use Rattle.bp_read.specs.EntryWords.{IsRow}
+use Rattle.bp_layout.specs.EntryWords.{IsRow}
 use Rattle.bp_layout.specs.Directory.{entry_count}
 use Rattle.bp_layout.specs.Inode.{root_of}
 use Rattle.pm_region.specs.Memory.{current_words}

@@ -2,7 +2,7 @@ use Rattle.std.proofs.Common.{◌*◌, sym, ◌∙◌, ap, arith}
 use Rattle.bp_layout.proofs.TreeLaws.{slot_word-at}
 use Rattle.bp_layout.specs.Words.{slot_word}
 use Rattle.pm_region.specs.Memory.{current_words}
-use Rattle.bp_read.proofs.LoadedWords.{loaded_word}
+use Rattle.bp_layout.proofs.LoadedWords.{loaded_word}
 use Rattle.bp_read.proofs.RegionWords.{length_now}
 use Rattle.bp_read.proofs.StoredBytes.{leaf_word}
 use Rattle.bp_read.proofs.reads.leaf_words.Goals as goal

@@ -1,7 +1,7 @@
 use Rattle.std.proofs.Common.{◌+◌, ◌-◌, ◌≡◌, ◌≤◌, length, refl, arith}
 use Rattle.bp_layout.specs.Tree.{byte}
 use Rattle.pm_region.specs.Memory.{current_words}
-use Rattle.bp_read.proofs.Ranges.{counted, grown, rest_stays}
+use Rattle.bp_layout.proofs.Ranges.{counted, grown, rest_stays}
 use Rattle.bp_read.proofs.reads.read.Goals as goal
 
 pub loop-done-preserved : goal.loop-done-preserved

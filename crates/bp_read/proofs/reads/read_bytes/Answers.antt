@@ -2,8 +2,8 @@ use Rattle.std.proofs.Common.{◌∙◌, ◌+◌, ◌-◌, ◌≤◌, ◌≡◌,
 use Rattle.std.proofs.lemmas.List.{length-take-le}
 use Rattle.std.proofs.lemmas.List.FromFn.{length-map-range_with_len}
 use Rattle.pm_region.specs.Memory.{current_words}
-use Rattle.bp_read.specs.Bytes.{stored_byte}
-use Rattle.bp_read.proofs.Ranges.{filled_in_two, counted}
+use Rattle.bp_layout.specs.Bytes.{stored_byte}
+use Rattle.bp_layout.proofs.Ranges.{filled_in_two, counted}
 use Rattle.bp_read.proofs.RegionWords.{length_now}
 use Rattle.bp_read.proofs.reads.read_bytes.Goals as goal
 

@@ -1,7 +1,7 @@
 use Rattle.std.proofs.Common.{◌∙◌, length, arith}
 use Rattle.pm_region.specs.Memory.{current_words}
 use Rattle.bp_read.proofs.RegionWords.{length_now}
-use Rattle.bp_read.proofs.StoredBytes.{word_part}
+use Rattle.bp_layout.proofs.StoredBytes.{word_part}
 use Rattle.bp_read.proofs.reads.read_part.Goals as goal
 
 pub load-requires : goal.load-requires

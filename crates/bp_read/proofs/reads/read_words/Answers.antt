@@ -1,8 +1,8 @@
 use Rattle.std.proofs.Common.{◌∙◌, length, arith}
 use Rattle.pm_region.specs.Memory.{current_words}
-use Rattle.bp_read.proofs.LoadedWords.{length-loaded}
+use Rattle.bp_layout.proofs.LoadedWords.{length-loaded}
 use Rattle.bp_read.proofs.RegionWords.{length_now}
-use Rattle.bp_read.proofs.StoredBytes.{run_part}
+use Rattle.bp_layout.proofs.StoredBytes.{run_part}
 use Rattle.bp_read.proofs.reads.read_words.Goals as goal
 
 pub load_words-requires-clause-in_range : goal.load_words-requires-clause-in_range

@@ -1,6 +1,6 @@
 use Rattle.std.proofs.Common.{ℕ, ◌≡◌, ◌/◌, ◌≤◌, true≢false, arith, sym, ◌∙◌, length, eq-eqb}
 use Rattle.pm_region.specs.Memory.{current_words}
-use Rattle.bp_read.proofs.LoadedWords.{length-loaded, loaded_word}
+use Rattle.bp_layout.proofs.LoadedWords.{length-loaded, loaded_word}
 use Rattle.bp_read.proofs.RegionWords.{length_now}
 use Rattle.bp_spelling.specs.Places.{ArePlainBytes}
 use Rattle.bp_spelling.proofs.FirstWords.{of_taken, to_taken}

@@ -1,7 +1,7 @@
 use Rattle.std.proofs.Common.{◌≡◌, ℕ, ◌+◌, ◌/◌, ◌%◌, ◌^◌, ◌<◌, min, length, take, slice_index, refl, ◌∙◌, ap, ap₂, arith}
 use Rattle.std.proofs.lemmas.List.{get_or-take, length-take-le}
 use Rattle.pm_region.specs.Memory.{current_words}
-use Rattle.bp_read.proofs.LoadedWords.{length-loaded, loaded_word}
+use Rattle.bp_layout.proofs.LoadedWords.{length-loaded, loaded_word}
 use Rattle.bp_read.proofs.RegionWords.{length_now}
 use Rattle.bp_layout.specs.Words.{word}
 use Rattle.bp_spelling.specs.Hashes.{mixed}

@@ -1,4 +1,4 @@
-use Rattle.std.proofs.Common.{ℕ, ◌+◌, ◌*◌, ◌<◌, length, slice_index, slice_set, sym, ◌∙◌, ap, arith, inl, inr}
+use Rattle.std.proofs.Common.{◌≡◌, ◌+◌, ◌*◌, ◌<◌, length, slice_index, slice_set, ◌∙◌, ap, arith, inl, inr}
 use Rattle.std.proofs.lemmas.Bool.{cases_eq}
 use Rattle.std.proofs.lemmas.List.{get_or-set_same, get_or-set_other, length-set}
 use Rattle.pm_region.specs.Memory.{current_words}
@@ -8,6 +8,9 @@ use Rattle.bp_spelling.proofs.rows.named_in_row.Goals as goal
 
 pub overflow_add-place : goal.overflow_add-place
 overflow_add-place g c = omega (arith, length_now (g.R.Region.memory c.args.region.now), c.requires.within, c.loop-k-test.true)
+
+pub overflow_add-place-in-loop-k : goal.overflow_add-place-in-loop-k
+overflow_add-place-in-loop-k g c = omega (arith, length_now (g.R.Region.memory c.args.region.now), c.requires.within, c.loop-k-test.true)
 
 pub load-requires : goal.load-requires
 load-requires g c = omega (arith, length_now (g.R.Region.memory c.args.region.now), c.requires.within, c.loop-k-test.true)
@@ -21,7 +24,9 @@ loop-k-preserved g c =
     record {
       long = length-set named k c.load.result ∙ c.loop-k.invariant.long;
       read = λ i low. elim (cases_eq i k) [
-        | inl here ↦ ap (slice_index (slice_set named k c.load.result)) here ∙ get_or-set_same named k c.load.result 0 inside ∙ c.load.ensures ∙ ap (λ (n : ℕ). word image (c.args.place + 32 * n)) (sym here)
+        | inl here ↦
+            let at : c.args.place + 32 * k + 0 ≡ c.args.place + 32 * i = omega (arith, here) in
+            ap (slice_index (slice_set named k c.load.result)) here ∙ get_or-set_same named k c.load.result 0 inside ∙ c.load.ensures ∙ ap (word image) at
         | inr apart ↦ get_or-set_other named k i c.load.result 0 apart ∙ c.loop-k.invariant.read i (omega (arith, low, apart))
       ];
     }

@@ -2,7 +2,7 @@ use Rattle.std.proofs.Common.{◌≡◌, ℕ, ◌+◌, ◌*◌, ◌≤◌, List,
 use Rattle.std.specs.List.{slice_index}
 use Rattle.pm_region.specs.Memory.{Memory, Adds, current_words, stores_from}
 use Rattle.bp_layout.specs.Words.{block_of, word}
-use Rattle.bp_read.proofs.LoadedWords.{loaded_word}
+use Rattle.bp_layout.proofs.LoadedWords.{loaded_word}
 use Rattle.bp_read.proofs.RegionWords.{length_now}
 use Rattle.bp_cow.specs.Copies.{HoldsPrefix}
 use Rattle.bp_cow.proofs.CopyLaws.{filled, prefix_whole}

@@ -6,7 +6,7 @@ use Rattle.bp_layout.specs.Words.{word, block_count, block_of, height_of}
 use Rattle.bp_layout.specs.Tree.{node, covered, IsLivePointer}
 use Rattle.bp_layout.specs.Checks.{IsFollowed, Passes}
 use Rattle.pm_region.specs.Memory.{current_words}
-use Rattle.bp_read.proofs.LoadedWords.{length-loaded, loaded_word}
+use Rattle.bp_layout.proofs.LoadedWords.{length-loaded, loaded_word}
 use Rattle.bp_read.proofs.RegionWords.{length_now}
 use Rattle.bp_walk.specs.Pointed.{RefusesPointed}
 use Rattle.bp_walk.specs.Walk.{WalksBelow, IsPlace}

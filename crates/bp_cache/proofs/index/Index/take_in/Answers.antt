@@ -1,6 +1,6 @@
 use Rattle.std.proofs.Common.{◌≤◌, ◌∙◌, arith}
 use Rattle.bp_layout.specs.Directory.{word_in}
-use Rattle.bp_read.proofs.EntryWords.{name_in-words}
+use Rattle.bp_layout.proofs.EntryWords.{name_in-words}
 use Rattle.bp_cache.proofs.ChangeLaws.{entered_as}
 use Rattle.bp_cache.proofs.index.Index.take_in.Goals as goal
 

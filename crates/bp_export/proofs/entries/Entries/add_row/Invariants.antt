@@ -1,5 +1,5 @@
 use Rattle.std.proofs.Common.{◌≡◌, ℕ, ◌++◌}
-use Rattle.bp_read.specs.EntryWords.{IsRow}
+use Rattle.bp_layout.specs.EntryWords.{IsRow}
 use Rattle.bp_layout.specs.Inode.{root_of}
 use Rattle.bp_layout.specs.Words.{Image}
 use Rattle.bp_export.specs.Entries.{entries_named}

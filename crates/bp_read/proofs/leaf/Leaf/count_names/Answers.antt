@@ -1,10 +1,11 @@
-use Rattle.std.proofs.Common.{◌==◌, not, inl, inr, sym, ◌∙◌, arith}
+use Rattle.std.proofs.Common.{◌==◌, not, inl, inr, slice_index, sym, ◌∙◌, ap, arith}
 use Rattle.bp_layout.specs.Directory.{inumber_in}
 use Rattle.pm_region.specs.Memory.{current_words}
 use Rattle.bp_read.proofs.Counting.{is_some, is_none, count_on, none_counted}
-use Rattle.bp_read.proofs.EntryWords.{inumber_of, null_leaf}
+use Rattle.bp_layout.proofs.EntryWords.{inumber_of}
+use Rattle.bp_read.proofs.EntryWords.{null_leaf}
 use Rattle.bp_read.proofs.leaf.Leaf.count_names.Goals as goal
-use Rattle.bp_read.proofs.leaf.Leaf.count_names.Goals.{then-words-index-ne0, else-words-index-ne0}
+use Rattle.bp_read.proofs.leaf.Leaf.count_names.Goals.{then-inumber-ne0, else-inumber-ne0}
 
 pub returns-then-self-eq0-clause-count : goal.returns-then-self-eq0-clause-count
 returns-then-self-eq0-clause-count g c =
@@ -13,20 +14,23 @@ returns-then-self-eq0-clause-count g c =
     sym (none_counted (λ slot. not (inumber_in image leaf.tree.root slot == 0)) leaf.first leaf.count
     (λ slot low high. is_none _ (null_leaf image leaf slot c.requires c.if-self-eq0.true low high)))
 
+pub in_row-requires : goal.in_row-requires
+in_row-requires g c = omega (arith, c.words-words.ensures.long, c.loop-index-test.true)
+
 pub loop-index-preserved : goal.loop-index-preserved
 loop-index-preserved g c =
     let image = current_words (g.R.Region.memory c.args.region.now) in
     let leaf = c.args.self.now in
     let loop = c.loop-index in
-    let here = inumber_of image leaf.tree.root leaf.first leaf.count loop.index c.words-words.result.now c.words-words.ensures c.loop-index-test.true in
-    let on = count_on (λ slot. not (inumber_in image leaf.tree.root slot == 0)) loop.names c.if-words-index-ne0.names leaf.first loop.index leaf.count _ c.loop-index-test.true loop.invariant.counted in
-    elim c.if-words-index-ne0.branch [
-      | then-words-index-ne0 w ↦ record {
-        counted = on (inl (is_some _ (λ none. w.if-words-index-ne0.true (here ∙ none)), w.names-is));
+    let here = c.inumber.ensures ∙ ap (λ ws. slice_index ws 0) c.in_row.ensures ∙ inumber_of image leaf.tree.root leaf.first leaf.count loop.index c.words-words.result.now c.words-words.ensures c.loop-index-test.true in
+    let on = count_on (λ slot. not (inumber_in image leaf.tree.root slot == 0)) loop.names c.if-inumber-ne0.names leaf.first loop.index leaf.count _ c.loop-index-test.true loop.invariant.counted in
+    elim c.if-inumber-ne0.branch [
+      | then-inumber-ne0 w ↦ record {
+        counted = on (inl (is_some _ (λ none. w.if-inumber-ne0.true (here ∙ none)), w.names-is));
         few = omega (arith, w.names-is);
       }
-      | else-words-index-ne0 w ↦ record {
-        counted = on (inr (is_none _ (sym here ∙ w.if-words-index-ne0.false), w.names-is));
+      | else-inumber-ne0 w ↦ record {
+        counted = on (inr (is_none _ (sym here ∙ w.if-inumber-ne0.false), w.names-is));
         few = omega (arith, w.names-is);
       }
     ]

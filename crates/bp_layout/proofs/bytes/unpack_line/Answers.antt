@@ -1,8 +1,8 @@
 use Rattle.std.proofs.Common.{◌≡◌, ℕ, List, ◌+◌, ◌-◌, ◌*◌, refl, sym, ◌∙◌, ap, arith}
-use Rattle.bp_read.specs.Bytes.{stored_byte, stored_bytes}
-use Rattle.bp_read.proofs.Ranges.{grown}
-use Rattle.bp_read.proofs.StoredBytes.{whole_word}
-use Rattle.bp_read.proofs.reads.unpack_line.Goals as goal
+use Rattle.bp_layout.specs.Bytes.{stored_byte, stored_bytes}
+use Rattle.bp_layout.proofs.Ranges.{grown}
+use Rattle.bp_layout.proofs.StoredBytes.{whole_word}
+use Rattle.bp_layout.proofs.bytes.unpack_line.Goals as goal
 
 pub loop-i-preserved : goal.loop-i-preserved
 loop-i-preserved c =

@@ -1,6 +1,6 @@
 use Rattle.std.proofs.Common.{◌≡◌, ◌≤◌, ◌*◌, length, take}
-use Rattle.bp_read.specs.Bytes.{stored_bytes}
-use Rattle.bp_read.proofs.reads.unpack_few.Given as goal
+use Rattle.bp_layout.specs.Bytes.{stored_bytes}
+use Rattle.bp_layout.proofs.bytes.unpack_few.Given as goal
 
 abbrev pub invariant-loop-i : goal.invariant-loop-i
 invariant-loop-i l = record {

@@ -1,9 +1,9 @@
 use Rattle.std.proofs.Common.{take, drop, length, slice_index, sym, ◌∙◌, ap, arith}
 use Rattle.std.proofs.Math.Seq.{take-length}
 use Rattle.std.proofs.lemmas.List.{length-drop}
-use Rattle.bp_read.specs.Bytes.{stored_bytes}
-use Rattle.bp_read.proofs.EntryWords.{name_of-bytes}
-use Rattle.bp_read.proofs.entry_view.EntryView.read_name.Goals as goal
+use Rattle.bp_layout.specs.Bytes.{stored_bytes}
+use Rattle.bp_layout.proofs.EntryWords.{name_of-bytes}
+use Rattle.bp_layout.proofs.entry_view.EntryView.read_name.Goals as goal
 
 pub returns : goal.returns
 returns c =

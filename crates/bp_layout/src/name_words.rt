@@ -1,8 +1,9 @@
 //! Names as words, eight bytes a word, the first byte lowest. The last word of a name has its last one to eight bytes,
 //! with zeros above them.
 
-ghost use Rattle.std.specs.Prelude.{◌≡◌, ◌+◌, ◌-◌, ◌*◌, ◌/◌, ◌^◌, ◌<◌, ◌≤◌, length};
-ghost use Rattle.bp_read.specs.EntryWords.{part_word, last_part};
+ghost use Rattle.std.specs.Prelude.{◌≡◌, ℕ, ◌+◌, ◌-◌, ◌*◌, ◌/◌, ◌^◌, ◌<◌, ◌≤◌, length, slice_index};
+ghost use Rattle.bp_layout.specs.EntryWords.{part_word, last_part};
+ghost use Rattle.bp_layout.specs.Words.{byte_of};
 ghost use Rattle.pm_words.specs.Bytes.{word_of};
 
 use pm_words::read_word;
@@ -59,7 +60,7 @@ pub(crate) fn last_part(name: &[u8]) -> usize
 }
 
 /// Returns the last word of a name.
-pub(crate) fn last_word(name: &[u8]) -> u64
+pub fn last_word(name: &[u8]) -> u64
     ensures { result ≡ part_word name.now (last_part name.now) }
 {
     pack(&name[8 * last_part(name)..])
@@ -73,4 +74,19 @@ pub(crate) fn whole_word(name: &[u8], part: usize) -> u64
     let mut whole = [0; 8];
     whole.copy_from_slice(&name[8 * part..8 * part + 8]);
     read_word(&whole)
+}
+
+/// Returns a word of a name, with zeros after the name's end.
+pub fn name_word(name: &[u8], index: usize) -> u64
+    requires { index < 30 }
+    ensures { (offset : ℕ) → offset < 8 → byte_of result offset ≡ slice_index name.now (8 * index + offset) }
+{
+    let from = 8 * index;
+    if from + 8 <= name.len() {
+        whole_word(name, index)
+    } else if from < name.len() {
+        pack(&name[from..])
+    } else {
+        0
+    }
 }

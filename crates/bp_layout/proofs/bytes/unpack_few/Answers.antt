@@ -1,10 +1,10 @@
 use Rattle.std.proofs.Common.{◌∙◌, ◌*◌, ◌/◌, ◌%◌, ◌+◌, ◌-◌, ◌≤◌, ◌≡◌, length, take, refl, sym, ap, arith}
 use Rattle.std.specs.Int.{w64, to_le_bytes}
 use Rattle.bp_layout.specs.Words.{word}
-use Rattle.bp_read.specs.Bytes.{stored_byte, stored_bytes}
-use Rattle.bp_read.proofs.Ranges.{grown, filled}
-use Rattle.bp_read.proofs.StoredBytes.{whole_word, word_part}
-use Rattle.bp_read.proofs.reads.unpack_few.Goals as goal
+use Rattle.bp_layout.specs.Bytes.{stored_byte, stored_bytes}
+use Rattle.bp_layout.proofs.Ranges.{grown, filled}
+use Rattle.bp_layout.proofs.StoredBytes.{whole_word, word_part}
+use Rattle.bp_layout.proofs.bytes.unpack_few.Goals as goal
 
 pub loop-i-preserved : goal.loop-i-preserved
 loop-i-preserved c =

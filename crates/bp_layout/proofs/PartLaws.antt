@@ -11,9 +11,9 @@ use Rattle.bp_layout.specs.Words.{Image}
 use Rattle.bp_layout.specs.Tree.{byte}
 use Rattle.bp_layout.specs.Directory.{word_in, inumber_in, name_in, is_named_in}
 use Rattle.pm_words.specs.Bytes.{word_of}
-use Rattle.bp_read.proofs.Counting.{unequal}
-use Rattle.bp_read.proofs.EntryWords.{byte-at}
-use Rattle.bp_read.proofs.WordBytes.{spelled, read_back}
+use Rattle.bp_layout.proofs.Finding.{unequal}
+use Rattle.bp_layout.proofs.EntryWords.{byte-at}
+use Rattle.bp_layout.proofs.WordBytes.{spelled, read_back}
 
 -- the bytes of the name in this entry
 abbrev pub byte_in : Image → ℕ → ℕ → ℕ → ℕ
@@ -23,20 +23,22 @@ byte_in image root slot o = byte image root (256 * slot + 16 + o)
 abbrev pub SameBelow : Image → ℕ → ℕ → List ℕ → ℕ → Type 0
 SameBelow image root slot name bound = (o : ℕ) → o < bound → o < length name → byte_in image root slot o ≡ slice_index name o
 
-module _ (image : Image) (root slot part : ℕ) (name : List ℕ) where
+-- the bytes of one word of a name
+module _ (name : List ℕ) (part : ℕ) where
   length-chunk : length (take 8 (drop (8 * part) name)) ≡ min 8 (length name - 8 * part)
   length-chunk = length-take 8 (drop (8 * part) name) ∙ ap (min 8) (length-drop (8 * part) name)
 
-  chunk-at : (o : ℕ) → o < 8 → slice_index (take 8 (drop (8 * part) name)) o ≡ slice_index name (8 * part + o)
+  pub chunk-at : (o : ℕ) → o < 8 → slice_index (take 8 (drop (8 * part) name)) o ≡ slice_index name (8 * part + o)
   chunk-at o low = get_or-take 8 (drop (8 * part) name) o 0 low ∙ get_or-drop (8 * part) name o 0
 
+module _ (image : Image) (root slot part : ℕ) (name : List ℕ) where
   -- equal bytes make an equal word
   pub same_word : SameBelow image root slot name (length name) →
       word_in image root slot (2 + part) % 256 ^ min 8 (length name - 8 * part) ≡ word_of (take 8 (drop (8 * part) name))
   same_word same =
-      rw (← length-chunk) (spelled (word_in image root slot (2 + part)) (take 8 (drop (8 * part) name)) (λ o h.
-      let within : o < min 8 (length name - 8 * part) = rw length-chunk at h in
-      sym (byte-at image root slot part o (omega (arith, within))) ∙ same (8 * part + o) (omega (arith, within)) (omega (arith, within)) ∙ sym (chunk-at o (omega (arith, within)))))
+      rw (← length-chunk name part) (spelled (word_in image root slot (2 + part)) (take 8 (drop (8 * part) name)) (λ o h.
+      let within : o < min 8 (length name - 8 * part) = rw (length-chunk name part) at h in
+      sym (byte-at image root slot part o (omega (arith, within))) ∙ same (8 * part + o) (omega (arith, within)) (omega (arith, within)) ∙ sym (chunk-at name part o (omega (arith, within)))))
 
   -- an equal word has equal bytes
   pub same_more : ((o : ℕ) → slice_index (take 8 (drop (8 * part) name)) o < 256) →
@@ -51,10 +53,14 @@ module _ (image : Image) (root slot part : ℕ) (name : List ℕ) where
           let k : ℕ = o - 8 * part in
           let back : 8 * part + k ≡ o = omega arith in
           let low : k < 8 = omega (arith, below) in
-          let inside : k < length (take 8 (drop (8 * part) name)) = rw length-chunk (omega (arith, within)) in
+          let inside : k < length (take 8 (drop (8 * part) name)) = rw (length-chunk name part) (omega (arith, within)) in
           ap (byte_in image root slot) (sym back) ∙ byte-at image root slot part k low
-          ∙ read_back (word_in image root slot (2 + part)) (take 8 (drop (8 * part) name)) small (rw length-chunk is) k inside
-          ∙ chunk-at k low ∙ ap (slice_index name) back
+          ∙ read_back (word_in image root slot (2 + part)) (take 8 (drop (8 * part) name)) small (rw (length-chunk name part) is) k inside
+          ∙ chunk-at name part k low ∙ ap (slice_index name) back
+
+-- the bytes of a name from one on
+pub rest_small : (name : List ℕ) (n : ℕ) → ((k : ℕ) → slice_index name k < 256) → (o : ℕ) → slice_index (drop n name) o < 256
+rest_small name n small o = rw (get_or-drop n name o 0) (small (n + o))
 
 -- a prefix of a prefix is small where the whole is
 pub part_small : (name : List ℕ) (n : ℕ) → ((k : ℕ) → slice_index name k < 256) → (o : ℕ) → slice_index (take 8 (drop n name)) o < 256

@@ -1,9 +1,9 @@
 use Rattle.std.proofs.Common.{◌≡◌, ◌+◌, ◌-◌, ◌*◌, ◌/◌, length, drop, take, refl, sym, ◌∙◌, ap, subst, arith}
 use Rattle.std.proofs.lemmas.List.{length-drop, length-take}
-use Rattle.bp_read.specs.Bytes.{stored_byte, stored_bytes}
-use Rattle.bp_read.proofs.Ranges.{filled, grown}
-use Rattle.bp_read.proofs.StoredBytes.{run_part}
-use Rattle.bp_read.proofs.reads.unpack.Goals as goal
+use Rattle.bp_layout.specs.Bytes.{stored_byte, stored_bytes}
+use Rattle.bp_layout.proofs.Ranges.{filled, grown}
+use Rattle.bp_layout.proofs.StoredBytes.{run_part}
+use Rattle.bp_layout.proofs.bytes.unpack.Goals as goal
 
 pub loop-line-preserved : goal.loop-line-preserved
 loop-line-preserved c =

@@ -5,7 +5,7 @@ use Rattle.std.specs.Bool.{OnTrue}
 use Rattle.std.specs.HashMap.{get}
 use Rattle.std.proofs.lemmas.Bool.{cases_eq, ne_eqb}
 use Rattle.bp_layout.specs.Words.{Image}
-use Rattle.bp_layout.specs.Directory.{inumber_in, name_in}
+use Rattle.bp_layout.specs.Directory.{ino_in, name_in}
 use Rattle.bp_layout.specs.Paths.{Name}
 use Rattle.bp_cache.specs.declared.index.Index.{Index}
 use Rattle.bp_cache.specs.Entries.{HasName, KeepsName, KeepsNames}
@@ -15,12 +15,12 @@ use Rattle.bp_cache.specs.Index.{EntersSlot, IsIndexed, IsIndexOf, KeepsIndexed,
 -- ---- one entry
 
 -- an entry that names the inode that it named, by the name that it had
-pub keeps_same : (old : Image) (old_root : ℕ) (new : Image) (new_root slot : ℕ) → inumber_in new new_root slot ≡ inumber_in old old_root slot →
-    (inumber_in old old_root slot ≢ 0 → name_in new new_root slot ≡ name_in old old_root slot) → KeepsName old old_root new new_root slot
-keeps_same old old_root new new_root slot inumber name = record {
-  live = λ live none. live (inumber ∙ none);
-  empty = λ none. sym inumber ∙ none;
-  name = λ live. name (λ none. live (inumber ∙ none));
+pub keeps_same : (old : Image) (old_root : ℕ) (new : Image) (new_root slot : ℕ) → ino_in new new_root slot ≡ ino_in old old_root slot →
+    (ino_in old old_root slot ≢ 0 → name_in new new_root slot ≡ name_in old old_root slot) → KeepsName old old_root new new_root slot
+keeps_same old old_root new new_root slot ino name = record {
+  live = λ live none. live (ino ∙ none);
+  empty = λ none. sym ino ∙ none;
+  name = λ live. name (λ none. live (ino ∙ none));
 }
 
 -- what an index describes an entry it describes one that keeps its name
@@ -46,7 +46,7 @@ module _ (image : Image) (root : ℕ) (before after : Index) (name : Name) (slot
     empty = λ none. absurd (has_name.live none);
   }
 
-  pub indexed_left : LeavesSlot before after name slot → slot < length before.empties → inumber_in image root slot ≡ 0 → IsIndexed image root slot after
+  pub indexed_left : LeavesSlot before after name slot → slot < length before.empties → ino_in image root slot ≡ 0 → IsIndexed image root slot after
   indexed_left leaves room none = record {
     room = omega (arith, room, leaves.room);
     named = λ live. absurd (live none);
@@ -60,7 +60,7 @@ module _ (image : Image) (root : ℕ) (before after : Index) (name : Name) (slot
     empty = λ none. enters.empties.others other apart ∙ is.empty none;
   }
     where
-      same_hash : inumber_in image root other ≢ 0 → (hash_of name ≡ hash_of (name_in image root other)) ⊎ (hash_of name ≡ hash_of (name_in image root other) → ⊥) →
+      same_hash : ino_in image root other ≢ 0 → (hash_of name ≡ hash_of (name_in image root other)) ⊎ (hash_of name ≡ hash_of (name_in image root other) → ⊥) →
           get nat_eq after.slots (hash_of (name_in image root other)) ≡ Some other
       same_hash live (inl meets) =
           let taken : None ≡ Some other = sym enters.free ∙ ap (get nat_eq before.slots) meets ∙ is.named live in absurd (cc)
@@ -73,7 +73,7 @@ module _ (image : Image) (root : ℕ) (before after : Index) (name : Name) (slot
     empty = λ none. (leaves.empties room).others other apart ∙ is.empty none;
   }
     where
-      same_hash : inumber_in image root other ≢ 0 → (hash_of name ≡ hash_of (name_in image root other)) ⊎ (hash_of name ≡ hash_of (name_in image root other) → ⊥) →
+      same_hash : ino_in image root other ≢ 0 → (hash_of name ≡ hash_of (name_in image root other)) ⊎ (hash_of name ≡ hash_of (name_in image root other) → ⊥) →
           get nat_eq after.slots (hash_of (name_in image root other)) ≡ Some other
       same_hash live (inl meets) =
           let both : Some slot ≡ Some other = sym led ∙ ap (get nat_eq before.slots) meets ∙ is.named live in
@@ -115,7 +115,7 @@ module _ (old : Image) (old_root old_size : ℕ) (new : Image) (new_root new_siz
 
     -- a name leaves its slot, which is empty then
     pub right_left : KeepsNames old old_root old_size new new_root new_size (λ touched. touched ≡ slot) → slot < old_size / 256 → HasName old old_root slot name →
-        LeavesSlot before after name slot → inumber_in new new_root slot ≡ 0 → IsIndexOf new new_root new_size after
+        LeavesSlot before after name slot → ino_in new new_root slot ≡ 0 → IsIndexOf new new_root new_size after
     right_left keeps was has_name leaves none = record { each = λ other live. go other live (cases_eq other slot) }
       where
         go : (other : ℕ) → other < new_size / 256 → (other ≡ slot) ⊎ (other ≡ slot → ⊥) → IsIndexed new new_root other after
@@ -136,7 +136,7 @@ module _ (old : Image) (old_root old_size : ℕ) (new : Image) (new_root new_siz
 
       -- the entry in a slot moves to another one of the same directory, under any name
       pub right_moved : (target : ℕ) → target ≢ slot → KeepsNames old old_root old_size new new_root new_size (λ touched. (touched ≡ slot) ⊎ (touched ≡ target)) →
-          slot < old_size / 256 → HasName old old_root slot name → LeavesSlot before after name slot → inumber_in new new_root slot ≡ 0 →
+          slot < old_size / 256 → HasName old old_root slot name → LeavesSlot before after name slot → ino_in new new_root slot ≡ 0 →
           EntersSlot after last spelled target → HasName new new_root target spelled → IsIndexOf new new_root new_size last
       right_moved target apart_slots keeps was has_name leaves none enters has_new = record { each = λ other live. go other live (cases_eq other slot) (cases_eq other target) }
         where

@@ -1,7 +1,7 @@
 -- What each change of an image does to the names that a cache of directories knows.
 use Rattle.std.proofs.Common.{◌≡◌, ◌≢◌, ◌⊎◌, ℕ, ◌<◌, sym, ◌∙◌, ap₂, subst, subst₂, inl, inr}
 use Rattle.std.proofs.lemmas.Bool.{cases_eq}
-use Rattle.bp_layout.specs.Directory.{EntryNames, entry_count, inumber_at, name_at}
+use Rattle.bp_layout.specs.Directory.{EntryNames, entry_count, ino_at, name_at}
 use Rattle.bp_layout.specs.Inode.{IsDirectory, root_of}
 use Rattle.bp_layout.specs.Reached.{IsReached}
 use Rattle.bp_layout.specs.Reached.IsReached.{inode_file, root_directory, named}
@@ -52,13 +52,13 @@ module _ (image : Image) (i s : ℕ) (at : NameAt) (is : IsNameAt image i s at) 
     directory = subst (λ d. IsDirectory image d) (sym is.dir) n.directory;
     in_size = subst₂ (λ d r. r < entry_count image d) (sym is.dir) (sym is.slot) n.in_size;
     named = record {
-      live = λ none. n.not_empty (sym n.inumber ∙ sym (ap₂ (λ d r. inumber_at image d r) is.dir is.slot) ∙ none);
+      live = λ none. n.not_empty (sym n.ino ∙ sym (ap₂ (λ d r. ino_at image d r) is.dir is.slot) ∙ none);
       spelled = ap₂ (λ d r. name_at image d r) is.dir is.slot ∙ is.spelled;
     };
   }
 
-  empty_at : (new : Image) → inumber_at new i s ≡ 0 → inumber_at new at.dir at.slot ≡ 0
-  empty_at new none = ap₂ (λ d r. inumber_at new d r) is.dir is.slot ∙ none
+  empty_at : (new : Image) → ino_at new i s ≡ 0 → ino_at new at.dir at.slot ≡ 0
+  empty_at new none = ap₂ (λ d r. ino_at new d r) is.dir is.slot ∙ none
 
   -- what a change keeps except for slot s of directory i and its name, it keeps except for these
   named_at : (old new : Image) → KeepsNamed old new (OneSlot i s) → KeepsNamed old new (OneSlot at.dir at.slot)
@@ -84,7 +84,7 @@ named_same old new i slot was = record {
   reached = was.reached;
   directory = was.directory;
   in_size = was.in_size;
-  keeps = keeps_same old (root_of old i) new (root_of new i) slot was.same.inumber (λ some. was.same.name (λ none. some (sym was.same.inumber ∙ none)));
+  keeps = keeps_same old (root_of old i) new (root_of new i) slot was.same.ino (λ some. was.same.name (λ none. some (sym was.same.ino ∙ none)));
 }
 
 pub keeps_named : (old new : Image) (Touched : ℕ → ℕ → Type 0) → KeepsEntries old new Touched → KeepsNamed old new Touched
@@ -115,7 +115,7 @@ pub removes_leave : (old new : Image) → IsWellFormed old → (i s j : ℕ) →
 removes_leave old new wf i s j can removes at is = record {
   entries = named_at old i s at is old new (keeps_named old new (OneSlot i s) (removes_keeps_entries old new wf i s j can removes));
   stood = stands_at old i s at is j can.reached can.entry;
-  empty = empty_at old i s at is new removes.inumber;
+  empty = empty_at old i s at is new removes.ino;
   slots = other_at old i s at is old new (removes_keeps old new wf i s j can removes);
 }
 
@@ -123,7 +123,7 @@ removes_leave old new wf i s j can removes at is = record {
 
 -- Onto an entry that names an inode: it has its name still, and names the inode that moves. Only the other one is touched.
 module _ (old new : Image) (wf : IsWellFormed old) (i s k r j : ℕ) (can : CanMoveEntry old i s k r j) (moves : MovesEntry old new i s k r j)
-    (some : inumber_at old k r ≢ 0) where
+    (some : ino_at old k r ≢ 0) where
   target_named : WasNamed old new k r
   target_named = record {
     reached = can.target;
@@ -194,7 +194,7 @@ module _ (old new : Image) (same : SameDirectories old new) where
   names_on i s j reached n = record {
     directory = same.kind i reached ∙ n.directory;
     in_size = subst (λ z. s < z) (sym (same.count i reached n.directory)) n.in_size;
-    inumber = same.inumber i s reached n.directory n.in_size ∙ n.inumber;
+    ino = same.ino i s reached n.directory n.in_size ∙ n.ino;
     not_empty = n.not_empty;
   }
 
@@ -209,7 +209,7 @@ module _ (old new : Image) (same : SameDirectories old new) where
       stays : KeepsSlots old new
       stays name slot of =
           let was : IsEntryFor old name slot = entry_of_slot old name slot of in
-          let j : ℕ = inumber_at old name.0 slot in
+          let j : ℕ = ino_at old name.0 slot in
           slot_of_entry new name.0 slot j name.1 wf (reached_on name.0 of.reached) (names_on name.0 slot j of.reached was.entry)
           (same.name name.0 slot j of.reached was.entry ∙ was.spelled)
 

@@ -6,7 +6,7 @@ use Rattle.std.specs.Cmp.Lexicographic.{same_text}
 use Rattle.bp_read.specs.Spots.{found_slot}
 use Rattle.bp_read.specs.declared.spot.Found.{Found}
 use Rattle.bp_layout.specs.Words.{Image}
-use Rattle.bp_layout.specs.Directory.{inumber_in, name_in, is_named_in, slot_named_in}
+use Rattle.bp_layout.specs.Directory.{ino_in, name_in, is_named_in, slot_named_in}
 use Rattle.bp_layout.specs.Paths.{Name}
 use Rattle.bp_layout.proofs.Finding.{find-first, find-nothing}
 use Rattle.bp_layout.proofs.View.{named_true}
@@ -19,7 +19,7 @@ module _ (image : Image) (root size : ℕ) (name : Name) (index : Index) (right 
   -- the hash of a name leads to each slot that has it, so to one at most
   leads_there : (slot : ℕ) → slot < size / 256 → is_named_in image root name slot ≡ true → get nat_eq index.slots (hash_of name) ≡ Some slot
   leads_there slot live named =
-      let parts : (inumber_in image root slot ≢ 0) × (bytes_eq (name_in image root slot) name ≡ true) = named_true _ _ named in
+      let parts : (ino_in image root slot ≢ 0) × (bytes_eq (name_in image root slot) name ≡ true) = named_true _ _ named in
       let spelled : name_in image root slot ≡ name = same_text _ _ (sym parts.1) in
       ap (λ n. get nat_eq index.slots (hash_of n)) (sym spelled) ∙ (right.each slot live).named parts.0
 

@@ -2,7 +2,7 @@
 use Rattle.std.proofs.Common.{◌≡◌, ◌≢◌, ◌⊎◌, ℕ, ◌<◌, inl, inr, sym, ◌∙◌, subst}
 use Rattle.std.proofs.lemmas.Bool.{cases_eq}
 use Rattle.bp_layout.specs.Words.{Image}
-use Rattle.bp_layout.specs.Directory.{entry_count, inumber_at}
+use Rattle.bp_layout.specs.Directory.{entry_count, ino_at}
 use Rattle.bp_layout.specs.Inode.{IsDirectory}
 use Rattle.bp_layout.specs.Reached.{IsReached}
 use Rattle.bp_changes.specs.KeepsEntries.{OneSlot, TwoSlots}
@@ -73,7 +73,7 @@ module _ (old new : Image) (before after : Directories) (right : AreHeldOf old b
           (λ x y reported index. index_entered old new at x y (outside at.dir at.slot enters.entries) enters.stands reported index) was held (step here) is)
 
   left : (at : NameAt) → ChangesOne at.dir (Leaves at) before after → KeepsNamed old new (OneSlot at.dir at.slot) → NameStands old at →
-      inumber_at new at.dir at.slot ≡ 0 → AreHeldOf new after
+      ino_at new at.dir at.slot ≡ 0 → AreHeldOf new after
   left at changes keeps stood none i held has = go (changes i held has) (cases_eq i at.dir)
     where
       go : Was at.dir (Leaves at) before i held → (i ≡ at.dir) ⊎ (i ≢ at.dir) → IsHeldOf new i held

@@ -3,7 +3,7 @@ use Rattle.std.proofs.Common.{◌≡◌, ◌≢◌, ◌⊎◌, ℕ, ◌<◌, nat
 use Rattle.std.specs.HashMap.{get}
 use Rattle.std.proofs.lemmas.Bool.{cases_eq}
 use Rattle.bp_layout.specs.Words.{Image}
-use Rattle.bp_layout.specs.Directory.{entry_count, inumber_at}
+use Rattle.bp_layout.specs.Directory.{entry_count, ino_at}
 use Rattle.bp_layout.specs.Inode.{IsDirectory, root_of}
 use Rattle.bp_layout.specs.Reached.{IsReached}
 use Rattle.bp_cache.specs.declared.index.Index.{Index}
@@ -58,7 +58,7 @@ module _ (old new : Image) where
           (indexed_still at.dir slot before right (keeps slot reached directory live apart))
 
       -- the name leaves its slot, which is empty then
-      pub index_left : KeepsBut old new at.dir at.slot → inumber_at new at.dir at.slot ≡ 0 → IsIndexIn new at.dir after
+      pub index_left : KeepsBut old new at.dir at.slot → ino_at new at.dir at.slot ≡ 0 → IsIndexIn new at.dir after
       index_left keeps none reached directory = record { each = λ slot live. go slot live (cases_eq slot at.slot) }
         where
           go : (slot : ℕ) → slot < entry_count new at.dir → (slot ≡ at.slot) ⊎ (slot ≢ at.slot) → IsIndexed new (root_of new at.dir) slot after

@@ -4,7 +4,7 @@ use Rattle.bp_cache.specs.declared.name_at.NameAt.{NameAt}
 use Rattle.bp_changes.specs.KeepsEntries.{NoSlot, OneSlot, TwoSlots}
 use Rattle.bp_changes.specs.KeepsSlots.{KeepsSlots, KeepsOther, KeepsOthers}
 use Rattle.bp_cache.specs.Entries.{HasName, KeepsName}
-use Rattle.bp_layout.specs.Directory.{entry_count, inumber_at}
+use Rattle.bp_layout.specs.Directory.{entry_count, ino_at}
 use Rattle.bp_layout.specs.Hints.{NameIn}
 use Rattle.bp_layout.specs.Inode.{IsDirectory, root_of}
 use Rattle.bp_layout.specs.Reached.{IsReached}
@@ -54,7 +54,7 @@ pub record NameEnters (old new : Image) (at : NameAt) : Type 0 where
 pub record NameLeaves (old new : Image) (at : NameAt) : Type 0 where
   pub entries : KeepsNamed old new (OneSlot at.dir at.slot)
   pub stood : NameStands old at
-  pub empty : inumber_at new at.dir at.slot ≡ 0
+  pub empty : ino_at new at.dir at.slot ≡ 0
   pub slots : KeepsOther old new (name_in_directory at)
 
 -- The name `from` is removed from its slot, which is empty then. The name `to` keeps its slot, and its entry may refer
@@ -62,7 +62,7 @@ pub record NameLeaves (old new : Image) (at : NameAt) : Type 0 where
 pub record NameReplaces (old new : Image) (from to : NameAt) : Type 0 where
   pub entries : KeepsNamed old new (OneSlot from.dir from.slot)
   pub stood : NameStands old from
-  pub empty : inumber_at new from.dir from.slot ≡ 0
+  pub empty : ino_at new from.dir from.slot ≡ 0
   pub slots : KeepsOthers old new (name_in_directory from) (name_in_directory to)
 
 -- The name `from` is removed from its slot, and the name `to` is added in its own: in another directory, or as the new
@@ -72,5 +72,5 @@ pub record NameMoves (old new : Image) (from to : NameAt) : Type 0 where
   pub stood : NameStands old from
   pub stands : NameStands new to
   pub here : from.dir ≡ to.dir → from.slot ≡ to.slot
-  pub empty : from.dir ≢ to.dir → inumber_at new from.dir from.slot ≡ 0
+  pub empty : from.dir ≢ to.dir → ino_at new from.dir from.slot ≡ 0
   pub slots : KeepsOthers old new (name_in_directory from) (name_in_directory to)

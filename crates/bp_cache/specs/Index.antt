@@ -5,7 +5,7 @@ use Rattle.bp_free.specs.Set.{has}
 use Rattle.bp_cache.specs.Hashes.{hash_of}
 use Rattle.bp_cache.specs.Slots.{SetsSlot}
 use Rattle.bp_cache.specs.declared.index.Index.{Index}
-use Rattle.bp_layout.specs.Directory.{inumber_in, name_in}
+use Rattle.bp_layout.specs.Directory.{ino_in, name_in}
 use Rattle.bp_layout.specs.Paths.{Name}
 use Rattle.bp_layout.specs.Words.{Image}
 use Rattle.bp_limits.specs.Limits.{entry_size}
@@ -14,8 +14,8 @@ use Rattle.bp_limits.specs.Limits.{entry_size}
 -- is empty, its slot is among those that may be empty.
 pub record IsIndexed (image : Image) (root slot : ℕ) (index : Index) : Type 0 where
   pub room : slot < length index.empties
-  pub named : inumber_in image root slot ≢ 0 → get nat_eq index.slots (hash_of (name_in image root slot)) ≡ Some slot
-  pub empty : inumber_in image root slot ≡ 0 → has index.empties slot ≡ true
+  pub named : ino_in image root slot ≢ 0 → get nat_eq index.slots (hash_of (name_in image root slot)) ≡ Some slot
+  pub empty : ino_in image root slot ≡ 0 → has index.empties slot ≡ true
 
 -- The index is correct for each entry below the size.
 pub record IsIndexOf (image : Image) (root size : ℕ) (index : Index) : Type 0 where

@@ -6,7 +6,7 @@ ghost use Rattle.bp_cache.specs.Changes.{NameEnters, NameLeaves, NameMoves, Name
 ghost use Rattle.bp_cache.specs.Held.{ChangesOne, Enters, ForgetsBoth, Leaves};
 ghost use Rattle.bp_cache.specs.Recalled.{IsRecalled};
 ghost use Rattle.bp_read.specs.Spots.{FreeIs, found_slot, named_slot};
-ghost use Rattle.bp_layout.specs.Directory.{empty_slot, inumber_at, slot_named};
+ghost use Rattle.bp_layout.specs.Directory.{empty_slot, ino_at, slot_named};
 ghost use Rattle.bp_layout.specs.Hints.{IsSlotOf};
 ghost use Rattle.bp_layout.specs.Inode.{IsDirectory, root_of, size_of};
 ghost use Rattle.bp_layout.specs.Reached.{IsReached};
@@ -23,7 +23,7 @@ use crate::recalled::Recalled;
 use crate::searches::Searches;
 use bp_layout::Hints;
 use bp_limits::ENTRY_SIZE;
-use bp_read::directory::{find_both, find_entry, find_or_free, inumber};
+use bp_read::directory::{entry_ino, find_both, find_entry, find_or_free};
 use bp_read::{Both, Finder, Found, Spot, Tree};
 use lru::LruCache;
 use pm_region::Region;
@@ -93,7 +93,7 @@ impl DirectoryCache {
         match self.names.hint(dir, name) {
             Some(slot) => Recalled::Known(Some(Found {
                 slot,
-                inumber: inumber(region, tree, slot),
+                ino: entry_ino(region, tree, slot),
             })),
             None => Recalled::Unknown,
         }
@@ -249,8 +249,8 @@ impl DirectoryCache {
         requires other { length other.now ≤ max_name }
         requires right { IsCacheOf (words_in R.memory region.now) self.old }
         ensures slot { found_slot result.found ≡ slot_named (words_in R.memory region.now) dir one.now }
-        ensures inumber { IfSome result.found
-            (λ found. found.inumber ≡ inumber_at (words_in R.memory region.now) dir found.slot) }
+        ensures ino { IfSome result.found
+            (λ found. found.ino ≡ ino_at (words_in R.memory region.now) dir found.slot) }
         ensures named { named_slot result.spot ≡ slot_named (words_in R.memory region.now) dir other.now }
         ensures free { FreeIs result.spot (empty_slot (words_in R.memory region.now) dir) }
         ensures right { IsCacheOf (words_in R.memory region.now) self.new }

@@ -3,7 +3,7 @@
 ghost use Rattle.std.specs.Prelude.{◌≡◌, ◌≢◌, ◌/◌, ◌<◌, ◌≤◌, length, IfSome, IfNone};
 ghost use Rattle.bp_layout.specs.EntryWords.{HasWords};
 ghost use Rattle.bp_cache.specs.Entries.{IsEntryAt, IsNotAt};
-ghost use Rattle.bp_layout.specs.Directory.{inumber_in};
+ghost use Rattle.bp_layout.specs.Directory.{ino_in};
 ghost use Rattle.bp_layout.specs.Tree.{IsSound};
 ghost use Rattle.bp_limits.specs.Limits.{entry_size};
 ghost use Rattle.bp_limits.specs.CallLimits.{max_name};
@@ -20,11 +20,11 @@ pub(crate) fn live_entry<R: Region>(region: &R, tree: Tree, slot: u64) -> Option
     requires sound { IsSound (words_in R.memory region.now) tree.root tree.size }
     requires live { slot < tree.size / entry_size }
     ensures words { IfSome result (λ entry. HasWords (words_in R.memory region.now) tree.root slot entry.words.now) }
-    ensures some { IfSome result (λ entry. inumber_in (words_in R.memory region.now) tree.root slot ≢ 0) }
-    ensures none { IfNone result (inumber_in (words_in R.memory region.now) tree.root slot ≡ 0) }
+    ensures some { IfSome result (λ entry. ino_in (words_in R.memory region.now) tree.root slot ≢ 0) }
+    ensures none { IfNone result (ino_in (words_in R.memory region.now) tree.root slot ≡ 0) }
 {
     let entry = entry(region, tree, slot)?;
-    if entry.inumber() == 0 {
+    if entry.ino() == 0 {
         return None;
     }
     Some(entry)
@@ -46,6 +46,6 @@ pub(crate) fn find_at<R: Region>(region: &R, tree: Tree, slot: u64, name: &[u8])
     }
     Some(Found {
         slot,
-        inumber: entry.inumber(),
+        ino: entry.ino(),
     })
 }

@@ -5,7 +5,7 @@ ghost use Rattle.std.specs.Bool.{OnTrue};
 ghost use Rattle.bp_layout.specs.EntryWords.{HasWords};
 ghost use Rattle.bp_read.specs.Spots.{FreeIs, found_slot, named_slot};
 ghost use Rattle.bp_cache.specs.Index.{CanEnter, EntersEntry, EntersSlot, IsEmptyIndex, IsIndexOf, IsIndexed, KeepsIndexed, LeavesSlot};
-ghost use Rattle.bp_layout.specs.Directory.{empty_slot_in, inumber_in, slot_named_in};
+ghost use Rattle.bp_layout.specs.Directory.{empty_slot_in, ino_in, slot_named_in};
 ghost use Rattle.bp_layout.specs.Tree.{IsSound};
 ghost use Rattle.bp_layout.specs.Words.{Image};
 ghost use Rattle.bp_limits.specs.Limits.{entry_size};
@@ -18,7 +18,7 @@ use crate::slots::{SlotNumbers, put_in, take_out};
 use bp_free::Numbers;
 use bp_layout::EntryView;
 use bp_limits::{ENTRY_SIZE, MAX_NAME};
-use bp_read::directory::inumber;
+use bp_read::directory::entry_ino;
 use bp_read::{Found, Spot, Tree};
 use pm_region::Region;
 use std::alloc::{AllocError, Global};
@@ -114,8 +114,8 @@ impl Index {
         requires short { length name.now ≤ max_name }
         requires right { IsIndexOf (words_in R.memory region.now) tree.root tree.size self.now }
         ensures slot { found_slot result ≡ slot_named_in (words_in R.memory region.now) tree.root tree.size name.now }
-        ensures inumber { IfSome result
-            (λ found. found.inumber ≡ inumber_in (words_in R.memory region.now) tree.root found.slot) }
+        ensures ino { IfSome result
+            (λ found. found.ino ≡ ino_in (words_in R.memory region.now) tree.root found.slot) }
     {
         match self.slots.get(&hash_of(name)) {
             Some(slot) => find_at(region, tree, *slot as u64, name),
@@ -135,7 +135,7 @@ impl Index {
             if slot as u64 >= tree.size / ENTRY_SIZE {
                 return None;
             }
-            if inumber(region, tree, slot as u64) == 0 {
+            if entry_ino(region, tree, slot as u64) == 0 {
                 self.empties.give(slot);
                 return Some(slot as u64);
             }

@@ -3,7 +3,7 @@ use Rattle.std.proofs.Common.{◌≡◌, ℕ, zero, suc, ◌<◌, Bool, true, fa
 use Rattle.std.proofs.lemmas.Bool.{eqb-false}
 use Rattle.bp_layout.specs.Words.{Image}
 use Rattle.bp_layout.specs.Inode.{kind_of, size_of}
-use Rattle.bp_layout.specs.Directory.{EntryNames, inumber_at, entry_count, is_named, slot_named, empty_slot}
+use Rattle.bp_layout.specs.Directory.{EntryNames, ino_at, entry_count, is_named, slot_named, empty_slot}
 use Rattle.bp_layout.specs.Paths.{Name}
 use Rattle.bp_layout.specs.Reached.{IsReached, IsLiveBlock}
 use Rattle.bp_layout.specs.Reached.IsReached.{inode_file, root_directory, named}
@@ -43,13 +43,13 @@ module _ (old new : Image) (wf : IsWellFormed old) (same : SameMeaning old new) 
   directories_over = (view-same old new wf same).directories
 
   is_named_over : (i slot : ℕ) (name : Name) → IsReached old i → kind_of old i ≡ 2 → slot < entry_count old i → is_named new i name slot ≡ is_named old i name slot
-  is_named_over i slot name reached kind in_size = go (inumber_at old i slot == 0) refl
+  is_named_over i slot name reached kind in_size = go (ino_at old i slot == 0) refl
     where
-      go : (b : Bool) → (inumber_at old i slot == 0) ≡ b → is_named new i name slot ≡ is_named old i name slot
-      go true at = rw (directories_over.inumber i slot reached kind in_size, at) refl
+      go : (b : Bool) → (ino_at old i slot == 0) ≡ b → is_named new i name slot ≡ is_named old i name slot
+      go true at = rw (directories_over.ino i slot reached kind in_size, at) refl
       go false at =
-          let entry : EntryNames old i slot (inumber_at old i slot) = record { directory = kind; in_size = in_size; inumber = refl; not_empty = eqb-false _ _ at } in
-          rw (directories_over.inumber i slot reached kind in_size, at, directories_over.name i slot (inumber_at old i slot) reached entry) refl
+          let entry : EntryNames old i slot (ino_at old i slot) = record { directory = kind; in_size = in_size; ino = refl; not_empty = eqb-false _ _ at } in
+          rw (directories_over.ino i slot reached kind in_size, at, directories_over.name i slot (ino_at old i slot) reached entry) refl
 
   pub slot_named_over : (i : ℕ) (name : Name) → IsReached old i → kind_of old i ≡ 2 → slot_named new i name ≡ slot_named old i name
   slot_named_over i name reached kind =
@@ -59,8 +59,8 @@ module _ (old new : Image) (wf : IsWellFormed old) (same : SameMeaning old new) 
   pub empty_slot_over : (i : ℕ) → IsReached old i → kind_of old i ≡ 2 → empty_slot new i ≡ empty_slot old i
   empty_slot_over i reached kind =
       rw (directories_over.count i reached kind)
-      (find-same (λ slot. inumber_at new i slot == 0) (λ slot. inumber_at old i slot == 0) 0 (entry_count old i)
-      (λ k low high. ap (λ n. n == 0) (directories_over.inumber i k reached kind (omega (arith, high)))))
+      (find-same (λ slot. ino_at new i slot == 0) (λ slot. ino_at old i slot == 0) 0 (entry_count old i)
+      (λ k low high. ap (λ n. n == 0) (directories_over.ino i k reached kind (omega (arith, high)))))
 
 -- ---- what stays
 
@@ -85,7 +85,7 @@ module _ (old new : Image) (wf : IsWellFormed old) (prepared : IsPrepared old ne
   names_after i s j reached n = record {
     directory = kind_after i reached ∙ n.directory;
     in_size = rw (size_after i reached) n.in_size;
-    inumber = prepared.meaning.inumber i s reached n.directory n.in_size ∙ n.inumber;
+    ino = prepared.meaning.ino i s reached n.directory n.in_size ∙ n.ino;
     not_empty = n.not_empty;
   }
 

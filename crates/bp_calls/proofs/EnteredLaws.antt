@@ -1,4 +1,4 @@
--- The inumber comes into a ready entry: the directory gains the name, and no tree changes its blocks.
+-- The inode number comes into a ready entry: the directory gains the name, and no tree changes its blocks.
 use Rattle.std.proofs.Common.{◌≡◌, ◌≢◌, ℕ, ◌+◌, ◌*◌, ◌/◌, ◌%◌, ◌<◌, ◌≤◌, length, set, Option, None, Some, refl, sym, ◌∙◌, ap, arith}
 use Rattle.std.proofs.lemmas.List.FromFn.{length-map-range_with_len}
 use Rattle.bp_layout.specs.Words.{Image, byte_of}
@@ -12,8 +12,8 @@ use Rattle.bp_layout.specs.WellFormed.{IsWellFormed}
 use Rattle.bp_layout.proofs.Finding.{map-same}
 use Rattle.bp_layout.proofs.Reached.{reached-in_file}
 use Rattle.bp_layout.proofs.LookupLaws.{Shows, lookup_in-found}
-use Rattle.bp_changes.specs.Effects.{AddsNames, KeepsBlocks, LinksName, SetsInumber}
-use Rattle.bp_changes.proofs.Link.{AwaitsInumber, entry_adds, entry_links, name_of_new, kinds_stay}
+use Rattle.bp_changes.specs.Effects.{AddsNames, KeepsBlocks, LinksName, SetsIno}
+use Rattle.bp_changes.proofs.Link.{AwaitsIno, entry_adds, entry_links, name_of_new, kinds_stay}
 use Rattle.bp_changes.proofs.LinkInPlace.{store_adds, store_blocks}
 use Rattle.bp_calls.specs.Entered.{IsNewInode, IsReadyEntry}
 
@@ -38,7 +38,7 @@ not_named image wf i name reached none r k n same =
     let clash : ◌≡◌ {A = Option ℕ} None (Some k) = sym nothing ∙ found in
     absurd (cc)
 
--- a name is the same where the words after the inumber are
+-- a name is the same where the words after the inode number are
 pub name_same : (old new : Image) (r q s : ℕ) → length (name_in old r s) ≤ 240 → ((f : ℕ) → 1 ≤ f → f < 32 → word_in new q s f ≡ word_in old r s f) →
     name_in new q s ≡ name_in old r s
 name_same old new r q s few same =
@@ -59,7 +59,7 @@ file_inode image j kind e = let one : kind_of image 0 ≡ 1 = (rw e at kind) in 
 
 module _ (old : Image) (wf : IsWellFormed old) (i s j place : ℕ) (name : Name) (ready : IsReadyEntry old i s name)
     (form : IsName name) (missing : slot_named old i name ≡ None) (stands : ContentStandsAt old i (32 * s + 0) place) where
-  ready_awaits : AwaitsInumber old i s
+  ready_awaits : AwaitsIno old i s
   ready_awaits = record {
     reached = ready.reached;
     directory = ready.directory;
@@ -69,7 +69,7 @@ module _ (old : Image) (wf : IsWellFormed old) (i s j place : ℕ) (name : Name)
     new_name = λ r k n same. not_named old wf i name ready.reached missing r k n (same ∙ ready.spelled);
   }
 
-  stored : SetsInumber old (set old place j) i s j
+  stored : SetsIno old (set old place j) i s j
   stored = store_adds old wf i s j place ready_awaits stands
 
   pub entered_file : size_of (set old place j) 0 ≡ size_of old 0

@@ -38,7 +38,7 @@ module _ (old mid new : Image) (wf : IsWellFormed old) (same : SameMeaning old m
   names_before u r k reached n =
       let kind : kind_of old u ≡ 2 = sym (same.kind u reached) ∙ n.directory in
       let low : r < entry_count old u = rw (alike.count u reached kind) at n.in_size in
-      record { directory = kind; in_size = low; inumber = sym (same.inumber u r reached kind low) ∙ n.inumber; not_empty = n.not_empty }
+      record { directory = kind; in_size = low; ino = sym (same.ino u r reached kind low) ∙ n.ino; not_empty = n.not_empty }
 
   file_stays : (u : ℕ) → IsReached old u → kind_of old u ≡ 1 → size_of mid u ≡ size_of old u
   file_stays zero reached kind = absurd (omega (arith, kind))

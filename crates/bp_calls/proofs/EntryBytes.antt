@@ -1,8 +1,8 @@
--- The bytes of an entry that stand after a size read back as its inumber and its name.
+-- The bytes of an entry that stand after a size read back as its inode number and its name.
 use Rattle.std.proofs.Common.{◌≡◌, ℕ, ◌+◌, ◌-◌, ◌*◌, ◌/◌, ◌%◌, ◌^◌, ◌<◌, ◌≤◌, List, length, get_or, slice_index, refl, sym, ◌∙◌, ap, arith, le-ltb, lt-ltb}
 use Rattle.bp_append.specs.Given.{given}
 use Rattle.bp_append.proofs.LaidLaws.{given-there}
-use Rattle.bp_layout.specs.Directory.{inumber_in, name_in, word_in}
+use Rattle.bp_layout.specs.Directory.{ino_in, name_in, word_in}
 use Rattle.bp_layout.specs.Paths.{Name}
 use Rattle.bp_layout.specs.Tree.{byte, content_word}
 use Rattle.bp_layout.specs.Words.{Image, byte_of}
@@ -44,8 +44,8 @@ module _ (image : Image) (root size j : ℕ) (name : Name) (bytes : List ℕ) (e
   name_byte o = let rest : 16 + o - 16 ≡ o = omega arith in rw (le-ltb (16 + o) 8 (omega arith), le-ltb (16 + o) 16 (omega arith), rest) refl
 
   -- once the words are known to be of 64 bits
-  pub inumber_there : j < 2 ^ 64 → content_word image root (size / 8) < 2 ^ 64 → content_word image root (size / 8) ≡ j
-  inumber_there high low =
+  pub ino_there : j < 2 ^ 64 → content_word image root (size / 8) < 2 ^ 64 → content_word image root (size / 8) ≡ j
+  ino_there high low =
       same_word (content_word image root (size / 8)) j low high
       (λ c few. let first : size / 8 + 0 ≡ size / 8 = omega arith in let column : 8 * 0 + c ≡ c = omega arith in (rw (first, column) at (word_byte 0 c (omega arith) few)) ∙ entry c (omega (arith, few)) ∙ rw (lt-ltb c 8 few) refl)
 
@@ -53,8 +53,8 @@ module _ (image : Image) (root size j : ℕ) (name : Name) (bytes : List ℕ) (e
   length_there high low = same_word (content_word image root (size / 8 + 1)) (length name) low high (λ c few. word_byte 1 c (omega arith) few ∙ entry (8 + c) (omega (arith, few)) ∙ count_byte c few)
 
   -- the entry is read
-  pub inumber_read : content_word image root (size / 8) ≡ j → inumber_in image root (size / 256) ≡ j
-  inumber_read is = let at : 32 * (size / 256) + 0 ≡ size / 8 = omega (arith, entries) in rw at is
+  pub ino_read : content_word image root (size / 8) ≡ j → ino_in image root (size / 256) ≡ j
+  ino_read is = let at : 32 * (size / 256) + 0 ≡ size / 8 = omega (arith, entries) in rw at is
 
   pub name_read_back : length name ≤ 240 → content_word image root (size / 8 + 1) ≡ length name → name_in image root (size / 256) ≡ name
   name_read_back short is =

@@ -8,7 +8,7 @@ use Rattle.std.proofs.lemmas.List.{length-set}
 use Rattle.bp_layout.specs.Words.{Image, word, byte_of, height_of, slot_word}
 use Rattle.bp_layout.specs.Tree.{node, content_word, HasBlock, IsSound, IsFull, IsLiveWord}
 use Rattle.bp_layout.specs.Inode.{inode_word, kind_of, root_of, size_of, inode_count, ContentStandsAt}
-use Rattle.bp_layout.specs.Directory.{EntryNames, name_at, inumber_at, entry_word, entry_count, slot_named}
+use Rattle.bp_layout.specs.Directory.{EntryNames, name_at, ino_at, entry_word, entry_count, slot_named}
 use Rattle.bp_layout.specs.Paths.{Name, IsName}
 use Rattle.bp_layout.specs.Reached.{IsReached}
 use Rattle.bp_layout.specs.Reached.IsReached.{inode_file}
@@ -189,12 +189,12 @@ module _ (old : Image) (wf : IsWellFormed old) (n j place : ℕ) (name : Name) (
   names_stay u r k reached named = record {
     directory = kind_stays u (in_file u reached) ∙ named.directory;
     in_size = count_grows u r reached named.in_size;
-    inumber = word_stays u r 0 reached named.directory named.in_size (omega arith) ∙ named.inumber;
+    ino = word_stays u r 0 reached named.directory named.in_size (omega arith) ∙ named.ino;
     not_empty = named.not_empty;
   }
 
-  entered_here : inumber_at new (suc n) (size_of old (suc n) / 256) ≡ j
-  entered_here = word_here 0 (omega arith) ∙ ready.inumber
+  entered_here : ino_at new (suc n) (size_of old (suc n) / 256) ≡ j
+  entered_here = word_here 0 (omega arith) ∙ ready.ino
 
   names_back : (u r k : ℕ) → IsReached old u → EntryNames new u r k → IsNewEntry (suc n) (size_of old (suc n) / 256) j u r k ⊎ EntryNames old u r k
   names_back u r k reached named = go (slot_cases u r reached named.in_size)
@@ -203,11 +203,11 @@ module _ (old : Image) (wf : IsWellFormed old) (n j place : ℕ) (name : Name) (
       kind = sym (kind_stays u (in_file u reached)) ∙ named.directory
 
       go : (r < entry_count old u) ⊎ ((u ≡ suc n) × (r ≡ size_of old (suc n) / 256)) → IsNewEntry (suc n) (size_of old (suc n) / 256) j u r k ⊎ EntryNames old u r k
-      go (inl low) = inr (record { directory = kind; in_size = low; inumber = sym (word_stays u r 0 reached kind low (omega arith)) ∙ named.inumber; not_empty = named.not_empty })
+      go (inl low) = inr (record { directory = kind; in_size = low; ino = sym (word_stays u r 0 reached kind low (omega arith)) ∙ named.ino; not_empty = named.not_empty })
       go (inr at) = inl (record {
         directory = at.0;
         slot = at.1;
-        inode = sym named.inumber ∙ subst₂ (λ x y. inumber_at new x y ≡ j) (sym at.0) (sym at.1) entered_here;
+        inode = sym named.ino ∙ subst₂ (λ x y. ino_at new x y ≡ j) (sym at.0) (sym at.1) entered_here;
       })
 
   name_stays : (u r k : ℕ) → IsReached old u → EntryNames old u r k → name_at new u r ≡ name_at old u r
@@ -301,7 +301,7 @@ module _ (old : Image) (wf : IsWellFormed old) (n j place : ℕ) (name : Name) (
       entry = record {
         directory = kind_stays (suc n) (in_file (suc n) ready.reached) ∙ ready.directory;
         in_size = omega (arith, count_here);
-        inumber = entered_here;
+        ino = entered_here;
         not_empty = some;
       };
       same_names = name_stays;

@@ -135,7 +135,7 @@ module _ (old mid : Image) (taken : List ℕ) (wf : IsWellFormed old) (ready : P
     size = λ i r. size_stays mid end i ∙ ready.meaning.size i r;
     inode_blocks = rw size_here (omega (arith, wf.inode_blocks));
     inodes = omega (arith, size_here);
-    inumber = λ i s r kind low. word_here i (32 * s + 0) ∙ ready.meaning.inumber i s r kind low;
+    ino = λ i s r kind low. word_here i (32 * s + 0) ∙ ready.meaning.ino i s r kind low;
     entry = λ i s j f r n few. word_here i (32 * s + f) ∙ ready.meaning.entry i s j f r n few;
     bytes = λ i o r kind low. byte_here i o ∙ ready.meaning.bytes i o r kind low;
   }

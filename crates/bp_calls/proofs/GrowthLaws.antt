@@ -4,7 +4,7 @@ use Rattle.std.proofs.lemmas.Bool.{cases_eq}
 use Rattle.bp_layout.specs.Words.{Image, block_of}
 use Rattle.bp_layout.specs.Tree.{node, HasBlock, IsLivePointer}
 use Rattle.bp_layout.specs.Inode.{kind_of, root_of, size_of}
-use Rattle.bp_layout.specs.Directory.{inumber_at, entry_count, empty_slot}
+use Rattle.bp_layout.specs.Directory.{ino_at, entry_count, empty_slot}
 use Rattle.bp_layout.specs.Members.{Has}
 use Rattle.bp_layout.specs.Reached.{IsReached, IsLiveBlock, IsFreeBlock}
 use Rattle.bp_layout.specs.Reached.IsReached.{inode_file}
@@ -101,5 +101,5 @@ module _ (old new : Image) (taken : List ℕ) (wf : IsWellFormed old) (adds : Ad
     pub longer_empty_slot : empty_slot new i ≡ empty_slot old i
     longer_empty_slot =
         rw (longer_size i reached no_inode_file)
-        (find-same (λ slot. inumber_at new i slot == 0) (λ slot. inumber_at old i slot == 0) 0 (entry_count old i)
-        (λ k low high. ap (λ n. n == 0) (adds.meaning.inumber i k reached kind (omega (arith, high)))))
+        (find-same (λ slot. ino_at new i slot == 0) (λ slot. ino_at old i slot == 0) 0 (entry_count old i)
+        (λ k low high. ap (λ n. n == 0) (adds.meaning.ino i k reached kind (omega (arith, high)))))

@@ -8,7 +8,7 @@ use Rattle.bp_append.proofs.TallyLaws.{span-suc}
 use Rattle.bp_layout.specs.Words.{Image, block_of, height_of}
 use Rattle.bp_layout.specs.Tree.{span, covered, IsLivePointer, IsLiveWord, IsSound}
 use Rattle.bp_layout.specs.Inode.{kind_of, root_of, size_of, inode_count}
-use Rattle.bp_layout.specs.Directory.{empty_slot, inumber_at}
+use Rattle.bp_layout.specs.Directory.{empty_slot, ino_at}
 use Rattle.bp_layout.specs.Need.{Beyond, new_entry, height_after, inode_word_path, entry_path, entered, touched, is_there, is_there_after, copied, cover, need, path_number}
 use Rattle.bp_layout.specs.Need.Change.{enters}
 use Rattle.bp_layout.specs.Need.Entrant.{grown, linked}
@@ -128,7 +128,7 @@ module _ (image : Image) (wf : IsWellFormed image) (n : ℕ) (reached : IsReache
 
   module _ (s : ℕ) (found : empty_slot image i ≡ Some s) where
     low_slot : s < size_of image i / 256
-    low_slot = let finds = find-passes (λ slot. inumber_at image i slot == 0) 0 (size_of image i / 256) s found in omega (arith, finds.high)
+    low_slot = let finds = find-passes (λ slot. ino_at image i slot == 0) 0 (size_of image i / 256) s found in omega (arith, finds.high)
 
     here : heights i ≡ height_of (root_of image i)
     here =

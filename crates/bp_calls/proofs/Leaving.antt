@@ -1,4 +1,4 @@
--- A name leaves its directory by a store of 0 to its inumber, and the blocks and the number of its inode come back.
+-- A name leaves its directory by a store of 0 to its inode number, and the blocks and the number of its inode come back.
 use Rattle.std.proofs.Common.{◌≡◌, ◌≢◌, ◌⊎◌, ℕ, suc, ◌+◌, ◌*◌, ◌/◌, ◌%◌, ◌<◌, ◌≤◌, List, [], length, set, slice_index, Bool, true, false, ◌-◌, refl, sym, ◌∙◌, ap, ap₂, subst, arith, inl, inr}
 use Rattle.std.proofs.lemmas.Bool.{cases_Bool, cases_eq}
 use Rattle.std.proofs.lemmas.List.{length-set}
@@ -19,7 +19,7 @@ use Rattle.bp_free.specs.Set.{Set, has, with}
 use Rattle.bp_free.specs.declared.parts.Parts.{Parts}
 use Rattle.bp_free.proofs.Members.{has_with_other, has_with_same}
 use Rattle.bp_layout.proofs.FewLeaves.{few_inodes}
-use Rattle.bp_layout.specs.Directory.{EntryNames, inumber_at, inumber_in}
+use Rattle.bp_layout.specs.Directory.{EntryNames, ino_at, ino_in}
 use Rattle.bp_layout.specs.Inode.{ContentStandsAt, inode_count, kind_of, root_of, size_of}
 use Rattle.bp_layout.specs.Names.{AreCounts}
 use Rattle.bp_layout.specs.Need.{Change, copied, cover, entry_path, is_there_after, need}
@@ -54,22 +54,22 @@ use Rattle.bp_calls.proofs.Trees.{live_leaf}
 use Rattle.bp_calls.proofs.TargetPaths.{leaving_targets}
 use Rattle.bp_calls.proofs.SetLaws.{free_blocks_stay, free_inodes_stay}
 
--- an entry that may go, and where its inumber stands
+-- an entry that may go, and where its inode number stands
 pub record CanLeave (image : Image) (i s j place : ℕ) : Type 0 where
   pub well_formed : IsWellFormed image
   pub unlink : CanUnlink image i s j
   pub stands : ContentStandsAt image i (32 * s + 0) place
 
 -- as it is found: the tree of the directory is read first, and its entry then
-pub found_leaving : (image : Image) (i s j place root : ℕ) → IsWellFormed image → CanUnlink image i s (inumber_at image i s) → root ≡ root_of image i → j ≡ inumber_in image root s →
+pub found_leaving : (image : Image) (i s j place root : ℕ) → IsWellFormed image → CanUnlink image i s (ino_at image i s) → root ≡ root_of image i → j ≡ ino_in image root s →
     place ≡ 512 * node image root (height_of root) ((32 * s + 0) / 512) + (32 * s + 0) % 512 → node image root (height_of root) ((32 * s + 0) / 512) ≢ 0 → CanLeave image i s j place
 found_leaving image i s j place root wf can root_is names place_is present = record {
   well_formed = wf;
-  unlink = subst (CanUnlink image i s) (sym (names ∙ ap (λ r. inumber_in image r s) root_is)) can;
+  unlink = subst (CanUnlink image i s) (sym (names ∙ ap (λ r. ino_in image r s) root_is)) can;
   stands = record { present = rw root_is at present; at = sym (rw root_is at place_is) };
 }
 
--- ---- what an entry's inumber covers and needs
+-- ---- what an entry's inode number covers and needs
 
 module _ (image : Image) (wf : IsWellFormed image) (i s j : ℕ) (reached : IsReached image i) (entry : EntryNames image i s j) where
   whole : AllThere (is_there_after image (leaves i s)) [] (entry_path image (leaves i s) i s 0)
@@ -109,7 +109,7 @@ module _ {image : Image} {i s j place : ℕ} (can : CanLeave image i s j place) 
   named_reached = named s reached entry
 
   pub named_few : j < block_inodes * max_blocks
-  named_few = few_inode image wf j (wf.inumbers i s j reached entry)
+  named_few = few_inode image wf j (wf.inos i s j reached entry)
 
   removes : RemovesEntry image last i s
   removes = store_removes image wf i s j place can.unlink can.stands
@@ -167,7 +167,7 @@ module _ {image : Image} {i s j place : ℕ} (can : CanLeave image i s j place) 
 
     pub inode_in_room : j < length inodes
     inode_in_room =
-        let low : j < inode_count image = wf.inumbers i s j reached entry in
+        let low : j < inode_count image = wf.inos i s j reached entry in
         let few : size_of image 0 / 64 ≤ 64 * block_count image = few_inodes image (root_of image 0) (size_of image 0) (wf.sound 0 inode_file) wf.full_inode_file (omega (arith, wf.formatted.sized.at_least)) wf.inode_blocks in
         omega (arith, low, few, exact.inode_room)
 
@@ -199,7 +199,7 @@ module _ {image : Image} {i s j place : ℕ} (can : CanLeave image i s j place) 
         record {
           directory = removes.kind more.directory inside ∙ more.names.directory;
           in_size = subst (λ z. more.slot < z / 256) (sym (removes.size more.directory inside)) more.names.in_size;
-          inumber = removes.entry more.directory more.slot 0 more.reached more.names.directory more.names.in_size (omega arith) (λ e same. more.other (sym e) (omega (arith, same))) ∙ more.names.inumber;
+          ino = removes.entry more.directory more.slot 0 more.reached more.names.directory more.names.in_size (omega arith) (λ e same. more.other (sym e) (omega (arith, same))) ∙ more.names.ino;
           not_empty = more.names.not_empty;
         }
 

@@ -4,7 +4,7 @@ use Rattle.bp_changes.specs.Effects.{CanUnlink}
 use Rattle.bp_changes.specs.SameMeaning.{SameMeaning}
 use Rattle.bp_changes.proofs.ReachedOn.{names_on, reached_on}
 use Rattle.bp_changes.proofs.SameMeaning.{names-back}
-use Rattle.bp_layout.specs.Directory.{inumber_at}
+use Rattle.bp_layout.specs.Directory.{ino_at}
 use Rattle.bp_layout.specs.Reached.IsReached.{named}
 use Rattle.bp_layout.specs.WellFormed.{IsWellFormed}
 use Rattle.bp_layout.specs.Words.{Image}
@@ -18,6 +18,6 @@ unlinks_on image after wf same i s j can = record {
 }
 
 -- and names the same inode there
-pub leaving_on : (image after : Image) → IsWellFormed image → SameMeaning image after → (i s : ℕ) → CanUnlink image i s (inumber_at image i s) → CanUnlink after i s (inumber_at after i s)
+pub leaving_on : (image after : Image) → IsWellFormed image → SameMeaning image after → (i s : ℕ) → CanUnlink image i s (ino_at image i s) → CanUnlink after i s (ino_at after i s)
 leaving_on image after wf same i s can =
-    subst (CanUnlink after i s) (sym (same.inumber i s can.reached can.entry.directory can.entry.in_size)) (unlinks_on image after wf same i s (inumber_at image i s) can)
+    subst (CanUnlink after i s) (sym (same.ino i s can.reached can.entry.directory can.entry.in_size)) (unlinks_on image after wf same i s (ino_at image i s) can)

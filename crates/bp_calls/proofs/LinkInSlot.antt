@@ -1,4 +1,4 @@
--- A name in an empty entry, and then the inumber of a file that has a name.
+-- A name in an empty entry, and then the inode number of a file that has a name.
 use Rattle.std.proofs.Common.{◌≡◌, ℕ, Bool, false, ◌+◌, ◌*◌, ◌/◌, None, Some, set, refl, sym, ◌∙◌, subst, arith}
 use Rattle.bp_calls.specs.Entered.{IsReadyEntry}
 use Rattle.bp_layout.specs.Need.Change.{enters as gains}

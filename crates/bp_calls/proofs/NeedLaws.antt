@@ -6,7 +6,7 @@ use Rattle.bp_layout.specs.Words.{Image, height_of}
 use Rattle.bp_layout.specs.Tree.{IsFull}
 use Rattle.bp_layout.specs.Nodes.{height_with, nodes_for}
 use Rattle.bp_layout.specs.Inode.{kind_of, root_of, size_of}
-use Rattle.bp_layout.specs.Directory.{inumber_at, empty_slot}
+use Rattle.bp_layout.specs.Directory.{ino_at, empty_slot}
 use Rattle.bp_layout.specs.Reached.{IsReached}
 use Rattle.bp_layout.specs.WellFormed.{IsWellFormed}
 use Rattle.bp_layout.specs.Need.{Beyond, new_entry, prepared_for, preparation, height_after, inode_word_path, entry_path, entered, touched, is_there_after, copied, cover, need}
@@ -35,10 +35,10 @@ module _ (image : Image) (i : ℕ) (wf : IsWellFormed image) (reached : IsReache
   low_tree : height_after image (enters i linked) 0 ≡ height_of (root_of image 0)
   low_tree = inodes_stay image i (empty_slot image i) not_inodes
 
-  -- an empty entry: its inumber is the one word that changes, and nothing is made
+  -- an empty entry: its inode number is the one word that changes, and nothing is made
   module _ (s : ℕ) (found : empty_slot image i ≡ Some s) where
     low_slot : s < size_of image i / 256
-    low_slot = let finds = find-passes (λ slot. inumber_at image i slot == 0) 0 (size_of image i / 256) s found in omega (arith, finds.high)
+    low_slot = let finds = find-passes (λ slot. ino_at image i slot == 0) 0 (size_of image i / 256) s found in omega (arith, finds.high)
 
     same_slot : height_after image (enters i linked) i ≡ height_of (root_of image i)
     same_slot = ap (λ f. fold (λ h (b : Beyond). if b.tree == i then height_with (root_of image i) (size_of image i) b.to else h) (height_of (root_of image i)) (new_entry image i f ++ [])) found

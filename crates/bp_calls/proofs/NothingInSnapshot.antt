@@ -35,7 +35,7 @@ shape_self image wf = record {
     size = λ i r. refl;
     inode_blocks = wf.inode_blocks;
     inodes = omega arith;
-    inumber = λ i s r kind low. refl;
+    ino = λ i s r kind low. refl;
     entry = λ i s j f r n few. refl;
     bytes = λ i o r kind low. refl;
   };

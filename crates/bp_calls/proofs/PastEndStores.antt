@@ -138,7 +138,7 @@ module _ {in_snapshot : ℕ → Bool} (first second : Memory) (blocks after : Se
     low = ready.low;
     full = rw put_size (ready.full (inr can.lacks.directory));
     apart = λ u b there other has also. ready.apart u b (put_before u there) other also (rw put_size at has);
-    inumber = rw put_size puts.inumber;
+    ino = rw put_size puts.ino;
     spelled = rw put_size puts.spelled;
   }
 

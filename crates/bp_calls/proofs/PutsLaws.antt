@@ -25,7 +25,7 @@ use Rattle.pm_region.proofs.MemoryLaws.{length-current_words}
 use Rattle.bp_calls.specs.Entries.{AreEntryBytes, PutsPastEnd}
 use Rattle.bp_calls.specs.Steps.{CanPutPastEnd, entering_room}
 use Rattle.bp_calls.proofs.EnteredLaws.{directory_inode}
-use Rattle.bp_calls.proofs.EntryBytes.{inumber_there, length_there, inumber_read, name_read_back}
+use Rattle.bp_calls.proofs.EntryBytes.{ino_there, length_there, ino_read, name_read_back}
 use Rattle.bp_calls.proofs.TakenBlocks.{members_free, usable_members}
 use Rattle.bp_append.proofs.StoresLaws.{room_past_end_one}
 
@@ -105,7 +105,7 @@ module _ {in_snapshot : ℕ → Bool} {old new : Memory} {blocks : Set} {rest : 
   module _ {root number count : ℕ} (is : root ≡ root_of (current_words new) i) (first : number ≡ content_word (current_words new) root (size / 8))
       (second : count ≡ content_word (current_words new) root (size / 8 + 1)) (small : number < 2 ^ 64) (also : count < 2 ^ 64) (low : j < 2 ^ 64) where
     first_is : content_word (current_words new) (root_of (current_words new) i) (size / 8) ≡ j
-    first_is = inumber_there (current_words new) (root_of (current_words new) i) size j name bytes entries entry laid low (rw (first, is) at small)
+    first_is = ino_there (current_words new) (root_of (current_words new) i) size j name bytes entries entry laid low (rw (first, is) at small)
 
     second_is : content_word (current_words new) (root_of (current_words new) i) (size / 8 + 1) ≡ length name
     second_is = length_there (current_words new) (root_of (current_words new) i) size j name bytes entries entry laid
@@ -121,7 +121,7 @@ module _ {in_snapshot : ℕ → Bool} {old new : Memory} {blocks : Set} {rest : 
     put_done = record {
       bytes = bytes;
       prepared = rw e at prepared;
-      inumber = rw e at (inumber_read (current_words new) (root_of (current_words new) i) size j name bytes entries entry laid first_is);
+      ino = rw e at (ino_read (current_words new) (root_of (current_words new) i) size j name bytes entries entry laid first_is);
       spelled = rw e at
           (name_read_back (current_words new) (root_of (current_words new) i) size j name bytes entries entry laid can.lacks.form.short second_is);
     }

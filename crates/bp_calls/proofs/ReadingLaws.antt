@@ -6,7 +6,7 @@ use Rattle.bp_limits.specs.Limits.{block_inodes, max_blocks}
 use Rattle.bp_layout.specs.Words.{Image, block_count}
 use Rattle.bp_layout.specs.Tree.{IsSound}
 use Rattle.bp_layout.specs.Inode.{kind_of, root_of, size_of, inode_count}
-use Rattle.bp_layout.specs.Directory.{EntryNames, word_in, inumber_in, inumber_at, name_at, entry_count}
+use Rattle.bp_layout.specs.Directory.{EntryNames, word_in, ino_in, ino_at, name_at, entry_count}
 use Rattle.bp_layout.specs.Paths.{Name, IsName}
 use Rattle.bp_layout.specs.Fields.{kind_word}
 use Rattle.bp_layout.specs.Reached.{IsReached}
@@ -50,17 +50,17 @@ module _ (image : Image) (wf : IsWellFormed image) where
       let kinds : (1 ≤ kind_of image (suc i)) × (kind_of image (suc i) ≤ 2) = wf.kinds i reached in
       record { low = omega arith; high = high; few = few_inode (suc i) high; least = kinds.0; most = kinds.1 }
 
-  module _ (i root size : ℕ) (reached : IsReached image i) (kind : kind_of image i ≡ 2) (root_is : root ≡ root_of image i) (size_is : size ≡ size_of image i) (slot : ℕ) (live : slot < size / 256) (some : inumber_in image root slot ≢ 0) where
-    names_here : EntryNames image i slot (inumber_in image root slot)
+  module _ (i root size : ℕ) (reached : IsReached image i) (kind : kind_of image i ≡ 2) (root_is : root ≡ root_of image i) (size_is : size ≡ size_of image i) (slot : ℕ) (live : slot < size / 256) (some : ino_in image root slot ≢ 0) where
+    names_here : EntryNames image i slot (ino_in image root slot)
     names_here = record {
       directory = kind;
       in_size = omega (arith, live, size_is);
-      inumber = ap (λ r. inumber_in image r slot) (sym root_is);
+      ino = ap (λ r. ino_in image r slot) (sym root_is);
       not_empty = some;
     }
 
     name_here : IsName (name_at image i slot)
-    name_here = wf.names i slot (inumber_in image root slot) reached names_here
+    name_here = wf.names i slot (ino_in image root slot) reached names_here
 
     name_length : word_in image root slot 1 ≡ length (name_at image i slot)
     name_length = ap (λ r. word_in image r slot 1) root_is ∙ sym (length-map-range_with_len _ 0 (word_in image (root_of image i) slot 1))
@@ -68,18 +68,18 @@ module _ (image : Image) (wf : IsWellFormed image) where
     pub name_most : word_in image root slot 1 ≤ 240
     name_most = omega (arith, name_length, name_here.short)
 
-    pub inode_here : IsInode (inumber_in image root slot)
-    inode_here = go (inumber_in image root slot) refl
+    pub inode_here : IsInode (ino_in image root slot)
+    inode_here = go (ino_in image root slot) refl
       where
-        names_reached : IsReached image (inumber_in image root slot)
+        names_reached : IsReached image (ino_in image root slot)
         names_reached = named slot reached names_here
 
-        go : (j : ℕ) → inumber_in image root slot ≡ j → IsInode (inumber_in image root slot)
+        go : (j : ℕ) → ino_in image root slot ≡ j → IsInode (ino_in image root slot)
         go zero at = absurd (some at)
         go (suc j) at =
-            let high : inumber_in image root slot < inode_count image = wf.inumbers i slot (inumber_in image root slot) reached names_here in
+            let high : ino_in image root slot < inode_count image = wf.inos i slot (ino_in image root slot) reached names_here in
             let kinds : (1 ≤ kind_of image (suc j)) × (kind_of image (suc j) ≤ 2) = wf.kinds j (subst (IsReached image) at names_reached) in
-            rw at (record { low = omega arith; high = omega (arith, high, at); few = subst (λ k. k < block_inodes * max_blocks) at (few_inode (inumber_in image root slot) high); least = kinds.0; most = kinds.1 })
+            rw at (record { low = omega arith; high = omega (arith, high, at); few = subst (λ k. k < block_inodes * max_blocks) at (few_inode (ino_in image root slot) high); least = kinds.0; most = kinds.1 })
 
 -- ---- the entries of some slots and of those after them
 
@@ -109,12 +109,12 @@ seen-none f first (suc count) none =
 pub length-seen : (image : Image) (i : ℕ) → length (entries_seen image i (entry_count image i)) ≡ name_count image (root_of image i) (size_of image i)
 length-seen image i = go 0 (entry_count image i)
   where
-    go : (first count : ℕ) → length (filter_map (entry_seen image i) (range_with_len first count)) ≡ length (filter (λ slot. not (inumber_in image (root_of image i) slot == 0)) (range_with_len first count))
+    go : (first count : ℕ) → length (filter_map (entry_seen image i) (range_with_len first count)) ≡ length (filter (λ slot. not (ino_in image (root_of image i) slot == 0)) (range_with_len first count))
     go first zero = refl
-    go first (suc count) = one (inumber_at image i first == 0) refl (go (first + 1) count)
+    go first (suc count) = one (ino_at image i first == 0) refl (go (first + 1) count)
       where
-        one : (b : Bool) → (inumber_at image i first == 0) ≡ b →
-            length (filter_map (entry_seen image i) (range_with_len (first + 1) count)) ≡ length (filter (λ slot. not (inumber_in image (root_of image i) slot == 0)) (range_with_len (first + 1) count)) →
-            length (filter_map (entry_seen image i) (range_with_len first (suc count))) ≡ length (filter (λ slot. not (inumber_in image (root_of image i) slot == 0)) (range_with_len first (suc count)))
+        one : (b : Bool) → (ino_at image i first == 0) ≡ b →
+            length (filter_map (entry_seen image i) (range_with_len (first + 1) count)) ≡ length (filter (λ slot. not (ino_in image (root_of image i) slot == 0)) (range_with_len (first + 1) count)) →
+            length (filter_map (entry_seen image i) (range_with_len first (suc count))) ≡ length (filter (λ slot. not (ino_in image (root_of image i) slot == 0)) (range_with_len first (suc count)))
         one true at rest = rw at rest
         one false at rest = rw at (ap suc rest)

@@ -105,7 +105,7 @@ module _ (old new : Image) (wf : IsWellFormed old) (trees : SameTrees old new) (
     full = subst₂ (λ r s. IsFull new r (s + 256)) (sym root_stays) (sym size_stays) (full-kept old new root more keeps ready.full);
     apart = λ u b reached other has also.
         ready.apart u b (reached_before old new wf trees.prepared u reached) other (more_back b has) (trees.prepared.blocks.back u b (reached_before old new wf trees.prepared u reached) also);
-    inumber = rw (root_stays, size_stays) (content_stays (32 * (size_of old (suc n) / 256) + 0) (omega (arith, entries)) ∙ ready.inumber);
+    ino = rw (root_stays, size_stays) (content_stays (32 * (size_of old (suc n) / 256) + 0) (omega (arith, entries)) ∙ ready.ino);
     spelled = rw (root_stays, size_stays)
         (name_same old new root root (size_of old (suc n) / 256) (rw ready.spelled form.short) (λ f some few. content_stays (32 * (size_of old (suc n) / 256) + f) (omega (arith, entries, few)))
         ∙ ready.spelled);

@@ -5,7 +5,7 @@ use Rattle.std.specs.List.{Contains}
 use Rattle.bp_changes.specs.Sets.{AreExact}
 use Rattle.bp_free.specs.Set.{IsLeast, Set, has, members}
 use Rattle.bp_free.proofs.Members.{members_all, members_has}
-use Rattle.bp_layout.specs.Directory.{empty_slot, inumber_at, entry_count}
+use Rattle.bp_layout.specs.Directory.{empty_slot, ino_at, entry_count}
 use Rattle.bp_layout.specs.Free.{IsFreeInode, IsLeastFree}
 use Rattle.bp_layout.specs.Free.IsLeastFree.{some as a_least, none as no_least}
 use Rattle.bp_layout.specs.Words.{Image}
@@ -91,7 +91,7 @@ module _ {in_snapshot : ℕ → Bool} (image : Image) (blocks inodes : Set) (exa
   ]
 
 -- the slot that is found is one of the directory's, and empty
-pub found_empty : (image : Image) (i s : ℕ) → empty_slot image i ≡ Some s → (s < entry_count image i) × (inumber_at image i s ≡ 0)
+pub found_empty : (image : Image) (i s : ℕ) → empty_slot image i ≡ Some s → (s < entry_count image i) × (ino_at image i s ≡ 0)
 found_empty image i s found =
-    let passes : Finds (λ slot. inumber_at image i slot == 0) 0 (entry_count image i) s = find-passes (λ slot. inumber_at image i slot == 0) 0 (entry_count image i) s found in
+    let passes : Finds (λ slot. ino_at image i slot == 0) 0 (entry_count image i) s = find-passes (λ slot. ino_at image i slot == 0) 0 (entry_count image i) s found in
     (omega (arith, passes.high), eqb-true _ _ passes.passes)

@@ -6,7 +6,7 @@ use Rattle.std.proofs.lemmas.List.{append-nil, get_or-take, length-take}
 use Rattle.bp_layout.specs.Words.{Image}
 use Rattle.bp_layout.specs.Tree.{content_word}
 use Rattle.bp_layout.specs.Inode.{kind_of, root_of, size_of}
-use Rattle.bp_layout.specs.Directory.{inumber_in, inumber_at, name_at}
+use Rattle.bp_layout.specs.Directory.{ino_in, ino_at, name_at}
 use Rattle.bp_layout.specs.Fields.{kind_word, name_of}
 use Rattle.bp_layout.specs.declared.fields.Kind.{Kind}
 use Rattle.bp_layout.specs.WellFormed.{IsWellFormed}
@@ -19,7 +19,7 @@ use Rattle.bp_calls.proofs.ReadingLaws.{IsInode, inode_here, name_most, kind_fro
 -- ---- one entry
 
 module _ (image : Image) (wf : IsWellFormed image) (words : List ℕ) (is : IsEntryRow image words) (some : slice_index words 0 ≢ 0) where
-  there : inumber_in image (root_of image is.directory) is.slot ≢ 0
+  there : ino_in image (root_of image is.directory) is.slot ≢ 0
   there none = some (is.has.each 0 (omega arith) ∙ none)
 
   -- it names an inode
@@ -34,26 +34,26 @@ module _ (image : Image) (wf : IsWellFormed image) (words : List ℕ) (is : IsEn
       omega (arith, is.has.each 1 (omega arith), name_most image wf is.directory (root_of image is.directory) (size_of image is.directory) is.reached is.kind refl refl is.slot is.live there)
 
 module _ (image : Image) (i slot : ℕ) (words : List ℕ) (has : HasWords image (root_of image i) slot words) where
-  inumber_is : slice_index words 0 ≡ inumber_at image i slot
-  inumber_is = has.each 0 (omega arith)
+  ino_is : slice_index words 0 ≡ ino_at image i slot
+  ino_is = has.each 0 (omega arith)
 
   -- nothing is seen of an empty entry
   pub none_seen : slice_index words 0 ≡ 0 → cons_option (entry_seen image i slot) [] ≡ []
-  none_seen none = let empty : inumber_at image i slot ≡ 0 = sym inumber_is ∙ none in rw empty refl
+  none_seen none = let empty : ino_at image i slot ≡ 0 = sym ino_is ∙ none in rw empty refl
 
   -- else a kind and a name
   pub one_seen : (kind : Kind) → slice_index words 0 ≢ 0 → slice_index words 1 ≤ 240 → kind_word kind ≡ kind_of image (slice_index words 0) →
       cons_option (entry_seen image i slot) [] ≡ (kind, name_of words) ∷ []
-  one_seen kind some short is = go (inumber_at image i slot == 0) refl
+  one_seen kind some short is = go (ino_at image i slot == 0) refl
     where
-      kind_is : kind_seen (kind_of image (inumber_at image i slot)) ≡ kind
-      kind_is = sym (kind_from_word kind _ (is ∙ ap (kind_of image) inumber_is))
+      kind_is : kind_seen (kind_of image (ino_at image i slot)) ≡ kind
+      kind_is = sym (kind_from_word kind _ (is ∙ ap (kind_of image) ino_is))
 
       name_is : name_at image i slot ≡ name_of words
       name_is = sym (name_in-words image (root_of image i) slot words (omega (arith, short, has.each 1 (omega arith))) has.each)
 
-      go : (b : Bool) → (inumber_at image i slot == 0) ≡ b → cons_option (entry_seen image i slot) [] ≡ (kind, name_of words) ∷ []
-      go true at = absurd (some (inumber_is ∙ eqb-true _ _ at))
+      go : (b : Bool) → (ino_at image i slot == 0) ≡ b → cons_option (entry_seen image i slot) [] ≡ (kind, name_of words) ∷ []
+      go true at = absurd (some (ino_is ∙ eqb-true _ _ at))
       go false at = rw at (ap₂ (λ k n. (k, n) ∷ []) kind_is name_is)
 
 -- ---- the entries of a leaf
@@ -95,5 +95,5 @@ module _ (image : Image) (i leaf total : ℕ) (live : 16 * leaf < total) where
       empty : (k : ℕ) → k < 16 → entry_seen image i (16 * leaf + k) ≡ None
       empty k low =
           let at : 32 * (16 * leaf + k) + 0 ≡ 512 * leaf + 32 * k = omega arith in
-          let zero_here : inumber_at image i (16 * leaf + k) ≡ 0 = ap (content_word image (root_of image i)) at ∙ null (32 * k) (omega (arith, low)) in
+          let zero_here : ino_at image i (16 * leaf + k) ≡ 0 = ap (content_word image (root_of image i)) at ∙ null (32 * k) (omega (arith, low)) in
           rw zero_here refl

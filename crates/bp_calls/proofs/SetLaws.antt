@@ -128,7 +128,7 @@ module _ {in_snapshot : ℕ → Bool} (old new : Image) (wf : IsWellFormed old) 
     free_inodes = inodes_taken;
   }
 
--- an inumber came into a ready entry: of an inode that was free, or of a file that has a name
+-- an inode number came into a ready entry: of an inode that was free, or of a file that has a name
 module _ {in_snapshot : ℕ → Bool} (old : Image) (wf : IsWellFormed old) (i s j place : ℕ) (name : Name) (ready : IsReadyEntry old i s name) (form : IsName name) (missing : slot_named old i name ≡ None)
     (stands : ContentStandsAt old i (32 * s + 0) place) (blocks inodes : Set) (exact : AreExact old in_snapshot blocks inodes) where
   pub exact_entered : (kind : ℕ) → IsNewInode old j kind → AreExact (set old place j) in_snapshot blocks (without inodes j)

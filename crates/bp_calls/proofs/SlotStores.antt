@@ -1,4 +1,4 @@
--- A name in an empty entry, and then the inumber: what stands once the name is there, whichever inode the entry will name.
+-- A name in an empty entry, and then the inode number: what stands once the name is there, whichever inode the entry will name.
 use Rattle.std.proofs.Common.{◌≡◌, ◌≢◌, ℕ, Bool, false, ◌+◌, ◌-◌, ◌*◌, ◌/◌, ◌<◌, ◌≤◌, [], suc, None, Some, unwrap_or, ap₂, set, refl, sym, ◌∙◌, ap, subst, arith}
 use Rattle.bp_calls.specs.Entered.{IsReadyEntry}
 use Rattle.bp_layout.specs.Need.{cover, need, Change}
@@ -11,7 +11,7 @@ use Rattle.bp_changes.proofs.PerformsLaws.{within_stores, within_more}
 use Rattle.bp_calls.proofs.NeedLaws.{cover_in_slot, need_in_slot}
 use Rattle.bp_calls.proofs.OpenPlaces.{content_open, each_weaker, stands_stored, root_word_stays, content_address}
 use Rattle.bp_changes.proofs.ContentStore.{root_stays}
-use Rattle.bp_layout.specs.Directory.{empty_slot, entry_count, inumber_at, slot_named}
+use Rattle.bp_layout.specs.Directory.{empty_slot, entry_count, ino_at, slot_named}
 use Rattle.bp_layout.specs.Paths.{Name}
 use Rattle.bp_layout.specs.Inode.{kind_of, size_of, ContentStandsAt, root_of, inode_count}
 use Rattle.bp_calls.specs.Spare.{IsSpare}
@@ -64,7 +64,7 @@ module _ {in_snapshot : ℕ → Bool} (first third last : Memory) (i s j entry m
   in_size : s < entry_count image i
   in_size = (found_empty image i s found).0
 
-  empty : inumber_at image i s ≡ 0
+  empty : ino_at image i s ≡ 0
   empty = (found_empty image i s found).1
 
   wf : IsWellFormed image
@@ -96,7 +96,7 @@ module _ {in_snapshot : ℕ → Bool} (first third last : Memory) (i s j entry m
     reached = mid_reached;
     directory = kind_after image mid wf slot_trees.prepared i reached ∙ lacks.directory;
     slot = rw (size_after image mid wf slot_trees.prepared i reached) in_size;
-    empty = slot_trees.prepared.meaning.inumber i s reached lacks.directory in_size ∙ empty;
+    empty = slot_trees.prepared.meaning.ino i s reached lacks.directory in_size ∙ empty;
     spelled = name_read mid (root_of mid i) s entry name lacks.form.short named
         (λ f some few. word_kept image mid slot_trees i (32 * s + f) (entry + f) reached (omega (arith, in_size, few)) (word_stands f few));
   }

@@ -1,7 +1,7 @@
--- Which words are spare: those of an inode that nobody reaches, and those of an empty entry but its inumber.
+-- Which words are spare: those of an inode that nobody reaches, and those of an empty entry but its inode number.
 use Rattle.std.proofs.Common.{◌≡◌, ◌≢◌, ℕ, suc, ◌+◌, ◌*◌, ◌/◌, ◌%◌, ◌<◌, ◌≤◌, sym, ◌∙◌, ap, subst, arith}
 use Rattle.bp_calls.specs.Spare.{IsSpare}
-use Rattle.bp_layout.specs.Directory.{inumber_at, entry_count}
+use Rattle.bp_layout.specs.Directory.{ino_at, entry_count}
 use Rattle.bp_layout.specs.Free.{IsFreeInode}
 use Rattle.bp_layout.specs.Inode.{StandsAt, ContentStandsAt, kind_of, root_of, size_of, inode_count}
 use Rattle.bp_layout.specs.Reached.{IsReached}
@@ -59,7 +59,7 @@ spare_inode image wf j f place free few stands value = record {
       let same = at 0 (8 * suc i + g) inode_file (omega (arith, in_file, low)) stand in
       let inode : suc i ≡ j = omega (arith, same.1, few, low) in
       absurd (free.free (subst (IsReached image) inode r));
-  inumbers = λ i s r kind low stand. let same = at i (32 * s + 0) r (omega (arith, low)) stand in absurd (no_inode_file image i 2 kind (omega arith) (sym same.0));
+  inos = λ i s r kind low stand. let same = at i (32 * s + 0) r (omega (arith, low)) stand in absurd (no_inode_file image i 2 kind (omega arith) (sym same.0));
   names = λ i s k g r n low stand. let same = at i (32 * s + g) r (omega (arith, n.in_size, low)) stand in absurd (no_inode_file image i 2 n.directory (omega arith) (sym same.0));
   bytes = λ i o r kind low stand. let same = at i (o / 8) r (omega (arith, low)) stand in absurd (no_inode_file image i 1 kind (omega arith) (sym same.0));
 }
@@ -70,8 +70,8 @@ spare_inode image wf j f place free few stands value = record {
     at : (u l : ℕ) → IsReached image u → 8 * l < size_of image u → ContentStandsAt image u l place → (0 ≡ u) × (8 * j + f ≡ l)
     at = same_content image wf 0 (8 * j + f) place inode_file below stands
 
--- words of an empty entry, but its inumber
-pub spare_entry : (image : Image) → IsWellFormed image → (i s f place : ℕ) → IsReached image i → kind_of image i ≡ 2 → s < entry_count image i → inumber_at image i s ≡ 0 → 1 ≤ f → f < 32 →
+-- words of an empty entry, but its inode number
+pub spare_entry : (image : Image) → IsWellFormed image → (i s f place : ℕ) → IsReached image i → kind_of image i ≡ 2 → s < entry_count image i → ino_at image i s ≡ 0 → 1 ≤ f → f < 32 →
     ContentStandsAt image i (32 * s + f) place → IsSpare image place
 spare_entry image wf i s f place reached kind in_size empty some few stands value = record {
   superblock = λ low. let high = place_high image wf i (32 * s + f) place reached below stands in absurd (omega (arith, low, high));
@@ -80,11 +80,11 @@ spare_entry image wf i s f place reached kind in_size empty some few stands valu
       let in_file : suc u < inode_count image = reached-in_file image wf (suc u) r in
       let same = at 0 (8 * suc u + g) inode_file (omega (arith, in_file, low)) stand in
       absurd (no_inode_file image i 2 kind (omega arith) same.0);
-  inumbers = λ u q r also low stand. let same = at u (32 * q + 0) r (omega (arith, low)) stand in absurd (omega (arith, same.1, some, few));
+  inos = λ u q r also low stand. let same = at u (32 * q + 0) r (omega (arith, low)) stand in absurd (omega (arith, same.1, some, few));
   names = λ u q k g r n low stand.
       let same = at u (32 * q + g) r (omega (arith, n.in_size, low)) stand in
       let slot : q ≡ s = omega (arith, same.1, few, low) in
-      let named : inumber_at image i s ≡ k = subst (λ x. inumber_at image i x ≡ k) slot (subst (λ x. inumber_at image x q ≡ k) (sym same.0) n.inumber) in
+      let named : ino_at image i s ≡ k = subst (λ x. ino_at image i x ≡ k) slot (subst (λ x. ino_at image x q ≡ k) (sym same.0) n.ino) in
       absurd (n.not_empty (sym named ∙ empty));
   bytes = λ u o r file low stand.
       let same = at u (o / 8) r (omega (arith, low)) stand in

@@ -8,7 +8,7 @@ use Rattle.bp_layout.specs.Listing.{comes_before}
 use Rattle.bp_layout.specs.Words.{Image}
 use Rattle.bp_layout.specs.Tree.{content}
 use Rattle.bp_layout.specs.Inode.{kind_of, root_of, size_of}
-use Rattle.bp_layout.specs.Directory.{entry_count, inumber_at, name_at}
+use Rattle.bp_layout.specs.Directory.{entry_count, ino_at, name_at}
 use Rattle.bp_layout.specs.Paths.{Name}
 use Rattle.bp_layout.specs.declared.fields.Kind.{Kind}
 use Rattle.bp_layout.specs.declared.fields.Kind.TheVariants.{File, Dir}
@@ -32,8 +32,8 @@ kind_seen word = if word == 1 then File else Dir
 
 -- The kind and the name of an entry of directory `i`; none if the entry is empty.
 abbrev pub entry_seen : Image → ℕ → ℕ → Option (Kind × Name)
-entry_seen image i slot = if inumber_at image i slot == 0 then None
-    else Some (kind_seen (kind_of image (inumber_at image i slot)), name_at image i slot)
+entry_seen image i slot = if ino_at image i slot == 0 then None
+    else Some (kind_seen (kind_of image (ino_at image i slot)), name_at image i slot)
 
 -- The kinds and names of the first `count` entries of directory `i`, without the empty ones.
 abbrev pub entries_seen : Image → ℕ → ℕ → List (Kind × Name)

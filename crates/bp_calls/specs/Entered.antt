@@ -2,7 +2,7 @@
 use Rattle.std.specs.Prelude.{◌≡◌, ◌≢◌, ℕ, ◌+◌, ◌/◌, ◌<◌, ◌≤◌}
 use Rattle.bp_layout.specs.Formatted.{version_of}
 use Rattle.bp_limits.specs.Limits.{entry_size, greatest_height}
-use Rattle.bp_layout.specs.Directory.{inumber_at, inumber_in, name_at, name_in, entry_count}
+use Rattle.bp_layout.specs.Directory.{ino_at, ino_in, name_at, name_in, entry_count}
 use Rattle.bp_layout.specs.Paths.{Name}
 use Rattle.bp_layout.specs.Free.{IsFreeInode}
 use Rattle.bp_layout.specs.Inode.{IsDirectory, kind_of, root_of, size_of}
@@ -23,7 +23,7 @@ pub record IsReadyEntry (image : Image) (i s : ℕ) (name : Name) : Type 0 where
   pub reached : IsReached image i
   pub directory : IsDirectory image i
   pub slot : s < entry_count image i
-  pub empty : inumber_at image i s ≡ 0
+  pub empty : ino_at image i s ≡ 0
   pub spelled : name_at image i s ≡ name
 
 -- After the last entry of directory `i` there is one with this name for inode `j`. Read with one more entry the
@@ -37,5 +37,5 @@ pub record IsReadyPastEnd (image : Image) (i j : ℕ) (name : Name) : Type 0 whe
   pub apart : (u b : ℕ) → IsReached image u → u ≢ i →
       HasBlock image (root_of image i) (size_of image i + entry_size) b →
       HasBlock image (root_of image u) (size_of image u) b → ⊥
-  pub inumber : inumber_in image (root_of image i) (size_of image i / entry_size) ≡ j
+  pub ino : ino_in image (root_of image i) (size_of image i / entry_size) ≡ j
   pub spelled : name_in image (root_of image i) (size_of image i / entry_size) ≡ name

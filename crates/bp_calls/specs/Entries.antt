@@ -3,7 +3,7 @@ use Rattle.std.specs.Prelude.{◌≡◌, ℕ, ◌+◌, ◌-◌, ◌<◌, List, l
 use Rattle.bp_append.specs.Prepared.{PreparesWith}
 use Rattle.bp_free.specs.Set.{members}
 use Rattle.bp_free.specs.declared.parts.Parts.{Parts}
-use Rattle.bp_layout.specs.Directory.{entry_count, inumber_in, name_in}
+use Rattle.bp_layout.specs.Directory.{entry_count, ino_in, name_in}
 use Rattle.bp_layout.specs.Paths.{Name}
 use Rattle.bp_layout.specs.Inode.{root_of, size_of}
 use Rattle.bp_layout.specs.Words.{byte_of}
@@ -14,21 +14,21 @@ use Rattle.pm_region.specs.Memory.{Memory, current_words}
 -- A byte of an entry: eight bytes of the inode number, least significant first, eight of the name's length, and then
 -- the name, followed by zeros.
 abbrev pub entry_byte : ℕ → Name → ℕ → ℕ
-entry_byte inumber name at =
-    if nat_lt at 8 then byte_of inumber at
+entry_byte ino name at =
+    if nat_lt at 8 then byte_of ino at
     else if nat_lt at 16 then byte_of (length name) (at - 8)
     else slice_index name (at - 16)
 
 -- The bytes are those of an entry with this inode number and name.
 abbrev pub AreEntryBytes : ℕ → Name → List ℕ → Type 0
-AreEntryBytes inumber name bytes = (at : ℕ) → at < entry_size → slice_index bytes at ≡ entry_byte inumber name at
+AreEntryBytes ino name bytes = (at : ℕ) → at < entry_size → slice_index bytes at ≡ entry_byte ino name at
 
 -- Directory `i` is prepared for one more entry, which refers to inode `j`. The entry is not visible yet.
 pub record PutsPastEnd (in_snapshot : ℕ → Bool) (old new : Memory) (free_old free_new : List ℕ) (i j : ℕ) (name : Name) : Type 0 where
   pub bytes : List ℕ
   pub prepared : PreparesWith in_snapshot old new free_old free_new i (size_of (current_words old) i)
       (size_of (current_words old) i + entry_size) bytes
-  pub inumber : inumber_in (current_words new) (root_of (current_words new) i) (entry_count (current_words old) i) ≡ j
+  pub ino : ino_in (current_words new) (root_of (current_words new) i) (entry_count (current_words old) i) ≡ j
   pub spelled : name_in (current_words new) (root_of (current_words new) i) (entry_count (current_words old) i) ≡ name
 
 -- `PutsPastEnd` for the parts of a file system, with their free blocks.

@@ -23,7 +23,7 @@ use crate::creation::entry_need;
 use crate::new_entry::{append_entry, entering};
 use crate::thaw::thaw_before;
 use bp_free::{NoSpace, Parts};
-use bp_layout::INUMBER_WORD;
+use bp_layout::INO_WORD;
 use bp_limits::{ENTRY_SIZE, SIZE_FIELD};
 use bp_read::directory::entry_place;
 use bp_read::inodes::{place, tree_of};
@@ -41,7 +41,7 @@ fn link_slot<R: Region>(region: &mut R, dir: u32, slot: u64, ino: u32, name: &[u
     ensures counts { CountsMore (words_in R.memory region.old) (words_in R.memory region.new) ino }
 {
     let tree = tree_of(region, dir);
-    let entry = entry_place(region, tree, slot, INUMBER_WORD);
+    let entry = entry_place(region, tree, slot, INO_WORD);
     put_name(region, entry, name);
     commit_word(region, entry, u64::from(ino));
 }

@@ -13,7 +13,7 @@ ghost use Rattle.bp_layout.specs.declared.fields.Kind.{Kind};
 ghost use Rattle.bp_changes.specs.Effects.{CanUnlink, RemovesEntry};
 ghost use Rattle.bp_changes.specs.Thawed.{AfterThaw};
 ghost use Rattle.bp_free.specs.Set.{has, members};
-ghost use Rattle.bp_layout.specs.Directory.{inumber_at, name_at};
+ghost use Rattle.bp_layout.specs.Directory.{ino_at, name_at};
 ghost use Rattle.bp_layout.specs.Paths.{Name, Path};
 ghost use Rattle.bp_layout.specs.Free.{AreFreeBlocks, HasFree};
 ghost use Rattle.bp_layout.specs.Inode.{IsDirectory, IsFile, size_of};
@@ -85,8 +85,8 @@ pub fn removed_names_are_lost(old: &[u64], new: &[u64])
 /// States that an entry may be removed if a path finds a file by it, or a directory without names. No other directory
 /// may be removed.
 pub fn files_and_empty_directories_may_leave(image: &[u64])
-    ensures inumber { (parent : Path) (name : Name) (i s j : ℕ) → IsFoundAt image.now parent name i s j
-        → inumber_at image.now i s ≡ j }
+    ensures ino { (parent : Path) (name : Name) (i s j : ℕ) → IsFoundAt image.now parent name i s j
+        → ino_at image.now i s ≡ j }
     ensures spelled { (parent : Path) (name : Name) (i s j : ℕ) → IsFoundAt image.now parent name i s j
         → name_at image.now i s ≡ name }
     ensures file { (parent : Path) (name : Name) (i s j : ℕ) → IsFoundAt image.now parent name i s j

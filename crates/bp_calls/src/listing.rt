@@ -79,11 +79,11 @@ fn list_entry<R: Region>(
     requires entry { IsEntryRow (words_in R.memory region.now) view.words.now }
     ensures { OnOk result (AddsEntry (words_in R.memory region.now) view.entry.words.now listing.old listing.new) }
 {
-    let inumber = view.inumber();
-    if inumber == 0 {
+    let ino = view.ino();
+    if ino == 0 {
         return Ok(());
     }
-    let kind = get(region, inumber as u32).kind;
+    let kind = get(region, ino as u32).kind;
     let mut name = [0; MAX_NAME];
     listing.push(kind, view.read_name(&mut name))
 }

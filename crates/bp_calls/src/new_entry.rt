@@ -21,7 +21,7 @@ ghost use Rattle.pm_region.specs.Memory.{words_in, room_in};
 use crate::targets::{Targets, entry_path, push_end};
 use bp_append::stage_append;
 use bp_free::Parts;
-use bp_layout::{INUMBER_WORD, Kind, LENGTH_WORD, NAME_WORD};
+use bp_layout::{INO_WORD, Kind, LENGTH_WORD, NAME_WORD};
 use bp_limits::{ENTRY_SIZE, SIZE_FIELD, WORD_SIZE};
 use bp_read::directory::entry_place;
 use bp_read::inodes::{fill, place, root_path, size_path, tree_of};
@@ -72,7 +72,7 @@ pub(crate) fn enter_slot<R: Region>(
     ensures counts { CountsName (words_in R.memory region.old) (words_in R.memory region.new) ino }
 {
     let tree = tree_of(region, dir);
-    let entry = entry_place(region, tree, slot, INUMBER_WORD);
+    let entry = entry_place(region, tree, slot, INO_WORD);
     fill(region, ino, kind);
     put_name(region, entry, name);
     commit_word(region, entry, u64::from(ino));
@@ -123,9 +123,9 @@ pub fn append_entry<R: Region>(parts: &mut Parts<R>, dir: u32, tree: Tree, ino: 
     };
     // A preparation describes bytes. The values of two words follow once they are read, as words of 64 bits.
     let first = tree.size / WORD_SIZE;
-    let inumber = content_word(&parts.region, prepared, first + INUMBER_WORD);
+    let stored_ino = content_word(&parts.region, prepared, first + INO_WORD);
     let length = content_word(&parts.region, prepared, first + LENGTH_WORD);
-    prove_eq!(inumber, u64::from(ino));
+    prove_eq!(stored_ino, u64::from(ino));
     prove_eq!(length, name.len() as u64);
 }
 

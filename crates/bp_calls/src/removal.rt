@@ -6,7 +6,7 @@ ghost use Rattle.bp_calls.specs.Mounted.{image_in, IsMountedIn};
 ghost use Rattle.bp_calls.specs.Space.{HasRoomWhereFree, LacksSpace};
 ghost use Rattle.bp_calls.specs.ThawsFor.{ThawsBefore};
 ghost use Rattle.bp_changes.specs.Effects.{CanUnlink, RemovesEntry};
-ghost use Rattle.bp_layout.specs.Directory.{inumber_at};
+ghost use Rattle.bp_layout.specs.Directory.{ino_at};
 ghost use Rattle.bp_layout.specs.Need.Change.{leaves};
 ghost use Rattle.bp_layout.specs.Thaw.{thawed};
 ghost use Rattle.bp_changes.specs.Sets.{in_snapshot_of};
@@ -16,8 +16,8 @@ use crate::release::free_tree;
 use crate::targets::leaving;
 use crate::thaw::thaw_before;
 use bp_free::{NoSpace, Parts};
-use bp_layout::INUMBER_WORD;
-use bp_read::directory::{entry_place, inumber};
+use bp_layout::INO_WORD;
+use bp_read::directory::{entry_ino, entry_place};
 use bp_read::inodes::tree_of;
 use pm_region::{Region, commit_word};
 
@@ -31,7 +31,7 @@ use pm_region::{Region, commit_word};
 fn thaw_entry<R: Region>(parts: &mut Parts<R>, dir: u32, slot: u64) -> Result<(), NoSpace>
     requires mounted { IsMountedIn R.memory parts.old }
     requires can { CanUnlink (image_in R.memory parts.old) dir slot
-        (inumber_at (image_in R.memory parts.old) dir slot) }
+        (ino_at (image_in R.memory parts.old) dir slot) }
     requires room { HasRoomWhereFree (R.memory parts.old.region) (in_snapshot_of parts.old) parts.old.free_blocks (leaves dir slot) }
     ensures thaws { OnOk result (ThawsBefore R.memory parts.old parts.new (leaves dir slot)) }
     ensures room { OnOk result (3 ≤ room_in (R.memory parts.new.region)) }
@@ -49,14 +49,14 @@ fn thaw_entry<R: Region>(parts: &mut Parts<R>, dir: u32, slot: u64) -> Result<()
 fn take_out<R: Region>(parts: &mut Parts<R>, dir: u32, slot: u64)
     requires mounted { IsMountedIn R.memory parts.old }
     requires can { CanUnlink (image_in R.memory parts.old) dir slot
-        (inumber_at (image_in R.memory parts.old) dir slot) }
+        (ino_at (image_in R.memory parts.old) dir slot) }
     requires clear { thawed (image_in R.memory parts.old) (in_snapshot_of parts.old) (leaves dir slot) ≡ [] }
     requires room { 3 ≤ room_in (R.memory parts.old.region) }
     ensures { CommitsChange R.memory parts.old parts.new (leaves dir slot) (λ image after. RemovesEntry image after dir slot) }
 {
     let directory = tree_of(&parts.region, dir);
-    let entry = entry_place(&parts.region, directory, slot, INUMBER_WORD);
-    let ino = inumber(&parts.region, directory, slot) as u32;
+    let entry = entry_place(&parts.region, directory, slot, INO_WORD);
+    let ino = entry_ino(&parts.region, directory, slot) as u32;
     let tree = tree_of(&parts.region, ino);
     let names = parts.link_counts.names(ino) - 1;
     parts.link_counts.set(ino, names);
@@ -89,7 +89,7 @@ fn take_out<R: Region>(parts: &mut Parts<R>, dir: u32, slot: u64)
 pub fn remove<R: Region>(parts: &mut Parts<R>, dir: u32, slot: u64) -> Result<(), NoSpace>
     requires mounted { IsMountedIn R.memory parts.old }
     requires can { CanUnlink (image_in R.memory parts.old) dir slot
-        (inumber_at (image_in R.memory parts.old) dir slot) }
+        (ino_at (image_in R.memory parts.old) dir slot) }
     requires room { HasRoomWhereFree (R.memory parts.old.region) (in_snapshot_of parts.old) parts.old.free_blocks (leaves dir slot) }
     ensures { CommitsOrLacksSpace R.memory parts.old parts.new result (leaves dir slot)
         (λ image after. RemovesEntry image after dir slot) }

@@ -5,7 +5,7 @@ ghost use Rattle.bp_calls.specs.CanWrite.{CanWrite};
 ghost use Rattle.bp_calls.specs.Mounted.{image_in, IsMountedIn};
 ghost use Rattle.bp_calls.specs.NearEnd.{AreTargetsAcross, AreTargetsPastEnd, AreTargetsLonger, AreTargetsShorter, ForTree};
 ghost use Rattle.bp_changes.specs.Effects.{CanUnlink};
-ghost use Rattle.bp_layout.specs.Directory.{entry_count, inumber_at};
+ghost use Rattle.bp_layout.specs.Directory.{entry_count, ino_at};
 ghost use Rattle.bp_layout.specs.Inode.{root_of, size_of};
 ghost use Rattle.bp_layout.specs.Need.{content_path_at, entry_path_at};
 ghost use Rattle.bp_layout.specs.Need.Change.{leaves, resizes, writes};
@@ -21,7 +21,7 @@ use crate::commit::{run_for, touched_by};
 use arrayvec::ArrayVec;
 use bp_cow::cover;
 use bp_free::Parts;
-use bp_layout::INUMBER_WORD;
+use bp_layout::INO_WORD;
 use bp_limits::{ENTRY_SIZE, WORD_SIZE};
 use bp_read::inodes::{root_path, size_path, tree_of};
 use bp_read::{Slots, Tree, word_path};
@@ -60,7 +60,7 @@ pub fn entry_path<R: Region>(region: &R, dir: u32, slot: u64) -> Slots
         region,
         dir,
         tree_of(region, dir),
-        slot * ENTRY_SIZE + WORD_SIZE * INUMBER_WORD,
+        slot * ENTRY_SIZE + WORD_SIZE * INO_WORD,
     )
 }
 
@@ -68,7 +68,7 @@ pub fn entry_path<R: Region>(region: &R, dir: u32, slot: u64) -> Slots
 pub(crate) fn leaving<R: Region>(region: &R, dir: u32, slot: u64) -> Targets
     requires well_formed { IsWellFormed (words_in R.memory region.now) }
     requires can { CanUnlink (words_in R.memory region.now) dir slot
-        (inumber_at (words_in R.memory region.now) dir slot) }
+        (ino_at (words_in R.memory region.now) dir slot) }
     ensures { paths_in result ≡ targets (words_in R.memory region.now) (leaves dir slot) }
 {
     let mut targets = Targets::new();

@@ -63,7 +63,7 @@ module _ (old new : Image) (wf : IsWellFormed old) (i s k r j : ℕ) (carries : 
     full_directories = λ t q kind. carries.trees.full_directories t (reached_back t q) (sym (carries.kind t (reached_back t q)) ∙ kind);
     inode_blocks = rw inode_bytes wf.inode_blocks;
     some_inodes = rw inode_bytes wf.some_inodes;
-    inumbers = λ u x l q n. rw inode_bytes (in_file u x l (reached_back u q) (carries.back u x l (reached_back u q) n));
+    inos = λ u x l q n. rw inode_bytes (in_file u x l (reached_back u q) (carries.back u x l (reached_back u q) n));
     not_root = λ u x l q n. not_root u x l (reached_back u q) (carries.back u x l (reached_back u q) n);
     named_once = λ u x v y l q p n m kind.
         once u x v y l (reached_back u q) (reached_back v p) (carries.back u x l (reached_back u q) n) (carries.back v y l (reached_back v p) m)
@@ -78,7 +78,7 @@ module _ (old new : Image) (wf : IsWellFormed old) (i s k r j : ℕ) (carries : 
     where
       in_file : (u x l : ℕ) → IsReached old u → Entry u x l → l < inode_count old
       in_file u x l reached (inl e) = rw e.inode (reached-in_file old wf j j_reached)
-      in_file u x l reached (inr e) = wf.inumbers u x l reached e.before
+      in_file u x l reached (inr e) = wf.inos u x l reached e.before
 
       not_root : (u x l : ℕ) → IsReached old u → Entry u x l → l ≡ 1 → ⊥
       not_root u x l reached (inl e) one = wf.not_root i s j carries.reached carries.names (sym e.inode ∙ one)

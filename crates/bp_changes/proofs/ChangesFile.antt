@@ -30,7 +30,7 @@ module _ (old new : Image) (x : ℕ) (wf : IsWellFormed old) (same : ChangesFile
     kind = same.kind;
     inode_bytes = same.size 0 inode_file not_zero;
     size = λ i reached kind. same.size i reached (not_directory i kind);
-    inumber = same.inumber;
+    ino = same.ino;
     entry = same.entry;
   }
 

@@ -22,7 +22,7 @@ module _ (old mid new : Image) (x : ℕ) (wf : IsWellFormed old) (same : SameMea
     trees = trees_over old mid new same changes.trees;
     kind = λ t r. changes.kind t (on old mid new same t r) ∙ same.kind t r;
     size = λ t r other. changes.size t (on old mid new same t r) other ∙ sizes t r;
-    inumber = λ i s r kind low. changes.inumber i s (on old mid new same i r) (same.kind i r ∙ kind) (rw (sizes i r) low) ∙ same.inumber i s r kind low;
+    ino = λ i s r kind low. changes.ino i s (on old mid new same i r) (same.kind i r ∙ kind) (rw (sizes i r) low) ∙ same.ino i s r kind low;
     entry = λ i s j f r n few. changes.entry i s j f (on old mid new same i r) (names_on old mid same i s j r n) few ∙ same.entry i s j f r n few;
     bytes = λ i o r other kind low. changes.bytes i o (on old mid new same i r) other (same.kind i r ∙ kind) (rw (sizes i r) low) ∙ same.bytes i o r kind low;
   }

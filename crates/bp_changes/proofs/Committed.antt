@@ -4,7 +4,7 @@ use Rattle.std.proofs.lemmas.Bool.{cases_eq}
 use Rattle.bp_layout.specs.Words.{Image, byte_of}
 use Rattle.bp_layout.specs.Tree.{content_word, byte}
 use Rattle.bp_layout.specs.Inode.{inode_word, kind_of, root_of, size_of, inode_count}
-use Rattle.bp_layout.specs.Directory.{EntryNames, word_in, name_at, inumber_at, entry_word, entry_count}
+use Rattle.bp_layout.specs.Directory.{EntryNames, word_in, name_at, ino_at, entry_word, entry_count}
 use Rattle.bp_layout.specs.Paths.{IsName}
 use Rattle.bp_layout.specs.Reached.{IsReached}
 use Rattle.bp_layout.specs.Reached.IsReached.{inode_file}
@@ -80,7 +80,7 @@ commit_moves old new changes i s k r j can only emptied entered = record {
 
 -- Behind the last entry of directory k stands one for j, with a name that no entry has.
 module _ (old new : Image) (changes : Changes) (i s k j : ℕ) (wf : IsWellFormed old) (reached : IsReached old i) (names : EntryNames old i s j)
-    (target : IsReached old k) (directory : kind_of old k ≡ 2) (ready : inumber_at old k (entry_count old k) ≡ j) (name : IsName (name_at old k (entry_count old k)))
+    (target : IsReached old k) (directory : kind_of old k ≡ 2) (ready : ino_at old k (entry_count old k) ≡ j) (name : IsName (name_at old k (entry_count old k)))
     (new_name : (x l : ℕ) → EntryNames old k x l → name_at old k x ≢ name_at old k (entry_count old k))
     (only : CommitsOnly old new changes (λ t l. ((t ≡ i) × (l ≡ 32 * s + 0)) ⊎ ((t ≡ 0) × (l ≡ 8 * k + 2))))
     (emptied : changed_word changes old i (32 * s + 0) ≡ 0) (grown : changed_word changes old 0 (8 * k + 2) ≡ size_of old k + 256)
@@ -142,11 +142,11 @@ module _ (old new : Image) (changes : Changes) (i s k j : ℕ) (wf : IsWellForme
   new_entry = record {
     directory = kinds_stay k target ∙ directory;
     in_size = omega (arith, count_here);
-    inumber = words_here 0 (omega arith) ∙ ready;
+    ino = words_here 0 (omega arith) ∙ ready;
     not_empty = names.not_empty;
   }
 
-  source_empty : inumber_at new i s ≡ 0
+  source_empty : ino_at new i s ≡ 0
   source_empty =
       word_committed old new changes _ only i (32 * s + 0) reached (inr names.directory) (omega (arith, names.in_size)) (λ e. absurd (no_directory old i names.directory e)) ∙ emptied
 
@@ -168,26 +168,26 @@ module _ (old new : Image) (changes : Changes) (i s k j : ℕ) (wf : IsWellForme
       kind = sym (kinds_stay u also) ∙ n.directory
 
       not_source : (u ≡ i) → (x ≡ s) → ⊥
-      not_source e f = n.not_empty (sym n.inumber ∙ ap₂ (λ a b. inumber_at new a b) e f ∙ source_empty)
+      not_source e f = n.not_empty (sym n.ino ∙ ap₂ (λ a b. ino_at new a b) e f ∙ source_empty)
 
       before : ((u ≡ k) → (x ≡ entry_count old k) → ⊥) → IsOldEntry old i s u x l
       before other =
           let low : x < entry_count old u = in_old u x also kind n.in_size other in
           record {
-            before = record { directory = kind; in_size = low; inumber = sym (words_stay u x 0 also kind low (omega arith) (λ a b c. not_source a b)) ∙ n.inumber; not_empty = n.not_empty };
+            before = record { directory = kind; in_size = low; ino = sym (words_stay u x 0 also kind low (omega arith) (λ a b c. not_source a b)) ∙ n.ino; not_empty = n.not_empty };
             other = not_source;
           }
 
       go : ((u ≡ k) × (x ≡ entry_count old k)) ⊎ ((u ≡ k) → (x ≡ entry_count old k) → ⊥) →
           IsNewEntry k (entry_count old k) j u x l ⊎ IsOldEntry old i s u x l
-      go (inl at) = inl (record { directory = at.0; slot = at.1; inode = sym n.inumber ∙ ap₂ (inumber_at new) at.0 at.1 ∙ new_entry.inumber })
+      go (inl at) = inl (record { directory = at.0; slot = at.1; inode = sym n.ino ∙ ap₂ (ino_at new) at.0 at.1 ∙ new_entry.ino })
       go (inr apart) = inr (before apart)
 
   names_stay : (u x l : ℕ) → IsReached old u → EntryNames old u x l → ((u ≡ i) → (x ≡ s) → ⊥) → EntryNames new u x l
   names_stay u x l also n other = record {
     directory = kinds_stay u also ∙ n.directory;
     in_size = go (cases_eq u k);
-    inumber = words_stay u x 0 also n.directory n.in_size (omega arith) (λ a b c. other a b) ∙ n.inumber;
+    ino = words_stay u x 0 also n.directory n.in_size (omega arith) (λ a b c. other a b) ∙ n.ino;
     not_empty = n.not_empty;
   }
     where
@@ -238,7 +238,7 @@ commit_respells old new changes i s j wf reached names only name changed new_nam
   trees = only.commits.trees;
   kind = λ u low. kind-kept old new changes _ only u low (λ here. no_directory old i names.directory (sym here.0));
   size = λ u low. size-kept old new changes _ only u low (λ here. no_directory old i names.directory (sym here.0));
-  inumber = λ u x also kind low.
+  ino = λ u x also kind low.
       word-kept old new changes _ only u (32 * x + 0) also (inr kind) (omega (arith, low)) (λ e. absurd (no_directory old u kind e))
       (λ here. omega (arith, here.1, here.2));
   entry = λ u x l f also n few other.
@@ -268,7 +268,7 @@ commit_writes old new changes x wf reached is_file only = record {
     | inl e ↦ not_zero e
     | inr size ↦ other (omega (arith, size.1))
   ]);
-  inumber = λ i s also kind low.
+  ino = λ i s also kind low.
       word-kept old new changes _ only i (32 * s + 0) also (inr kind) (omega (arith, low)) (λ e. absurd (no_directory old i kind e)) (in_directory i kind);
   entry = λ i s j f also n few.
       word-kept old new changes _ only i (32 * s + f) also (inr n.directory) (omega (arith, n.in_size, few)) (λ e. absurd (no_directory old i n.directory e)) (in_directory i n.directory);
@@ -295,7 +295,7 @@ commit_overwrites old new changes patches wf only bytes = record {
   trees = only.commits.trees;
   kind = λ t also. kind-kept old new changes _ only t (reached-in_file old wf t also) no_file;
   size = λ t also. size-kept old new changes _ only t (reached-in_file old wf t also) no_file;
-  inumber = λ i s also kind low.
+  ino = λ i s also kind low.
       word-kept old new changes _ only i (32 * s + 0) also (inr kind) (omega (arith, low)) (λ e. absurd (no_directory old i kind e)) (λ one. omega (arith, kind, one));
   entry = λ i s j f also n few.
       word-kept old new changes _ only i (32 * s + f) also (inr n.directory) (omega (arith, n.in_size, few)) (λ e. absurd (no_directory old i n.directory e)) (λ one. omega (arith, n.directory, one));

@@ -3,12 +3,12 @@ use Rattle.std.proofs.Common.{◌≡◌, ◌≢◌, ◌⊎◌, ℕ, ◌/◌, ◌
 use Rattle.std.proofs.lemmas.Bool.{cases_eq}
 use Rattle.bp_layout.specs.Words.{Image}
 use Rattle.bp_layout.specs.Inode.{IsDirectory, inode_count, kind_of, size_of}
-use Rattle.bp_layout.specs.Directory.{EntryNames, entry_count, entry_word, inumber_at, name_at}
+use Rattle.bp_layout.specs.Directory.{EntryNames, entry_count, entry_word, ino_at, name_at}
 use Rattle.bp_layout.specs.Reached.{IsReached}
 use Rattle.bp_layout.specs.WellFormed.{IsWellFormed}
 use Rattle.bp_layout.proofs.Reached.{reached-in_file}
 use Rattle.bp_layout.proofs.View.{SameDirectories}
-use Rattle.bp_changes.specs.Effects.{AddsNames, CanMoveEntry, CanUnlink, CarriesEntry, IsNewEntry, IsOldEntry, LinksName, MovesEntry, RemovesEntry, RespellsEntry, SetsInumber}
+use Rattle.bp_changes.specs.Effects.{AddsNames, CanMoveEntry, CanUnlink, CarriesEntry, IsNewEntry, IsOldEntry, LinksName, MovesEntry, RemovesEntry, RespellsEntry, SetsIno}
 use Rattle.bp_changes.specs.KeepsEntries.{KeepsEntries, NoSlot, OneSlot, TwoSlots, WasEntry}
 use Rattle.bp_changes.proofs.AddsNames as adding
 use Rattle.bp_changes.proofs.Carry as carry
@@ -23,42 +23,42 @@ use Rattle.bp_changes.proofs.SameShown.{name_by_words}
 -- ---- one entry that both images have
 
 module _ (old new : Image) (u r : ℕ) (reached : IsReached old u) (directory : IsDirectory old u) (low : r < entry_count old u) where
-  entry_named : inumber_at old u r ≢ 0 → EntryNames old u r (inumber_at old u r)
-  entry_named some = record { directory = directory; in_size = low; inumber = refl; not_empty = some }
+  entry_named : ino_at old u r ≢ 0 → EntryNames old u r (ino_at old u r)
+  entry_named some = record { directory = directory; in_size = low; ino = refl; not_empty = some }
 
-  -- its inumber is the same, and its name where it names an inode
-  was_entry : inumber_at new u r ≡ inumber_at old u r → (EntryNames old u r (inumber_at old u r) → name_at new u r ≡ name_at old u r) → WasEntry old new u r
-  was_entry inumber name = record {
+  -- its inode number is the same, and its name where it names an inode
+  was_entry : ino_at new u r ≡ ino_at old u r → (EntryNames old u r (ino_at old u r) → name_at new u r ≡ name_at old u r) → WasEntry old new u r
+  was_entry ino name = record {
     reached = reached;
     directory = directory;
     in_size = low;
-    same = record { inumber = inumber; name = λ some. name (entry_named (λ none. some (inumber ∙ none))) };
+    same = record { ino = ino; name = λ some. name (entry_named (λ none. some (ino ∙ none))) };
   }
 
   -- so are its words
-  by_words : IsWellFormed old → inumber_at new u r ≡ inumber_at old u r →
-      ((f : ℕ) → EntryNames old u r (inumber_at old u r) → f < 32 → entry_word new u r f ≡ entry_word old u r f) → WasEntry old new u r
-  by_words wf inumber words =
-      was_entry inumber (λ n. name_by_words old new u r (wf.names u r (inumber_at old u r) reached n).short (λ f some few. words f n few))
+  by_words : IsWellFormed old → ino_at new u r ≡ ino_at old u r →
+      ((f : ℕ) → EntryNames old u r (ino_at old u r) → f < 32 → entry_word new u r f ≡ entry_word old u r f) → WasEntry old new u r
+  by_words wf ino words =
+      was_entry ino (λ n. name_by_words old new u r (wf.names u r (ino_at old u r) reached n).short (λ f some few. words f n few))
 
   -- in both images it names the same inodes: so where it is empty in one, it is in the other
   module _ (now : IsDirectory new u) (high : r < entry_count new u) (stay : (k : ℕ) → EntryNames old u r k → EntryNames new u r k) (back : (k : ℕ) → EntryNames new u r k → EntryNames old u r k) where
-    inumber_stays : (inumber_at new u r ≡ 0) ⊎ (inumber_at new u r ≡ 0 → ⊥) → (inumber_at old u r ≡ 0) ⊎ (inumber_at old u r ≡ 0 → ⊥) → inumber_at new u r ≡ inumber_at old u r
-    inumber_stays (inr some) was =
-        let before : EntryNames old u r (inumber_at new u r) = back (inumber_at new u r) (record { directory = now; in_size = high; inumber = refl; not_empty = some }) in
-        sym before.inumber
-    inumber_stays (inl none) (inr some) = let after : EntryNames new u r (inumber_at old u r) = stay (inumber_at old u r) (entry_named some) in after.inumber
-    inumber_stays (inl none) (inl also) = none ∙ sym also
+    ino_stays : (ino_at new u r ≡ 0) ⊎ (ino_at new u r ≡ 0 → ⊥) → (ino_at old u r ≡ 0) ⊎ (ino_at old u r ≡ 0 → ⊥) → ino_at new u r ≡ ino_at old u r
+    ino_stays (inr some) was =
+        let before : EntryNames old u r (ino_at new u r) = back (ino_at new u r) (record { directory = now; in_size = high; ino = refl; not_empty = some }) in
+        sym before.ino
+    ino_stays (inl none) (inr some) = let after : EntryNames new u r (ino_at old u r) = stay (ino_at old u r) (entry_named some) in after.ino
+    ino_stays (inl none) (inl also) = none ∙ sym also
 
-    by_names : (EntryNames old u r (inumber_at old u r) → name_at new u r ≡ name_at old u r) → WasEntry old new u r
-    by_names name = was_entry (inumber_stays (cases_eq (inumber_at new u r) 0) (cases_eq (inumber_at old u r) 0)) name
+    by_names : (EntryNames old u r (ino_at old u r) → name_at new u r ≡ name_at old u r) → WasEntry old new u r
+    by_names name = was_entry (ino_stays (cases_eq (ino_at new u r) 0) (cases_eq (ino_at old u r) 0)) name
 
 -- so where all inodes keep their kinds and their sizes
 by_sizes : (old new : Image) → IsWellFormed old → ((t : ℕ) → t < inode_count old → kind_of new t ≡ kind_of old t) →
     ((t : ℕ) → t < inode_count old → size_of new t ≡ size_of old t) → (u r : ℕ) → IsReached old u → IsDirectory new u → r < entry_count new u →
-    (IsDirectory old u → r < entry_count old u → inumber_at new u r ≡ inumber_at old u r) →
-    ((f : ℕ) → EntryNames old u r (inumber_at old u r) → f < 32 → entry_word new u r f ≡ entry_word old u r f) → WasEntry old new u r
-by_sizes old new wf kinds sizes u r was now low inumber words = by_words old new u r was directory in_old wf (inumber directory in_old) words
+    (IsDirectory old u → r < entry_count old u → ino_at new u r ≡ ino_at old u r) →
+    ((f : ℕ) → EntryNames old u r (ino_at old u r) → f < 32 → entry_word new u r f ≡ entry_word old u r f) → WasEntry old new u r
+by_sizes old new wf kinds sizes u r was now low ino words = by_words old new u r was directory in_old wf (ino directory in_old) words
   where
     in_file : u < inode_count old
     in_file = reached-in_file old wf u was
@@ -79,14 +79,14 @@ module _ (old new : Image) (same : SameDirectories old new) where
   slot_back u r reached now low = subst (λ n. r < n) (same.count u reached (directory_back u reached now)) low
 
   was_reached : (t : ℕ) → IsReached new t → IsReached old t
-  was_reached = reached_back old new (record { kind = same.kind; count = same.count; inumber = same.inumber })
+  was_reached = reached_back old new (record { kind = same.kind; count = same.count; ino = same.ino })
 
   pub directories_keep_entries : KeepsEntries old new NoSlot
   directories_keep_entries u r now directory low apart =
       let was : IsReached old u = was_reached u now in
       let kind : kind_of old u ≡ 2 = directory_back u was directory in
       let small : r < entry_count old u = slot_back u r was directory low in
-      was_entry old new u r was kind small (same.inumber u r was kind small) (λ n. same.name u r (inumber_at old u r) was n)
+      was_entry old new u r was kind small (same.ino u r was kind small) (λ n. same.name u r (ino_at old u r) was n)
 
 -- ---- a name more
 
@@ -105,7 +105,7 @@ module _ (old new : Image) (i s j : ℕ) (gains : GainsEntry old new i s j) (u r
   was_there : WasEntry old new u r
   was_there =
       by_names old new u r reached gained_directory (gained_low (gains.slots u r reached gained_directory low)) now low
-      (λ k n. gains.stay u r k reached n) (λ k n. gained_back k (gains.back u r k reached n)) (λ n. gains.same_names u r (inumber_at old u r) reached n)
+      (λ k n. gains.stay u r k reached n) (λ k n. gained_back k (gains.back u r k reached n)) (λ n. gains.same_names u r (ino_at old u r) reached n)
 
 -- of an inode that had none: it is a file, or a directory without entries
 pub adds_keeps_entries : (old new : Image) → IsWellFormed old → (i s j : ℕ) → AddsNames old new i s j → KeepsEntries old new (OneSlot i s)
@@ -120,10 +120,10 @@ pub links_keeps_entries : (old new : Image) → IsWellFormed old → (i s j : �
 links_keeps_entries old new wf i s j links u r reached now low apart =
     was_there old new i s j (links_gain old new i s j links) u r (linking.reached_back old new wf i s j links u reached) now low apart
 
--- ---- an inumber
+-- ---- an inode number
 
 -- of which nothing new is reached
-pub sets_keeps_entries : (old new : Image) → IsWellFormed old → (i s value : ℕ) → SetsInumber old new i s value → ((u : ℕ) → IsReached new u → IsReached old u) → KeepsEntries old new (OneSlot i s)
+pub sets_keeps_entries : (old new : Image) → IsWellFormed old → (i s value : ℕ) → SetsIno old new i s value → ((u : ℕ) → IsReached new u → IsReached old u) → KeepsEntries old new (OneSlot i s)
 sets_keeps_entries old new wf i s value sets before u r reached now low apart =
     by_sizes old new wf sets.kind sets.size u r was now low
     (λ kind small. sets.entry u r 0 was kind small (omega arith) (λ e same. apart (sym e, omega (arith, same))))
@@ -151,8 +151,8 @@ moves_keeps_entries old new wf i s k r j can moves u x reached now low apart =
 
 pub respells_keeps_entries : (old new : Image) → IsWellFormed old → (i s j : ℕ) → RespellsEntry old new i s j → KeepsEntries old new (OneSlot i s)
 respells_keeps_entries old new wf i s j spells u r reached now low apart =
-    by_sizes old new wf spells.kind spells.size u r was now low (spells.inumber u r was)
-    (λ f n few. spells.entry u r (inumber_at old u r) f was n few (λ e same. apart (e, same)))
+    by_sizes old new wf spells.kind spells.size u r was now low (spells.ino u r was)
+    (λ f n few. spells.entry u r (ino_at old u r) f was n few (λ e same. apart (e, same)))
   where
     was : IsReached old u
     was = respell.reached_back old new wf i s j spells u reached
@@ -160,7 +160,7 @@ respells_keeps_entries old new wf i s j spells u r reached now low apart =
 pub carries_keeps_entries : (old new : Image) → IsWellFormed old → (i s k r j : ℕ) → CarriesEntry old new i s k r j → KeepsEntries old new (TwoSlots i s k r)
 carries_keeps_entries old new wf i s k r j carries u x reached now low apart =
     by_names old new u x was directory (in_old (cases_eq u k)) now low (λ l n. carries.stay u x l was n not_source) (λ l n. back l (carries.back u x l was n))
-    (λ n. carries.same_names u x (inumber_at old u x) was n not_source)
+    (λ n. carries.same_names u x (ino_at old u x) was n not_source)
   where
     was : IsReached old u
     was = carry.reached_back old new wf i s k r j carries u reached

@@ -96,7 +96,7 @@ module _ (old new : Image) (wf : IsWellFormed old) (i s j : ℕ) (gains : GainsE
         full_directories = λ t r kind. full_cases t (inode_cases t r) kind;
         inode_blocks = takes.inode_blocks;
         some_inodes = le_trans wf.some_inodes takes.inode_bytes;
-        inumbers = λ u r k q n. in_file_cases u r k (entry_cases u r k q n);
+        inos = λ u r k q n. in_file_cases u r k (entry_cases u r k q n);
         not_root = λ u r k q n. not_root_cases u r k (entry_cases u r k q n);
         named_once = λ u r v q k from also n m kind. once_cases u r v q k (entry_cases u r k from n) (entry_cases v q k also m) kind;
         kinds = λ u r. kind_cases u (inode_cases (suc u) r);
@@ -128,7 +128,7 @@ module _ (old new : Image) (wf : IsWellFormed old) (i s j : ℕ) (gains : GainsE
 
       in_file_cases : (u r k : ℕ) → Entry u r k → k < inode_count new
       in_file_cases u r k (inl e) = rw e.inode takes.in_file
-      in_file_cases u r k (inr e) = let low : k < inode_count old = wf.inumbers u r k e.0 e.1 in omega (arith, low, takes.inode_bytes)
+      in_file_cases u r k (inr e) = let low : k < inode_count old = wf.inos u r k e.0 e.1 in omega (arith, low, takes.inode_bytes)
 
       not_root_cases : (u r k : ℕ) → Entry u r k → k ≢ 1
       not_root_cases u r k (inl e) one = takes.not_root (sym e.inode ∙ one)

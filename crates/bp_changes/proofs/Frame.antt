@@ -7,7 +7,7 @@ use Rattle.bp_layout.specs.Words.{Image, word, height_of, byte_of}
 use Rattle.bp_layout.specs.Tree.{content_word, byte, HasBlock, IsSound, IsFull}
 use Rattle.bp_layout.specs.Inode.{inode_word, kind_of, root_of, size_of, inode_count, ContentStandsAt, RootPlace}
 use Rattle.bp_layout.specs.Inode.RootPlace.{inode}
-use Rattle.bp_layout.specs.Directory.{EntryNames, inumber_at, entry_word, entry_count}
+use Rattle.bp_layout.specs.Directory.{EntryNames, ino_at, entry_word, entry_count}
 use Rattle.bp_layout.specs.Reached.{IsReached}
 use Rattle.bp_layout.specs.Reached.IsReached.{inode_file}
 use Rattle.bp_layout.specs.WellFormed.{IsWellFormed}
@@ -67,9 +67,9 @@ module _ (old new : Image) (wf : IsWellFormed old) (agrees : Agrees old new) whe
   size-same zero reached = inode_file_size
   size-same (suc i) reached = inode_word-same i 2 reached (omega arith) (λ place at. (agrees.each place).inodes i 2 reached (omega arith) (λ e. omega (arith, e)) at)
 
-  inumber-same : (i slot : ℕ) → IsReached old i → kind_of old i ≡ 2 → slot < entry_count old i → inumber_at new i slot ≡ inumber_at old i slot
-  inumber-same i slot reached kind in_size =
-      content_word-same i (32 * slot + 0) reached (root-same i reached (omega (arith, in_size))) (omega (arith, in_size)) (λ place at. (agrees.each place).inumbers i slot reached kind in_size at)
+  ino-same : (i slot : ℕ) → IsReached old i → kind_of old i ≡ 2 → slot < entry_count old i → ino_at new i slot ≡ ino_at old i slot
+  ino-same i slot reached kind in_size =
+      content_word-same i (32 * slot + 0) reached (root-same i reached (omega (arith, in_size))) (omega (arith, in_size)) (λ place at. (agrees.each place).inos i slot reached kind in_size at)
 
   entry_word-same : (i slot j f : ℕ) → IsReached old i → EntryNames old i slot j → f < 32 → entry_word new i slot f ≡ entry_word old i slot f
   entry_word-same i slot j f reached names low =
@@ -129,7 +129,7 @@ module _ (old new : Image) (wf : IsWellFormed old) (agrees : Agrees old new) whe
     size = λ i reached. size-same (suc i) reached;
     inode_blocks = rw (size-same 0 inode_file) wf.inode_blocks;
     inodes = le_of_eq (sym (size-same 0 inode_file));
-    inumber = inumber-same;
+    ino = ino-same;
     entry = entry_word-same;
     bytes = byte-same;
   }

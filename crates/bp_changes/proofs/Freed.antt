@@ -148,9 +148,9 @@ module _ (old new : Image) (wf : IsWellFormed old) (i s j : ℕ) (can : CanUnlin
   pub removed_inode : IsLastName old i s j → (free after : ℕ → Bool) → AreFreeInodes old free → after j ≡ true → ((t : ℕ) → (t ≡ j → ⊥) → after t ≡ free t) → AreFreeInodes new after
   removed_inode last =
       free_inodes_but old new j (removes.size 0 (omega (arith, wf.some_inodes))) (reached_back old new wf i s j can removes) (reached_stays old new wf i s j can removes) (other last)
-      (record { low = omega (arith, can.entry.not_empty, wf.not_root i s j can.reached can.entry); high = wf.inumbers i s j can.reached can.entry })
+      (record { low = omega (arith, can.entry.not_empty, wf.not_root i s j can.reached can.entry); high = wf.inos i s j can.reached can.entry })
 
--- the same by one store of 0 to the inumber
+-- the same by one store of 0 to the inode number
 pub remove_frees : (old : Image) (wf : IsWellFormed old) (i s j place : ℕ) → CanUnlink old i s j → IsLastName old i s j → ContentStandsAt old i (32 * s + 0) place →
     FreesBlocks old (set old place 0) (HasBlock old (root_of old j) (size_of old j))
 remove_frees old wf i s j place can last stands =

@@ -10,11 +10,11 @@ use Rattle.bp_layout.specs.Paths.{Path}
 use Rattle.bp_layout.proofs.View.{SameDirectories, lookup_from-same}
 use Rattle.bp_changes.specs.KeepsDirectories.{KeepsDirectories}
 use Rattle.bp_changes.proofs.SameEntries as entries
-use Rattle.bp_changes.proofs.SameEntries.{SameEntries, SameInumbers}
+use Rattle.bp_changes.proofs.SameEntries.{SameEntries, SameInos}
 
 module _ (old new : Image) (wf : IsWellFormed old) (same : KeepsDirectories old new) where
-  pub same_inumbers : SameInumbers old new
-  same_inumbers = record { kind = same.kind; count = λ i reached kind. ap (λ s. s / 256) (same.size i reached kind); inumber = same.inumber }
+  pub same_inos : SameInos old new
+  same_inos = record { kind = same.kind; count = λ i reached kind. ap (λ s. s / 256) (same.size i reached kind); ino = same.ino }
 
   -- all entries are as they were
   same_entries : SameEntries old new
@@ -23,7 +23,7 @@ module _ (old new : Image) (wf : IsWellFormed old) (same : KeepsDirectories old 
     inode_blocks = rw same.inode_bytes wf.inode_blocks;
     inodes = rw same.inode_bytes (omega arith);
     size = same.size;
-    inumbers = same_inumbers;
+    inos = same_inos;
     entry = same.entry;
   }
 
@@ -35,16 +35,16 @@ module _ (old new : Image) (wf : IsWellFormed old) (same : KeepsDirectories old 
   directories-same = entries.directories_same old new wf same_entries
 
   pub names-back : (i s j : ℕ) → IsReached old i → EntryNames new i s j → EntryNames old i s j
-  names-back = entries.names_back old new same_inumbers
+  names-back = entries.names_back old new same_inos
 
   pub reached-back : (t : ℕ) → IsReached new t → IsReached old t
-  reached-back = entries.reached_back old new same_inumbers
+  reached-back = entries.reached_back old new same_inos
 
   pub names-on : (i s j : ℕ) → IsReached old i → EntryNames old i s j → EntryNames new i s j
-  names-on = entries.names_on old new same_inumbers
+  names-on = entries.names_on old new same_inos
 
   pub reached-on : (t : ℕ) → IsReached old t → IsReached new t
-  reached-on = entries.reached_on old new same_inumbers
+  reached-on = entries.reached_on old new same_inos
 
   pub well_formed-same : IsWellFormed new
   well_formed-same = entries.well_formed_same old new wf same_entries

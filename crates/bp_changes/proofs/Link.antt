@@ -1,29 +1,29 @@
--- A store of an inumber into an empty entry adds that name to its directory, and changes nothing else. The inode that the
+-- A store of an inode number into an empty entry adds that name to its directory, and changes nothing else. The inode that the
 -- entry names was free, or it is a file that has a name.
 use Rattle.std.proofs.Common.{◌≡◌, ◌≢◌, ◌⊎◌, ℕ, ◌+◌, ◌*◌, ◌/◌, ◌<◌, ◌≤◌, length, sym, ◌∙◌, ap, ap₂, subst₂, arith, inl, inr}
 use Rattle.bp_limits.specs.CallLimits.{max_name}
 use Rattle.bp_layout.specs.Words.{Image}
 use Rattle.bp_layout.specs.Inode.{kind_of, size_of, inode_count}
-use Rattle.bp_layout.specs.Directory.{EntryNames, name_at, inumber_at, entry_word, entry_count}
+use Rattle.bp_layout.specs.Directory.{EntryNames, name_at, ino_at, entry_word, entry_count}
 use Rattle.bp_layout.specs.Paths.{IsName}
 use Rattle.bp_layout.specs.Reached.{IsReached}
 use Rattle.bp_layout.specs.Reached.IsReached.{inode_file}
 use Rattle.bp_layout.specs.WellFormed.{IsWellFormed}
-use Rattle.bp_changes.specs.Effects.{SetsInumber, AddsNames, LinksName, IsNewEntry}
+use Rattle.bp_changes.specs.Effects.{SetsIno, AddsNames, LinksName, IsNewEntry}
 use Rattle.bp_changes.proofs.GainsEntry.{CanTake, GainsEntry, gains_adds, gains_links, takes_inode}
 use Rattle.bp_layout.proofs.Reached.{reached-in_file}
 use Rattle.bp_changes.proofs.SameShown.{name_by_words, this_or}
 
--- An empty entry of a directory, whose name is new there: its inumber is what it lacks.
-pub record AwaitsInumber (old : Image) (i s : ℕ) : Type 0 where
+-- An empty entry of a directory, whose name is new there: its inode number is what it lacks.
+pub record AwaitsIno (old : Image) (i s : ℕ) : Type 0 where
   pub reached : IsReached old i
   pub directory : kind_of old i ≡ 2
   pub in_size : s < entry_count old i
-  pub empty : inumber_at old i s ≡ 0
+  pub empty : ino_at old i s ≡ 0
   pub name : IsName (name_at old i s)
   pub new_name : (r k : ℕ) → EntryNames old i r k → name_at old i r ≢ name_at old i s
 
-module _ (old new : Image) (wf : IsWellFormed old) (i s j : ℕ) (can : AwaitsInumber old i s) (some : j ≢ 0) (adds : SetsInumber old new i s j) where
+module _ (old new : Image) (wf : IsWellFormed old) (i s j : ℕ) (can : AwaitsIno old i s) (some : j ≢ 0) (adds : SetsIno old new i s j) where
   in_inodes : (t : ℕ) → IsReached old t → t < inode_count old
   in_inodes = reached-in_file old wf
 
@@ -33,15 +33,15 @@ module _ (old new : Image) (wf : IsWellFormed old) (i s j : ℕ) (can : AwaitsIn
   sizes_stay : (t : ℕ) → t < inode_count old → size_of new t ≡ size_of old t
   sizes_stay = adds.size
 
-  inumber_here : inumber_at new i s ≡ j
-  inumber_here = adds.inumber
+  ino_here : ino_at new i s ≡ j
+  ino_here = adds.ino
 
   entry_word_stays : (u r f : ℕ) → IsReached old u → kind_of old u ≡ 2 → r < entry_count old u → f < 32 → ((i ≡ u) → (32 * s + 0 ≡ 32 * r + f) → ⊥) →
       entry_word new u r f ≡ entry_word old u r f
   entry_word_stays = adds.entry
 
-  inumber_stays : (u r : ℕ) → IsReached old u → kind_of old u ≡ 2 → r < entry_count old u → ((i ≡ u) → (s ≡ r) → ⊥) → inumber_at new u r ≡ inumber_at old u r
-  inumber_stays u r reached kind in_size other = entry_word_stays u r 0 reached kind in_size (omega arith) (λ e same. other e (omega (arith, same)))
+  ino_stays : (u r : ℕ) → IsReached old u → kind_of old u ≡ 2 → r < entry_count old u → ((i ≡ u) → (s ≡ r) → ⊥) → ino_at new u r ≡ ino_at old u r
+  ino_stays u r reached kind in_size other = entry_word_stays u r 0 reached kind in_size (omega arith) (λ e same. other e (omega (arith, same)))
 
   name_stays : (u r : ℕ) → IsReached old u → kind_of old u ≡ 2 → r < entry_count old u → length (name_at old u r) ≤ max_name → name_at new u r ≡ name_at old u r
   name_stays u r reached kind in_size few =
@@ -60,17 +60,17 @@ module _ (old new : Image) (wf : IsWellFormed old) (i s j : ℕ) (can : AwaitsIn
       is_directory = sym (kinds_stay u (in_inodes u reached)) ∙ n.directory
 
       other : ((i ≡ u) → (s ≡ r) → ⊥) → EntryNames old u r k
-      other apart = record { directory = is_directory; in_size = in_old; inumber = sym (inumber_stays u r reached is_directory in_old apart) ∙ n.inumber; not_empty = n.not_empty }
+      other apart = record { directory = is_directory; in_size = in_old; ino = sym (ino_stays u r reached is_directory in_old apart) ∙ n.ino; not_empty = n.not_empty }
 
       go : ((u ≡ i) × (r ≡ s)) ⊎ ((u ≡ i) → (r ≡ s) → ⊥) → IsNewEntry i s j u r k ⊎ EntryNames old u r k
-      go (inl at) = inl (record { directory = at.0; slot = at.1; inode = sym n.inumber ∙ ap₂ (inumber_at new) at.0 at.1 ∙ inumber_here })
+      go (inl at) = inl (record { directory = at.0; slot = at.1; inode = sym n.ino ∙ ap₂ (ino_at new) at.0 at.1 ∙ ino_here })
       go (inr apart) = inr (other (λ x y. apart (sym x) (sym y)))
 
   new_names : EntryNames new i s j
   new_names = record {
     directory = kinds_stay i (in_inodes i can.reached) ∙ can.directory;
     in_size = rw (count_stays i (in_inodes i can.reached)) can.in_size;
-    inumber = inumber_here;
+    ino = ino_here;
     not_empty = some;
   }
 
@@ -78,7 +78,7 @@ module _ (old new : Image) (wf : IsWellFormed old) (i s j : ℕ) (can : AwaitsIn
   names_stay u r k reached n = record {
     directory = kinds_stay u (in_inodes u reached) ∙ n.directory;
     in_size = rw (count_stays u (in_inodes u reached)) n.in_size;
-    inumber = inumber_stays u r reached n.directory n.in_size (λ e f. n.not_empty (sym n.inumber ∙ subst₂ (λ x y. inumber_at old x y ≡ 0) e f can.empty)) ∙ n.inumber;
+    ino = ino_stays u r reached n.directory n.in_size (λ e f. n.not_empty (sym n.ino ∙ subst₂ (λ x y. ino_at old x y ≡ 0) e f can.empty)) ∙ n.ino;
     not_empty = n.not_empty;
   }
 

@@ -1,4 +1,4 @@
--- A store of an inumber in place: into an empty entry, or of 0 over one.
+-- A store of an inode number in place: into an empty entry, or of 0 over one.
 use Rattle.std.proofs.Common.{◌≡◌, ◌≢◌, ℕ, ◌+◌, ◌*◌, ◌/◌, ◌%◌, ◌<◌, ◌≤◌, refl, set, sym, ap, subst, subst₂, arith}
 use Rattle.std.proofs.lemmas.List.{length-set}
 use Rattle.bp_limits.specs.Limits.{greatest_height}
@@ -13,8 +13,8 @@ use Rattle.bp_layout.specs.WellFormed.{IsWellFormed}
 use Rattle.bp_layout.proofs.TreeLaws.{KeepsPointers, sound-kept, full-kept, has_block-kept, has_block-stays}
 use Rattle.bp_layout.proofs.Reached.{reached-in_file}
 use Rattle.bp_changes.proofs.ContentStore.{pointers_stay, content_elsewhere, content_here, superblock_stays, kind_stays, root_stays, size_stays}
-use Rattle.bp_changes.specs.Effects.{SetsInumber, KeepsBlocks, CanUnlink, RemovesEntry}
-use Rattle.bp_changes.proofs.Link.{AwaitsInumber}
+use Rattle.bp_changes.specs.Effects.{SetsIno, KeepsBlocks, CanUnlink, RemovesEntry}
+use Rattle.bp_changes.proofs.Link.{AwaitsIno}
 use Rattle.bp_changes.proofs.Formatted.{low_stays}
 
 module _ (old : Image) (wf : IsWellFormed old) (i s value place : ℕ) (reached_here : IsReached old i) (directory : kind_of old i ≡ 2) (in_size : s < entry_count old i)
@@ -45,7 +45,7 @@ module _ (old : Image) (wf : IsWellFormed old) (i s value place : ℕ) (reached_
       has_block-kept old (set old place value) (root_of old t) (size_of old t) (keeps t reached) b
       (subst₂ (λ r z. HasBlock (set old place value) r z b) (roots_stay t (in_inodes t reached)) (sizes_stay t (in_inodes t reached)) has)
 
-  pub store_sets : SetsInumber old (set old place value) i s value
+  pub store_sets : SetsIno old (set old place value) i s value
   store_sets = record {
     trees = record {
       whole = length-set old place value;
@@ -60,7 +60,7 @@ module _ (old : Image) (wf : IsWellFormed old) (i s value place : ℕ) (reached_
     };
     kind = kind_stays old wf i (32 * s + 0) place value reached_here not_inode_file below stands;
     size = sizes_stay;
-    inumber = content_here old wf i (32 * s + 0) place value reached_here not_inode_file below stands (roots_stay i (in_inodes i reached_here));
+    ino = content_here old wf i (32 * s + 0) place value reached_here not_inode_file below stands (roots_stay i (in_inodes i reached_here));
     entry = λ u r f reached kind low few other.
         content_elsewhere old wf i (32 * s + 0) place value reached_here not_inode_file below stands u (32 * r + f) reached (roots_stay u (in_inodes u reached)) (omega (arith, low, few)) other;
     bytes = λ u o reached kind low.
@@ -75,7 +75,7 @@ module _ (old : Image) (wf : IsWellFormed old) (i s value place : ℕ) (reached_
     stay = λ t b reached has. to_new (λ r z. HasBlock (set old place value) r z b) t reached (has_block-stays old (set old place value) (root_of old t) (size_of old t) (keeps t reached) b has);
   }
 
-pub store_adds : (old : Image) → IsWellFormed old → (i s j place : ℕ) → AwaitsInumber old i s → ContentStandsAt old i (32 * s + 0) place → SetsInumber old (set old place j) i s j
+pub store_adds : (old : Image) → IsWellFormed old → (i s j place : ℕ) → AwaitsIno old i s → ContentStandsAt old i (32 * s + 0) place → SetsIno old (set old place j) i s j
 store_adds old wf i s j place can stands = store_sets old wf i s j place can.reached can.directory can.in_size stands
 
 pub store_removes : (old : Image) → IsWellFormed old → (i s j place : ℕ) → CanUnlink old i s j → ContentStandsAt old i (32 * s + 0) place → RemovesEntry old (set old place 0) i s

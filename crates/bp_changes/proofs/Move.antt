@@ -1,9 +1,9 @@
--- An inumber leaves one entry and comes into another: what a rename onto a target, or into another directory, makes of an image.
+-- An inode number leaves one entry and comes into another: what a rename onto a target, or into another directory, makes of an image.
 use Rattle.std.proofs.Common.{◌≡◌, ◌⊎◌, ℕ, suc, ◌/◌, ◌<◌, ◌≤◌, length, None, Some, refl, sym, ◌∙◌, ap, ap₂, subst, subst₂, arith, inl, inr}
 use Rattle.bp_limits.specs.CallLimits.{max_name}
 use Rattle.bp_layout.specs.Words.{Image}
 use Rattle.bp_layout.specs.Inode.{kind_of, size_of, inode_count}
-use Rattle.bp_layout.specs.Directory.{EntryNames, name_at, inumber_at, entry_count, lookup_in}
+use Rattle.bp_layout.specs.Directory.{EntryNames, name_at, ino_at, entry_count, lookup_in}
 use Rattle.bp_layout.specs.Paths.{Name, IsName}
 use Rattle.bp_layout.specs.Reached.{IsReached}
 use Rattle.bp_layout.specs.Reached.IsReached.{inode_file, root_directory, named}
@@ -26,8 +26,8 @@ module _ (old new : Image) (wf : IsWellFormed old) (i s k r j : ℕ) (can : CanM
   count_stays : (u : ℕ) → IsReached old u → entry_count new u ≡ entry_count old u
   count_stays u reached = ap (λ n. n / 256) (moves.size u (in_inodes u reached))
 
-  inumber_stays : (u x : ℕ) → IsReached old u → kind_of old u ≡ 2 → x < entry_count old u → ((u ≡ i) → (x ≡ s) → ⊥) → ((u ≡ k) → (x ≡ r) → ⊥) → inumber_at new u x ≡ inumber_at old u x
-  inumber_stays u x reached kind low one two =
+  ino_stays : (u x : ℕ) → IsReached old u → kind_of old u ≡ 2 → x < entry_count old u → ((u ≡ i) → (x ≡ s) → ⊥) → ((u ≡ k) → (x ≡ r) → ⊥) → ino_at new u x ≡ ino_at old u x
+  ino_stays u x reached kind low one two =
       moves.entry u x 0 reached kind low (omega arith) (λ e same. one (sym e) (omega (arith, same))) (λ e same. two (sym e) (omega (arith, same)))
 
   name_stays : (u x : ℕ) → IsReached old u → kind_of old u ≡ 2 → x < entry_count old u → length (name_at old u x) ≤ max_name → name_at new u x ≡ name_at old u x
@@ -56,21 +56,21 @@ module _ (old new : Image) (wf : IsWellFormed old) (i s k r j : ℕ) (can : CanM
       low = rw (count_stays u reached) at n.in_size
 
       not_source : (u ≡ i) → (x ≡ s) → ⊥
-      not_source e f = n.not_empty (sym n.inumber ∙ subst₂ (λ a b. inumber_at new a b ≡ 0) (sym e) (sym f) moves.emptied)
+      not_source e f = n.not_empty (sym n.ino ∙ subst₂ (λ a b. ino_at new a b ≡ 0) (sym e) (sym f) moves.emptied)
 
       other : ((u ≡ k) → (x ≡ r) → ⊥) → Entry u x l
       other not_target =
-          is_old (record { directory = kind; in_size = low; inumber = sym (inumber_stays u x reached kind low not_source not_target) ∙ n.inumber; not_empty = n.not_empty }) not_source not_target
+          is_old (record { directory = kind; in_size = low; ino = sym (ino_stays u x reached kind low not_source not_target) ∙ n.ino; not_empty = n.not_empty }) not_source not_target
 
       go : ((u ≡ k) × (x ≡ r)) ⊎ ((u ≡ k) → (x ≡ r) → ⊥) → Entry u x l
-      go (inl at) = is_target at.0 at.1 (sym n.inumber ∙ ap₂ (inumber_at new) at.0 at.1 ∙ moves.entered)
+      go (inl at) = is_target at.0 at.1 (sym n.ino ∙ ap₂ (ino_at new) at.0 at.1 ∙ moves.entered)
       go (inr apart) = other apart
 
   pub names_stay : (u x l : ℕ) → IsReached old u → EntryNames old u x l → ((u ≡ i) → (x ≡ s) → ⊥) → ((u ≡ k) → (x ≡ r) → ⊥) → EntryNames new u x l
   names_stay u x l reached n one two = record {
     directory = moves.kind u (in_inodes u reached) ∙ n.directory;
     in_size = rw (count_stays u reached) n.in_size;
-    inumber = inumber_stays u x reached n.directory n.in_size one two ∙ n.inumber;
+    ino = ino_stays u x reached n.directory n.in_size one two ∙ n.ino;
     not_empty = n.not_empty;
   }
 
@@ -78,7 +78,7 @@ module _ (old new : Image) (wf : IsWellFormed old) (i s k r j : ℕ) (can : CanM
   new_entry = record {
     directory = moves.kind k (in_inodes k can.target) ∙ can.directory;
     in_size = rw (count_stays k can.target) can.in_size;
-    inumber = moves.entered;
+    ino = moves.entered;
     not_empty = can.entry.not_empty;
   }
 
@@ -103,7 +103,7 @@ module _ (old new : Image) (wf : IsWellFormed old) (i s k r j : ℕ) (can : CanM
         full_directories = λ t q kind. moves.trees.full_directories t (reached_back t q) (sym (moves.kind t (in_inodes t (reached_back t q))) ∙ kind);
         inode_blocks = rw inodes wf.inode_blocks;
         some_inodes = rw inodes wf.some_inodes;
-        inumbers = λ u x l q n. rw inodes (in_file u x l (reached_back u q) (entry_of u x l (reached_back u q) n));
+        inos = λ u x l q n. rw inodes (in_file u x l (reached_back u q) (entry_of u x l (reached_back u q) n));
         not_root = λ u x l q n. not_root u x l (reached_back u q) (entry_of u x l (reached_back u q) n);
         named_once = λ u x v y l q p n m kind. once u x v y l (reached_back u q) (reached_back v p) (entry_of u x l (reached_back u q) n) (entry_of v y l (reached_back v p) m)
             (sym (moves.kind l (in_inodes l (reached_back l (named x q n)))) ∙ kind);
@@ -117,7 +117,7 @@ module _ (old new : Image) (wf : IsWellFormed old) (i s k r j : ℕ) (can : CanM
     where
       in_file : (u x l : ℕ) → IsReached old u → Entry u x l → l < inode_count old
       in_file u x l reached (is_target e f g) = rw g (in_inodes j j_reached)
-      in_file u x l reached (is_old n one two) = wf.inumbers u x l reached n
+      in_file u x l reached (is_old n one two) = wf.inos u x l reached n
 
       not_root : (u x l : ℕ) → IsReached old u → Entry u x l → l ≡ 1 → ⊥
       not_root u x l reached (is_target e f g) h = wf.not_root i s j can.reached can.entry (sym g ∙ h)
@@ -204,12 +204,12 @@ module _ (old new : Image) (wf : IsWellFormed old) (i s k r j : ℕ) (can : CanM
       nothing v name e =
           let shows : Shows old k (name_at old k r) v = lookup_in-shows old k v (name_at old k r) e in
           let slot : shows.slot ≡ r = can.new_name shows.slot v shows.entry shows.spelled in
-          let inumber : inumber_at old k r ≡ v = ap (inumber_at old k) (sym slot) ∙ shows.entry.inumber in
+          let ino : ino_at old k r ≡ v = ap (ino_at old k) (sym slot) ∙ shows.entry.ino in
           lookup_in-none old v name (λ l below.
-          can.alone below.slot l (λ empty. shows.entry.not_empty (sym inumber ∙ empty)) (subst (λ a. EntryNames old a below.slot l) (sym inumber) below.entry))
+          can.alone below.slot l (λ empty. shows.entry.not_empty (sym ino ∙ empty)) (subst (λ a. EntryNames old a below.slot l) (sym ino) below.entry))
 
   -- where no name was in the target, it is one that its directory had not
-  pub moves_carry : inumber_at old k r ≡ 0 → CarriesEntry old new i s k r j
+  pub moves_carry : ino_at old k r ≡ 0 → CarriesEntry old new i s k r j
   moves_carry empty = record {
     reached = can.reached;
     names = can.entry;
@@ -230,7 +230,7 @@ module _ (old new : Image) (wf : IsWellFormed old) (i s k r j : ℕ) (can : CanM
   }
     where
       not_target : (u x l : ℕ) → EntryNames old u x l → (u ≡ k) → (x ≡ r) → ⊥
-      not_target u x l n e f = n.not_empty (sym n.inumber ∙ subst₂ (λ a b. inumber_at old a b ≡ 0) (sym e) (sym f) empty)
+      not_target u x l n e f = n.not_empty (sym n.ino ∙ subst₂ (λ a b. ino_at old a b ≡ 0) (sym e) (sym f) empty)
 
       back : (u x l : ℕ) → Entry u x l → IsNewEntry k r j u x l ⊎ IsOldEntry old i s u x l
       back u x l (is_target e f g) = inl (record { directory = e; slot = f; inode = g })

@@ -2,7 +2,7 @@
 use Rattle.std.proofs.Common.{◌≡◌, ◌≢◌, ◌⊎◌, ℕ, [], ◌∷◌, ◌++◌, Option, None, Some, refl, sym, ◌∙◌, ap, subst, ap₂, inl, inr}
 use Rattle.bp_layout.specs.Words.{Image}
 use Rattle.bp_layout.specs.Paths.{rest_below, Path}
-use Rattle.bp_layout.specs.Directory.{EntryNames, name_at, inumber_at, lookup_in}
+use Rattle.bp_layout.specs.Directory.{EntryNames, name_at, ino_at, lookup_in}
 use Rattle.bp_layout.specs.Lookup.{lookup, lookup_from}
 use Rattle.bp_layout.specs.Inode.{IsDirectory}
 use Rattle.bp_layout.specs.Reached.{IsReached}
@@ -63,7 +63,7 @@ module _ (old new : Image) (i s k r j : ℕ) (Gone : ℕ → Type 0) (reached : 
     (stay : (u x l : ℕ) → IsReached old u → EntryNames old u x l → ((u ≡ i) → (x ≡ s) → ⊥) → (Gone l → ⊥) → EntryNames new u x l)
     (outside : IsAtOrBelow old j k → ⊥) where
   source_names : (u x l : ℕ) → (u ≡ i) × (x ≡ s) → EntryNames old u x l → l ≡ j
-  source_names u x l at n = sym n.inumber ∙ ap₂ (λ a b. inumber_at old a b) at.0 at.1 ∙ names.inumber
+  source_names u x l at n = sym n.ino ∙ ap₂ (λ a b. ino_at old a b) at.0 at.1 ∙ names.ino
 
   stays_or_below : (t : ℕ) → IsReached old t → (Gone t → ⊥) → IsReached new t ⊎ IsAtOrBelow old j t
   stays_or_below _ inode_file kept = inl inode_file
@@ -110,46 +110,46 @@ carried_on old new i s k r j carries outside t was =
 module _ (old new : Image) (wf : IsWellFormed old) (i s k r j : ℕ) (can : CanMoveEntry old i s k r j) (moves : MovesEntry old new i s k r j) (outside : IsAtOrBelow old j k → ⊥) where
   -- what that entry named
   abbrev Replaced : ℕ → Type 0
-  Replaced t = (t ≢ 0) × (t ≡ inumber_at old k r)
+  Replaced t = (t ≢ 0) × (t ≡ ino_at old k r)
 
   alone : (u x l : ℕ) → Replaced u → EntryNames old u x l → ⊥
   alone u x l gone n = can.alone x l (λ e. gone.0 (gone.1 ∙ e)) (subst (λ a. EntryNames old a x l) gone.1 n)
 
   not_target : Replaced k → ⊥
-  not_target gone = alone k r k gone (record { directory = can.directory; in_size = can.in_size; inumber = sym gone.1; not_empty = gone.0 })
+  not_target gone = alone k r k gone (record { directory = can.directory; in_size = can.in_size; ino = sym gone.1; not_empty = gone.0 })
 
   stay : (u x l : ℕ) → IsReached old u → EntryNames old u x l → ((u ≡ i) → (x ≡ s) → ⊥) → (Replaced l → ⊥) → EntryNames new u x l
   stay u x l reached n other kept =
       move.names_stay old new wf i s k r j can moves u x l reached n other
-      (λ e f. kept (n.not_empty, sym n.inumber ∙ ap₂ (λ a b. inumber_at old a b) e f))
+      (λ e f. kept (n.not_empty, sym n.ino ∙ ap₂ (λ a b. ino_at old a b) e f))
 
-  pub moved_on : (t : ℕ) → IsReached old t → (t ≢ 0 → t ≢ inumber_at old k r) → IsReached new t
+  pub moved_on : (t : ℕ) → IsReached old t → (t ≢ 0 → t ≢ ino_at old k r) → IsReached new t
   moved_on t was kept =
       reach_stays old new i s k r j Replaced can.reached can.entry can.target (move.new_entry old new wf i s k r j can moves) alone not_target stay outside t was
       (λ gone. kept gone.0 gone.1)
 
   -- where no other entry names it, what it named is not reached any more
-  pub replaced_not_reached : inumber_at old k r ≢ 0 → ((u x : ℕ) → IsReached old u → EntryNames old u x (inumber_at old k r) → (u ≡ k) × (x ≡ r)) →
-      IsReached new (inumber_at old k r) → ⊥
-  replaced_not_reached some last now = go (inumber_at old k r) now refl
+  pub replaced_not_reached : ino_at old k r ≢ 0 → ((u x : ℕ) → IsReached old u → EntryNames old u x (ino_at old k r) → (u ≡ k) × (x ≡ r)) →
+      IsReached new (ino_at old k r) → ⊥
+  replaced_not_reached some last now = go (ino_at old k r) now refl
     where
-      target : EntryNames old k r (inumber_at old k r)
-      target = record { directory = can.directory; in_size = can.in_size; inumber = refl; not_empty = some }
+      target : EntryNames old k r (ino_at old k r)
+      target = record { directory = can.directory; in_size = can.in_size; ino = refl; not_empty = some }
 
-      source_is : (u x l : ℕ) → IsReached old u → EntryNames old u x l → l ≡ inumber_at old k r → (u ≡ k) × (x ≡ r)
+      source_is : (u x l : ℕ) → IsReached old u → EntryNames old u x l → l ≡ ino_at old k r → (u ≡ k) × (x ≡ r)
       source_is u x l q n e = last u x q (subst (EntryNames old u x) e n)
 
-      by_entry : (u x l : ℕ) → IsReached old u → move.Entry old new wf i s k r j can moves u x l → l ≡ inumber_at old k r → ⊥
+      by_entry : (u x l : ℕ) → IsReached old u → move.Entry old new wf i s k r j can moves u x l → l ≡ ino_at old k r → ⊥
       by_entry u x l q (is_target a b c) e = let at : (i ≡ k) × (s ≡ r) = source_is i s j can.reached can.entry (sym c ∙ e) in can.apart at.0 at.1
       by_entry u x l q (is_old n one two) e = let at : (u ≡ k) × (x ≡ r) = source_is u x l q n e in two at.0 at.1
 
-      go : (t : ℕ) → IsReached new t → t ≡ inumber_at old k r → ⊥
+      go : (t : ℕ) → IsReached new t → t ≡ ino_at old k r → ⊥
       go _ inode_file e = some (sym e)
-      go _ root_directory e = wf.not_root k r (inumber_at old k r) can.target target (sym e)
+      go _ root_directory e = wf.not_root k r (ino_at old k r) can.target target (sym e)
       go _ (reaches {i = u} {j = l} x from n) e =
           let was : IsReached old u = move.reached_back old new wf i s k r j can moves u from in
           by_entry u x l was (move.entry_of old new wf i s k r j can moves u x l was n) e
 
 -- an entry is spelled again
 pub respelled_on : (old new : Image) → IsWellFormed old → (i s j : ℕ) → RespellsEntry old new i s j → (t : ℕ) → IsReached old t → IsReached new t
-respelled_on old new wf i s j spells = reached_on old new (respell.same_inumbers old new wf i s j spells)
+respelled_on old new wf i s j spells = reached_on old new (respell.same_inos old new wf i s j spells)

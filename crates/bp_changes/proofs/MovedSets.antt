@@ -5,7 +5,7 @@ use Rattle.bp_free.specs.Set.{Set, has}
 use Rattle.bp_layout.specs.Words.{Image, block_count}
 use Rattle.bp_layout.specs.Tree.{HasBlock}
 use Rattle.bp_layout.specs.Inode.{root_of, size_of}
-use Rattle.bp_layout.specs.Directory.{EntryNames, inumber_at}
+use Rattle.bp_layout.specs.Directory.{EntryNames, ino_at}
 use Rattle.bp_layout.specs.Free.{AreUnheld, AreFreeBlocks, AreFreeInodes}
 use Rattle.bp_layout.specs.Reached.{IsReached, HoldsBlock, IsLiveBlock, IsFreeBlock}
 use Rattle.bp_layout.specs.Reached.IsReached.{inode_file, named}
@@ -73,12 +73,12 @@ respelled_exact old new wf i s j spells in_snapshot =
 -- ---- an inode is replaced
 
 module _ (old new : Image) (wf : IsWellFormed old) (i s k r j : ℕ) (can : CanMoveEntry old i s k r j) (moves : MovesEntry old new i s k r j) (outside : IsAtOrBelow old j k → ⊥)
-    (some : inumber_at old k r ≢ 0) where
+    (some : ino_at old k r ≢ 0) where
   abbrev gone : ℕ
-  gone = inumber_at old k r
+  gone = ino_at old k r
 
   target : EntryNames old k r gone
-  target = record { directory = can.directory; in_size = can.in_size; inumber = refl; not_empty = some }
+  target = record { directory = can.directory; in_size = can.in_size; ino = refl; not_empty = some }
 
   pub gone_reached : IsReached old gone
   gone_reached = named r can.target target
@@ -101,7 +101,7 @@ module _ (old new : Image) (wf : IsWellFormed old) (i s k r j : ℕ) (can : CanM
       free_inodes_but old new gone (sizes 0 inode_file) back on (none last)
       (record {
         low = omega (arith, some, wf.not_root k r gone can.target target);
-        high = wf.inumbers k r gone can.target target;
+        high = wf.inos k r gone can.target target;
       })
 
   -- Where the set has the blocks that the trees of the old image don't have, those of the inode's tree come to it.

@@ -5,7 +5,7 @@ use Rattle.std.proofs.lemmas.Bool.{cases_eq, eqb-true, eqb-false}
 use Rattle.std.proofs.lemmas.List.{length-set}
 use Rattle.std.specs.List.{slice_index}
 use Rattle.bp_layout.specs.Words.{Image}
-use Rattle.bp_layout.specs.Directory.{EntryNames, inumber_at}
+use Rattle.bp_layout.specs.Directory.{EntryNames, ino_at}
 use Rattle.bp_layout.specs.Members.{AreApart, Has}
 use Rattle.bp_layout.specs.Names.{AreCounts, HasNames, IsNamed}
 use Rattle.bp_layout.specs.Reached.{IsReached}
@@ -17,7 +17,7 @@ use Rattle.bp_changes.specs.SameMeaning.{SameMeaning}
 use Rattle.bp_changes.proofs.SameMeaning as meaning
 use Rattle.bp_changes.proofs.KeepsDirectories as directories
 use Rattle.bp_changes.specs.KeepsDirectories.{KeepsDirectories}
-use Rattle.bp_changes.proofs.SameEntries.{SameInumbers, names_back, names_on, reached_back, reached_on}
+use Rattle.bp_changes.proofs.SameEntries.{SameInos, names_back, names_on, reached_back, reached_on}
 use Rattle.bp_changes.proofs.AddsNames.{adds_takes}
 use Rattle.bp_changes.proofs.EntryAdded as added
 use Rattle.bp_changes.proofs.EntryAdded.{TakesName}
@@ -256,7 +256,7 @@ module _ (old new : Image) (wf : IsWellFormed old) (i s j : ℕ) (can : CanUnlin
       (λ k other e n. (removed_back k e n).0) (λ k other e n. removed_on k e n (λ same. other (one_inode k e n same)))
     where
       one_inode : (k : ℕ) (e : ℕ × ℕ) → IsNamed old k e → e ≡ (i, s) → k ≡ j
-      one_inode k e n same = sym n.names.inumber ∙ ap (λ x. inumber_at old x.0 x.1) same ∙ can.entry.inumber
+      one_inode k e n same = sym n.names.ino ∙ ap (λ x. ino_at old x.0 x.1) same ∙ can.entry.ino
 
 -- ---- a name moves
 
@@ -289,7 +289,7 @@ module _ (old new : Image) (wf : IsWellFormed old) (i s k r j : ℕ) (carries : 
         where
           go : ((◌≡◌ {A = ℕ × ℕ} (k, r) (i, s)) × (is_other (i, s) (k, r) ≡ false)) ⊎ (((◌≡◌ {A = ℕ × ℕ} (k, r) (i, s)) → ⊥) × (is_other (i, s) (k, r) ≡ true)) → ⊥
           go (inl same) =
-              carries.entry.not_empty (sym carries.entry.inumber ∙ ap (λ (x : ℕ × ℕ). inumber_at new x.0 x.1) same.0 ∙ carries.emptied)
+              carries.entry.not_empty (sym carries.entry.ino ∙ ap (λ (x : ℕ × ℕ). ino_at new x.0 x.1) same.0 ∙ carries.emptied)
           go (inr apart) = carries.new_name r j n.names (sym (carries.same_names k r j n.reached n.names (λ f g. apart.0 (λ a. (f a, g a)))))
 
       own : (e : ℕ × ℕ) → ((j ≡ j) × (e ≡ (k, r))) ⊎ (IsNamed old j e × (e ≢ (i, s))) → (e ≡ (k, r)) ⊎ (IsNamed old j e × (e ≢ (i, s)))
@@ -307,13 +307,13 @@ module _ (old new : Image) (wf : IsWellFormed old) (i s k r j : ℕ) (carries : 
       at l low (inr other) =
           names_same old new l (slice_index counts l) (are.each l low)
           (λ e n. elim (carried_back l e n) [ inl fresh ↦ absurd (other fresh.0) | inr before ↦ before.0 ])
-          (λ e n. carried_names l e n (λ same. other (sym n.names.inumber ∙ ap (λ (x : ℕ × ℕ). inumber_at old x.0 x.1) same ∙ carries.names.inumber)))
+          (λ e n. carried_names l e n (λ same. other (sym n.names.ino ∙ ap (λ (x : ℕ × ℕ). ino_at old x.0 x.1) same ∙ carries.names.ino)))
 
 -- to an entry that was empty, or that named a file or an empty directory
 module _ (old new : Image) (wf : IsWellFormed old) (i s k r j : ℕ) (can : CanMoveEntry old i s k r j) (moves : MovesEntry old new i s k r j) (outside : IsAtOrBelow old j k → ⊥)
-    (differ : inumber_at old k r ≢ j) (counts : List ℕ) (are : AreCounts old counts) where
+    (differ : ino_at old k r ≢ j) (counts : List ℕ) (are : AreCounts old counts) where
   abbrev gone : ℕ
-  gone = inumber_at old k r
+  gone = ino_at old k r
 
   moved_back : (l : ℕ) (e : ℕ × ℕ) → IsNamed new l e → ((l ≡ j) × (e ≡ (k, r))) ⊎ (IsNamed old l e × ((e ≢ (i, s)) × (e ≢ (k, r))))
   moved_back l e n = go (move.entry_of old new wf i s k r j can moves e.0 e.1 l was n.names)
@@ -334,10 +334,10 @@ module _ (old new : Image) (wf : IsWellFormed old) (i s k r j : ℕ) (can : CanM
   }
 
   at_source : (l : ℕ) (e : ℕ × ℕ) → IsNamed old l e → e ≡ (i, s) → l ≡ j
-  at_source l e n same = sym n.names.inumber ∙ ap (λ (x : ℕ × ℕ). inumber_at old x.0 x.1) same ∙ can.entry.inumber
+  at_source l e n same = sym n.names.ino ∙ ap (λ (x : ℕ × ℕ). ino_at old x.0 x.1) same ∙ can.entry.ino
 
   at_target : (l : ℕ) (e : ℕ × ℕ) → IsNamed old l e → e ≡ (k, r) → l ≡ gone
-  at_target l e n same = sym n.names.inumber ∙ ap (λ (x : ℕ × ℕ). inumber_at old x.0 x.1) same
+  at_target l e n same = sym n.names.ino ∙ ap (λ (x : ℕ × ℕ). ino_at old x.0 x.1) same
 
   mine : j < length counts → HasNames new j (slice_index counts j)
   mine low =
@@ -345,7 +345,7 @@ module _ (old new : Image) (wf : IsWellFormed old) (i s k r j : ℕ) (can : CanM
       (λ n. differ (sym (at_target j (k, r) n refl)))
       (record {
         reached = moved_on old new wf i s k r j can moves outside k can.target
-            (λ some same. can.alone r k (λ none. some (same ∙ none)) (subst (λ u. EntryNames old u r k) same (record { directory = can.directory; in_size = can.in_size; inumber = sym same; not_empty = λ null. some null })));
+            (λ some same. can.alone r k (λ none. some (same ∙ none)) (subst (λ u. EntryNames old u r k) same (record { directory = can.directory; in_size = can.in_size; ino = sym same; not_empty = λ null. some null })));
         names = move.new_entry old new wf i s k r j can moves;
       })
       (λ e n. own e (moved_back j e n)) (λ e n other. moved_names j e n other (λ same. differ (sym (at_target j e n same))))
@@ -365,7 +365,7 @@ module _ (old new : Image) (wf : IsWellFormed old) (i s k r j : ℕ) (can : CanM
   replaced_counts some small rest is = record { each = λ l low. at l (rw (length-set counts gone rest) at low) (cases_eq l gone) (cases_eq l j) }
     where
       target : IsNamed old gone (k, r)
-      target = record { reached = can.target; names = record { directory = can.directory; in_size = can.in_size; inumber = refl; not_empty = some } }
+      target = record { reached = can.target; names = record { directory = can.directory; in_size = can.in_size; ino = refl; not_empty = some } }
 
       fewer : HasNames new gone rest
       fewer =
@@ -386,21 +386,21 @@ module _ (old new : Image) (wf : IsWellFormed old) (i s k r j : ℕ) (can : CanM
 
 -- ---- no name changes
 
--- each entry has the inumber that it had
-inumbers_counts : (old new : Image) → SameInumbers old new → (counts : List ℕ) → AreCounts old counts → AreCounts new counts
-inumbers_counts old new same counts are = counts_same old new counts are
+-- each entry has the inode number that it had
+inos_counts : (old new : Image) → SameInos old new → (counts : List ℕ) → AreCounts old counts → AreCounts new counts
+inos_counts old new same counts are = counts_same old new counts are
     (λ k e n. let was : IsReached old e.0 = reached_back old new same e.0 n.reached in
     record { reached = was; names = names_back old new same e.0 e.1 k was n.names })
     (λ k e n. record { reached = reached_on old new same e.0 n.reached; names = names_on old new same e.0 e.1 k n.reached n.names })
 
 -- where an entry is spelled again
 pub respelled_counts : (old new : Image) (wf : IsWellFormed old) (i s j : ℕ) (spells : RespellsEntry old new i s j) (counts : List ℕ) → AreCounts old counts → AreCounts new counts
-respelled_counts old new wf i s j spells = inumbers_counts old new (respell.same_inumbers old new wf i s j spells)
+respelled_counts old new wf i s j spells = inos_counts old new (respell.same_inos old new wf i s j spells)
 
 -- nor where the image means the same, as after a preparation
 pub meaning_counts : (old new : Image) (wf : IsWellFormed old) (same : SameMeaning old new) (counts : List ℕ) → AreCounts old counts → AreCounts new counts
-meaning_counts old new wf same = inumbers_counts old new (meaning.same_inumbers old new same)
+meaning_counts old new wf same = inos_counts old new (meaning.same_inos old new same)
 
 -- nor where the bytes of files do
 pub changed_counts : (old new : Image) (wf : IsWellFormed old) (keeps : KeepsDirectories old new) (counts : List ℕ) → AreCounts old counts → AreCounts new counts
-changed_counts old new wf keeps = inumbers_counts old new (directories.same_inumbers old new wf keeps)
+changed_counts old new wf keeps = inos_counts old new (directories.same_inos old new wf keeps)

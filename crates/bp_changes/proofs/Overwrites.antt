@@ -38,7 +38,7 @@ module _ (old new : Image) (patches : List Patch) (over : OverwritesFiles patche
     kind = over.kind;
     inode_bytes = over.size 0 inode_file;
     size = λ i reached kind. over.size i reached;
-    inumber = over.inumber;
+    ino = over.ino;
     entry = over.entry;
   }
 

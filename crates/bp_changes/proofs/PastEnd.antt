@@ -46,7 +46,7 @@ module _ (image : Image) (wf : IsWellFormed image) (t place value : ℕ) (here :
     inodes = λ i f reached few read stands.
         let in_file : suc i < inode_count image = reached-in_file image wf (suc i) reached in
         absurd (not_whole 0 (8 * suc i + f) inode_file (omega (arith, in_file, few)) stands);
-    inumbers = λ i s reached kind in_size stands. absurd (not_whole i (32 * s + 0) reached (omega (arith, in_size)) stands);
+    inos = λ i s reached kind in_size stands. absurd (not_whole i (32 * s + 0) reached (omega (arith, in_size)) stands);
     names = λ i s j f reached names few stands. absurd (not_whole i (32 * s + f) reached (omega (arith, names.in_size, few)) stands);
     bytes = λ i o reached kind below stands.
         let same = same_word i (height_of (root_of image i)) (o / 8) reached (live_content _ _ (o / 8) (omega (arith, below))) stands in

@@ -7,16 +7,16 @@ use Rattle.bp_layout.specs.Reached.{IsReached}
 use Rattle.bp_changes.specs.KeepsTrees.{KeepsTrees}
 use Rattle.bp_changes.specs.SameMeaning.{SameMeaning}
 use Rattle.bp_changes.proofs.SameEntries as entries
-use Rattle.bp_changes.proofs.SameMeaning.{same_inumbers}
+use Rattle.bp_changes.proofs.SameMeaning.{same_inos}
 
 module _ (old new : Image) (same : SameMeaning old new) where
   -- each entry stays
   pub names_on : (i slot j : ℕ) → IsReached old i → EntryNames old i slot j → EntryNames new i slot j
-  names_on = entries.names_on old new (same_inumbers old new same)
+  names_on = entries.names_on old new (same_inos old new same)
 
   -- and each inode that is reached
   pub reached_on : (t : ℕ) → IsReached old t → IsReached new t
-  reached_on = entries.reached_on old new (same_inumbers old new same)
+  reached_on = entries.reached_on old new (same_inos old new same)
 
 -- what keeps the trees of an image keeps those of one with the same meaning
 pub trees_over : (old mid new : Image) → SameMeaning old mid → KeepsTrees mid new → KeepsTrees old new
@@ -39,9 +39,9 @@ meaning_on first second third one two = record {
   size = λ i r. two.size i (reached_on first second one (suc i) r) ∙ one.size i r;
   inode_blocks = two.inode_blocks;
   inodes = le_trans one.inodes two.inodes;
-  inumber = λ i s r kind low.
-      two.inumber i s (reached_on first second one i r) (one.kind i r ∙ kind) (rw ((same_inumbers first second one).count i r kind) low)
-      ∙ one.inumber i s r kind low;
+  ino = λ i s r kind low.
+      two.ino i s (reached_on first second one i r) (one.kind i r ∙ kind) (rw ((same_inos first second one).count i r kind) low)
+      ∙ one.ino i s r kind low;
   entry = λ i s j f r n few. two.entry i s j f (reached_on first second one i r) (names_on first second one i s j r n) few ∙ one.entry i s j f r n few;
   bytes = λ i o r kind low. two.bytes i o (reached_on first second one i r) (one.kind i r ∙ kind) (in_file i o r kind low) ∙ one.bytes i o r kind low;
 }

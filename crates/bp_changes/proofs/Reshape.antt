@@ -161,7 +161,7 @@ module _ (old new : Image) (wf : IsWellFormed old) (t root : ℕ) (reshapes : Re
     size = λ i reached. size-same (suc i) reached;
     inode_blocks = rw (size-same 0 inode_file) wf.inode_blocks;
     inodes = le_of_eq (sym (size-same 0 inode_file));
-    inumber = λ i s reached kind in_size. content-same i (32 * s + 0) reached kind (directory_inode i kind) (omega (arith, in_size));
+    ino = λ i s reached kind in_size. content-same i (32 * s + 0) reached kind (directory_inode i kind) (omega (arith, in_size));
     entry = λ i s j f reached n few. content-same i (32 * s + f) reached n.directory (directory_inode i n.directory) (omega (arith, n.in_size, few));
     bytes = λ i o reached kind below. bytes-same i o reached (file_inode i kind) below;
   }

@@ -198,7 +198,7 @@ module _ (old : Image) (wf : IsWellFormed old) (n size place : ℕ) (can : CanRe
     };
     kind = λ t r. kind_stays t (in_file t r);
     size = λ t r other. size_stays t (in_file t r) other;
-    inumber = λ i s r kind low. content_stays i (32 * s + 0) r (directory_not i kind) (omega (arith, low));
+    ino = λ i s r kind low. content_stays i (32 * s + 0) r (directory_not i kind) (omega (arith, low));
     entry = λ i s j f r names few. content_stays i (32 * s + f) r (directory_not i names.directory) (omega (arith, names.in_size, few));
     bytes = λ i o r other kind low. ap (λ w. byte_of w (o % 8)) (content_stays i (o / 8) r (file_is i kind) (omega (arith, low)));
   }

@@ -15,29 +15,29 @@ use Rattle.bp_layout.proofs.LookupLaws.{Shows, lookup_in-shows, lookup_in-found,
 use Rattle.bp_changes.proofs.MoveName.{MovesName}
 use Rattle.bp_changes.proofs.Formatted.{stays_formatted}
 use Rattle.bp_changes.proofs.SameEntries as entries
-use Rattle.bp_changes.proofs.SameEntries.{SameInumbers}
+use Rattle.bp_changes.proofs.SameEntries.{SameInos}
 use Rattle.bp_changes.proofs.SameShown.{IsKeptIn, entry_found, lookup_kept, name_by_words, node_by_bytes, this_or}
 
 module _ (old new : Image) (wf : IsWellFormed old) (i s j : ℕ) (spells : RespellsEntry old new i s j) where
   in_inodes : (t : ℕ) → IsReached old t → t < inode_count old
   in_inodes = reached-in_file old wf
 
-  -- all entries have the inumbers that they had
-  pub same_inumbers : SameInumbers old new
-  same_inumbers = record {
+  -- all entries have the inode numbers that they had
+  pub same_inos : SameInos old new
+  same_inos = record {
     kind = λ u reached. spells.kind u (in_inodes u reached);
     count = λ u reached kind. ap (λ n. n / 256) (spells.size u (in_inodes u reached));
-    inumber = spells.inumber;
+    ino = spells.ino;
   }
 
   names_back : (u x l : ℕ) → IsReached old u → EntryNames new u x l → EntryNames old u x l
-  names_back = entries.names_back old new same_inumbers
+  names_back = entries.names_back old new same_inos
 
   pub names_stay : (u x l : ℕ) → IsReached old u → EntryNames old u x l → EntryNames new u x l
-  names_stay = entries.names_on old new same_inumbers
+  names_stay = entries.names_on old new same_inos
 
   pub reached_back : (t : ℕ) → IsReached new t → IsReached old t
-  reached_back = entries.reached_back old new same_inumbers
+  reached_back = entries.reached_back old new same_inos
 
   -- and all but this one their names
   pub name_stays : (u x l : ℕ) → IsReached old u → EntryNames old u x l → ((u ≡ i) → (x ≡ s) → ⊥) → name_at new u x ≡ name_at old u x
@@ -68,7 +68,7 @@ module _ (old new : Image) (wf : IsWellFormed old) (i s j : ℕ) (spells : Respe
         full_directories = λ t q kind. spells.trees.full_directories t (reached_back t q) (sym (spells.kind t (in_inodes t (reached_back t q))) ∙ kind);
         inode_blocks = rw inodes wf.inode_blocks;
         some_inodes = rw inodes wf.some_inodes;
-        inumbers = λ u x l q n. rw inodes (wf.inumbers u x l (reached_back u q) (names_back u x l (reached_back u q) n));
+        inos = λ u x l q n. rw inodes (wf.inos u x l (reached_back u q) (names_back u x l (reached_back u q) n));
         not_root = λ u x l q n. wf.not_root u x l (reached_back u q) (names_back u x l (reached_back u q) n);
         named_once = λ u x v y l q p n m kind. wf.named_once u x v y l (reached_back u q) (reached_back v p) (names_back u x l (reached_back u q) n) (names_back v y l (reached_back v p) m)
             (sym (spells.kind l (in_inodes l (reached_back l (named x q n)))) ∙ kind);

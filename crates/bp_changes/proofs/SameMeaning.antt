@@ -11,7 +11,7 @@ use Rattle.bp_layout.proofs.View.{SameView, find_one-same, shown-same}
 use Rattle.bp_changes.specs.SameMeaning.{SameMeaning}
 use Rattle.bp_changes.proofs.Formatted.{version_stays}
 use Rattle.bp_changes.proofs.SameEntries as entries
-use Rattle.bp_changes.proofs.SameEntries.{SameEntries, SameInumbers}
+use Rattle.bp_changes.proofs.SameEntries.{SameEntries, SameInos}
 
 module _ (old new : Image) (same : SameMeaning old new) where
   -- only the inode file, which is neither a file nor a directory, may have grown
@@ -19,8 +19,8 @@ module _ (old new : Image) (same : SameMeaning old new) where
   size-same zero kind e reached = absurd (suc-ne-zero kind (sym e))
   size-same (suc i) kind e reached = same.size i reached
 
-  pub same_inumbers : SameInumbers old new
-  same_inumbers = record { kind = same.kind; count = λ i reached kind. ap (λ s. s / 256) (size-same i 1 kind reached); inumber = same.inumber }
+  pub same_inos : SameInos old new
+  same_inos = record { kind = same.kind; count = λ i reached kind. ap (λ s. s / 256) (size-same i 1 kind reached); ino = same.ino }
 
   -- all entries are as they were
   same_entries : SameEntries old new
@@ -29,7 +29,7 @@ module _ (old new : Image) (same : SameMeaning old new) where
     inode_blocks = same.inode_blocks;
     inodes = same.inodes;
     size = λ i reached kind. size-same i 1 kind reached;
-    inumbers = same_inumbers;
+    inos = same_inos;
     entry = same.entry;
   }
 
@@ -39,10 +39,10 @@ module _ (old new : Image) (wf : IsWellFormed old) (same : SameMeaning old new) 
   name-same = entries.name_same old new wf (same_entries old new same)
 
   pub names-back : (i s j : ℕ) → IsReached old i → EntryNames new i s j → EntryNames old i s j
-  names-back = entries.names_back old new (same_inumbers old new same)
+  names-back = entries.names_back old new (same_inos old new same)
 
   pub reached-back : (t : ℕ) → IsReached new t → IsReached old t
-  reached-back = entries.reached_back old new (same_inumbers old new same)
+  reached-back = entries.reached_back old new (same_inos old new same)
 
   pub well_formed-same : IsWellFormed new
   well_formed-same = entries.well_formed_same old new wf (same_entries old new same)

@@ -25,7 +25,7 @@ this_or u x i s = go (cases_eq u i) (cases_eq x s)
     go (inl e) (inr f) = inr (λ a b. f b)
     go (inr e) f = inr (λ a b. e a)
 
--- an entry whose words after the inumber stay keeps its name
+-- an entry whose words after the inode number stay keeps its name
 pub name_by_words : (old new : Image) (u x : ℕ) → length (name_at old u x) ≤ max_name →
     ((f : ℕ) → 1 ≤ f → f < 32 → entry_word new u x f ≡ entry_word old u x f) → name_at new u x ≡ name_at old u x
 name_by_words old new u x few same =

@@ -68,7 +68,7 @@ free-harmless image wf b s value low in_block free =
       inodes = λ i f reached few read stands.
           let in_file : suc i < inode_count image = reached-in_file image wf (suc i) reached in
           absurd (not_live 0 _ (8 * suc i + f) inode_file (live_content (root_of image 0) (size_of image 0) (8 * suc i + f) (omega (arith, in_file, few))) stands);
-      inumbers = λ i slot reached kind in_size stands. absurd (not_live i _ (32 * slot + 0) reached (live_content _ _ (32 * slot + 0) (omega (arith, in_size))) stands);
+      inos = λ i slot reached kind in_size stands. absurd (not_live i _ (32 * slot + 0) reached (live_content _ _ (32 * slot + 0) (omega (arith, in_size))) stands);
       names = λ i slot j f reached names few stands. absurd (not_live i _ (32 * slot + f) reached (live_content _ _ (32 * slot + f) (omega (arith, names.in_size, few))) stands);
       bytes = λ i o reached kind below stands. absurd (not_live i _ (o / 8) reached (live_content _ _ (o / 8) (omega (arith, below))) stands);
     }

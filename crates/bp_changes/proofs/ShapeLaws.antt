@@ -10,7 +10,7 @@ use Rattle.std.proofs.Math.Seq.{take-append_seam}
 use Rattle.bp_layout.specs.Words.{Image, block_of, height_of}
 use Rattle.bp_layout.specs.Tree.{span, IsSound}
 use Rattle.bp_layout.specs.Inode.{IsDirectory, inode_count, root_of, size_of}
-use Rattle.bp_layout.specs.Directory.{empty_slot, inumber_at, slots}
+use Rattle.bp_layout.specs.Directory.{empty_slot, ino_at, slots}
 use Rattle.bp_layout.specs.Members.{Each}
 use Rattle.bp_layout.specs.Nodes.{TreeNode, height_for, height_with, is_present, nodes_for, nodes_over, raised_nodes}
 use Rattle.bp_layout.specs.Need.{Beyond, Change, Stretch, beyond, common, common_all, content_path_at, copied, cover, cover_of, entered_at, entry_path_at, existing_from, growth, height_after, is_there, is_there_after, need, new_entry, new_inodes, path_number, pointed, prefixes_of, prepared_for, preparation, same_node, stretch_paths, touched, touched_at}
@@ -142,8 +142,8 @@ module _ (old new : Image) (shape : SameShape old new) where
 
   pub empty-same : (i : ℕ) → IsReached old i → IsDirectory old i → empty_slot new i ≡ empty_slot old i
   empty-same i reached kind =
-      ap (λ s. find (λ slot. inumber_at new i slot == 0) (slots s)) (shape.sizes i reached)
-      ∙ find-same (λ slot. inumber_at new i slot == 0) (λ slot. inumber_at old i slot == 0) 0 (size_of old i / 256) (λ k low high. ap (λ n. n == 0) (shape.meaning.inumber i k reached kind (omega (arith, high))))
+      ap (λ s. find (λ slot. ino_at new i slot == 0) (slots s)) (shape.sizes i reached)
+      ∙ find-same (λ slot. ino_at new i slot == 0) (λ slot. ino_at old i slot == 0) 0 (size_of old i / 256) (λ k low high. ap (λ n. n == 0) (shape.meaning.ino i k reached kind (omega (arith, high))))
 
   new_entry-same : (i : ℕ) → IsReached old i → (slot : Option ℕ) → new_entry new i slot ≡ new_entry old i slot
   new_entry-same i reached None = ap (λ s. record { tree = i; from = s; to = s + 256 } ∷ []) (shape.sizes i reached)

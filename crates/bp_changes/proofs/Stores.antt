@@ -11,7 +11,7 @@ harmless_here image place = record {
   superblock = λ h. refl;
   pointers = λ t d k reached live stands. refl;
   inodes = λ i f reached few read stands. refl;
-  inumbers = λ i s reached kind in_size stands. refl;
+  inos = λ i s reached kind in_size stands. refl;
   names = λ i s j f reached names few stands. refl;
   bytes = λ i o reached kind below stands. refl;
 }

@@ -1,11 +1,11 @@
--- An inumber that becomes 0 takes that name from its directory, and changes nothing else.
+-- An inode number that becomes 0 takes that name from its directory, and changes nothing else.
 use Rattle.std.proofs.Common.{◌≡◌, ◌⊎◌, ℕ, suc, ◌/◌, ◌<◌, [], ◌∷◌, ◌++◌, length, Option, None, Some, inl, inr}
 use Rattle.std.proofs.Common.{refl, sym, ◌∙◌, ap, ap₂, subst, subst₂, arith, length-append}
 use Rattle.std.specs.Option.{option_map}
 use Rattle.std.proofs.lemmas.Bool.{cases_eq}
 use Rattle.bp_layout.specs.Words.{Image}
 use Rattle.bp_layout.specs.Inode.{kind_of, size_of, inode_count}
-use Rattle.bp_layout.specs.Directory.{EntryNames, name_at, inumber_at, entry_count, lookup_in}
+use Rattle.bp_layout.specs.Directory.{EntryNames, name_at, ino_at, entry_count, lookup_in}
 use Rattle.bp_layout.specs.Paths.{Name, Path}
 use Rattle.bp_layout.specs.Reached.{IsReached}
 use Rattle.bp_layout.specs.Reached.IsReached.{inode_file, root_directory, named}
@@ -26,8 +26,8 @@ module _ (old new : Image) (wf : IsWellFormed old) (i s j : ℕ) (can : CanUnlin
   count_stays : (u : ℕ) → IsReached old u → entry_count new u ≡ entry_count old u
   count_stays u reached = ap (λ n. n / 256) (removes.size u (in_inodes u reached))
 
-  inumber_stays : (u r : ℕ) → IsReached old u → kind_of old u ≡ 2 → r < entry_count old u → ((i ≡ u) → (s ≡ r) → ⊥) → inumber_at new u r ≡ inumber_at old u r
-  inumber_stays u r reached kind low other = removes.entry u r 0 reached kind low (omega arith) (λ e same. other e (omega (arith, same)))
+  ino_stays : (u r : ℕ) → IsReached old u → kind_of old u ≡ 2 → r < entry_count old u → ((i ≡ u) → (s ≡ r) → ⊥) → ino_at new u r ≡ ino_at old u r
+  ino_stays u r reached kind low other = removes.entry u r 0 reached kind low (omega arith) (λ e same. other e (omega (arith, same)))
 
   pub name_stays : (u r k : ℕ) → IsReached old u → EntryNames old u r k → name_at new u r ≡ name_at old u r
   name_stays u r k reached n =
@@ -41,7 +41,7 @@ module _ (old new : Image) (wf : IsWellFormed old) (i s j : ℕ) (can : CanUnlin
 
   pub names_back : (u r k : ℕ) → IsReached old u → EntryNames new u r k → IsKept u r k
   names_back u r k reached n = record {
-    before = record { directory = kind; in_size = low; inumber = sym (inumber_stays u r reached kind low (λ e f. other (sym e) (sym f))) ∙ n.inumber; not_empty = n.not_empty };
+    before = record { directory = kind; in_size = low; ino = sym (ino_stays u r reached kind low (λ e f. other (sym e) (sym f))) ∙ n.ino; not_empty = n.not_empty };
     other = other;
   }
     where
@@ -52,13 +52,13 @@ module _ (old new : Image) (wf : IsWellFormed old) (i s j : ℕ) (can : CanUnlin
       low = rw (count_stays u reached) at n.in_size
 
       other : (u ≡ i) → (r ≡ s) → ⊥
-      other e f = n.not_empty (sym n.inumber ∙ subst₂ (λ x y. inumber_at new x y ≡ 0) (sym e) (sym f) removes.inumber)
+      other e f = n.not_empty (sym n.ino ∙ subst₂ (λ x y. ino_at new x y ≡ 0) (sym e) (sym f) removes.ino)
 
   pub names_stay : (u r k : ℕ) → IsReached old u → EntryNames old u r k → ((u ≡ i) → (r ≡ s) → ⊥) → EntryNames new u r k
   names_stay u r k reached n other = record {
     directory = removes.kind u (in_inodes u reached) ∙ n.directory;
     in_size = rw (count_stays u reached) n.in_size;
-    inumber = inumber_stays u r reached n.directory n.in_size (λ e f. other (sym e) (sym f)) ∙ n.inumber;
+    ino = ino_stays u r reached n.directory n.in_size (λ e f. other (sym e) (sym f)) ∙ n.ino;
     not_empty = n.not_empty;
   }
 
@@ -88,7 +88,7 @@ module _ (old new : Image) (wf : IsWellFormed old) (i s j : ℕ) (can : CanUnlin
   reached_stays _ root_directory other = root_directory
   reached_stays _ (named {i = u} {j = k} r from n) other =
       named r (reached_stays u from (λ e. can.alone r k (subst (λ x. EntryNames old x r k) e n)))
-      (names_stay u r k from n (λ e f. other (sym n.inumber ∙ subst₂ (λ x y. inumber_at old x y ≡ j) (sym e) (sym f) can.entry.inumber)))
+      (names_stay u r k from n (λ e f. other (sym n.ino ∙ subst₂ (λ x y. ino_at old x y ≡ j) (sym e) (sym f) can.entry.ino)))
 
   pub unlinked_well_formed : IsWellFormed new
   unlinked_well_formed =
@@ -102,7 +102,7 @@ module _ (old new : Image) (wf : IsWellFormed old) (i s j : ℕ) (can : CanUnlin
         full_directories = λ t r kind. removes.trees.full_directories t (reached_back t r) (sym (removes.kind t (in_inodes t (reached_back t r))) ∙ kind);
         inode_blocks = rw inodes wf.inode_blocks;
         some_inodes = rw inodes wf.some_inodes;
-        inumbers = λ u r k q n. let e : IsReached old u × EntryNames old u r k = entry_back u r k q n in rw inodes (wf.inumbers u r k e.0 e.1);
+        inos = λ u r k q n. let e : IsReached old u × EntryNames old u r k = entry_back u r k q n in rw inodes (wf.inos u r k e.0 e.1);
         not_root = λ u r k q n. let e : IsReached old u × EntryNames old u r k = entry_back u r k q n in wf.not_root u r k e.0 e.1;
         named_once = λ u r v q k from also n m kind.
             let e : IsReached old u × EntryNames old u r k = entry_back u r k from n in

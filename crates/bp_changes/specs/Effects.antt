@@ -5,7 +5,7 @@ use Rattle.bp_limits.specs.Limits.{block_size, entry_size, entry_words}
 use Rattle.bp_layout.specs.Words.{Image}
 use Rattle.bp_layout.specs.Tree.{byte, HasBlock}
 use Rattle.bp_layout.specs.Inode.{IsDirectory, IsFile, inode_count, kind_of, root_of, size_of}
-use Rattle.bp_layout.specs.Directory.{EntryNames, name_at, inumber_at, entry_word, entry_count}
+use Rattle.bp_layout.specs.Directory.{EntryNames, name_at, ino_at, entry_word, entry_count}
 use Rattle.bp_layout.specs.Paths.{IsName}
 use Rattle.bp_layout.specs.Reached.{IsReached}
 use Rattle.bp_changes.specs.KeepsTrees.{KeepsTrees}
@@ -26,21 +26,21 @@ pub record ChangesFile (old new : Image) (x : ℕ) : Type 0 where
   pub trees : KeepsTrees old new
   pub kind : (t : ℕ) → IsReached old t → kind_of new t ≡ kind_of old t
   pub size : (t : ℕ) → IsReached old t → t ≢ x → size_of new t ≡ size_of old t
-  pub inumber : (i s : ℕ) → IsReached old i → IsDirectory old i → s < entry_count old i →
-      inumber_at new i s ≡ inumber_at old i s
+  pub ino : (i s : ℕ) → IsReached old i → IsDirectory old i → s < entry_count old i →
+      ino_at new i s ≡ ino_at old i s
   pub entry : (i s j f : ℕ) → IsReached old i → EntryNames old i s j → f < entry_words →
       entry_word new i s f ≡ entry_word old i s f
   pub bytes : (i o : ℕ) → IsReached old i → i ≢ x → IsFile old i → o < size_of old i →
       byte new (root_of new i) o ≡ byte old (root_of old i) o
 
--- ---- an inumber
+-- ---- an inode number
 
--- slot s of directory i gets this inumber, and nothing else changes
-pub record SetsInumber (old new : Image) (i s value : ℕ) : Type 0 where
+-- slot s of directory i gets this inode number, and nothing else changes
+pub record SetsIno (old new : Image) (i s value : ℕ) : Type 0 where
   pub trees : KeepsTrees old new
   pub kind : (u : ℕ) → u < inode_count old → kind_of new u ≡ kind_of old u
   pub size : (u : ℕ) → u < inode_count old → size_of new u ≡ size_of old u
-  pub inumber : inumber_at new i s ≡ value
+  pub ino : ino_at new i s ≡ value
   pub entry : (u r f : ℕ) → IsReached old u → IsDirectory old u → r < entry_count old u → f < entry_words →
       ((i ≡ u) → (entry_words * s + 0 ≡ entry_words * r + f) → ⊥) → entry_word new u r f ≡ entry_word old u r f
   pub bytes : (u o : ℕ) → IsReached old u → IsFile old u → o < size_of old u →
@@ -123,7 +123,7 @@ pub record CanUnlink (old : Image) (i s j : ℕ) : Type 0 where
 
 -- the entry becomes empty, and nothing else changes
 abbrev pub RemovesEntry : Image → Image → ℕ → ℕ → Type 0
-RemovesEntry old new i s = SetsInumber old new i s 0
+RemovesEntry old new i s = SetsIno old new i s 0
 
 -- ---- a name moved within the existing entries
 
@@ -136,17 +136,17 @@ pub record CanMoveEntry (old : Image) (i s k r j : ℕ) : Type 0 where
   pub directory : IsDirectory old k
   pub in_size : r < entry_count old k
   pub apart : (i ≡ k) → (s ≡ r) → ⊥
-  pub alone : (x l : ℕ) → inumber_at old k r ≢ 0 → EntryNames old (inumber_at old k r) x l → ⊥
+  pub alone : (x l : ℕ) → ino_at old k r ≢ 0 → EntryNames old (ino_at old k r) x l → ⊥
   pub name : IsName (name_at old k r)
   pub new_name : (x l : ℕ) → EntryNames old k x l → name_at old k x ≡ name_at old k r → x ≡ r
 
--- the target entry gets the inumber, the source entry becomes empty, and nothing else changes
+-- the target entry gets the inode number, the source entry becomes empty, and nothing else changes
 pub record MovesEntry (old new : Image) (i s k r j : ℕ) : Type 0 where
   pub trees : KeepsTrees old new
   pub kind : (u : ℕ) → u < inode_count old → kind_of new u ≡ kind_of old u
   pub size : (u : ℕ) → u < inode_count old → size_of new u ≡ size_of old u
-  pub emptied : inumber_at new i s ≡ 0
-  pub entered : inumber_at new k r ≡ j
+  pub emptied : ino_at new i s ≡ 0
+  pub entered : ino_at new k r ≡ j
   pub entry : (u x f : ℕ) → IsReached old u → IsDirectory old u → x < entry_count old u → f < entry_words →
       ((i ≡ u) → (entry_words * s + 0 ≡ entry_words * x + f) → ⊥) →
       ((k ≡ u) → (entry_words * r + 0 ≡ entry_words * x + f) → ⊥) →
@@ -161,8 +161,8 @@ pub record RespellsEntry (old new : Image) (i s j : ℕ) : Type 0 where
   pub trees : KeepsTrees old new
   pub kind : (u : ℕ) → u < inode_count old → kind_of new u ≡ kind_of old u
   pub size : (u : ℕ) → u < inode_count old → size_of new u ≡ size_of old u
-  pub inumber : (u x : ℕ) → IsReached old u → IsDirectory old u → x < entry_count old u →
-      inumber_at new u x ≡ inumber_at old u x
+  pub ino : (u x : ℕ) → IsReached old u → IsDirectory old u → x < entry_count old u →
+      ino_at new u x ≡ ino_at old u x
   pub entry : (u x l f : ℕ) → IsReached old u → EntryNames old u x l → f < entry_words → ((u ≡ i) → (x ≡ s) → ⊥) →
       entry_word new u x f ≡ entry_word old u x f
   pub name : IsName (name_at new i s)
@@ -195,7 +195,7 @@ pub record CarriesEntry (old new : Image) (i s k r j : ℕ) : Type 0 where
   pub size : (u : ℕ) → IsReached old u → u ≢ k → size_of new u ≡ size_of old u
   pub directory_size : size_of new k % entry_size ≡ 0
   pub slots : (x : ℕ) → x < entry_count new k → (x < entry_count old k) ⊎ (x ≡ r)
-  pub emptied : inumber_at new i s ≡ 0
+  pub emptied : ino_at new i s ≡ 0
   pub entry : EntryNames new k r j
   pub back : (u x l : ℕ) → IsReached old u → EntryNames new u x l → IsNewEntry k r j u x l ⊎ IsOldEntry old i s u x l
   pub stay : (u x l : ℕ) → IsReached old u → EntryNames old u x l → ((u ≡ i) → (x ≡ s) → ⊥) → EntryNames new u x l

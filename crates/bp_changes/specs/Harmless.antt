@@ -14,7 +14,7 @@ pub record IsHarmless (image : Image) (place value : ℕ) : Type 0 where
   -- an inode's kind and size, and its root word if it has bytes
   pub inodes : (i f : ℕ) → IsReached image (suc i) → f < 3 → (f ≡ 1 → 0 < size_of image (suc i)) →
       ContentStandsAt image 0 (inode_words * suc i + f) place → value ≡ word image place
-  pub inumbers : (i s : ℕ) → IsReached image i → IsDirectory image i → s < entry_count image i →
+  pub inos : (i s : ℕ) → IsReached image i → IsDirectory image i → s < entry_count image i →
       ContentStandsAt image i (entry_words * s + 0) place → value ≡ word image place
   pub names : (i s j f : ℕ) → IsReached image i → EntryNames image i s j → f < entry_words →
       ContentStandsAt image i (entry_words * s + f) place → value ≡ word image place

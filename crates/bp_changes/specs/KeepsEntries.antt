@@ -1,15 +1,15 @@
 -- The entries of directories that a change keeps, stated from the second image to the first: what holds of each entry
 -- of the first also holds of each entry of the second, except those that the change touches.
 use Rattle.std.specs.Prelude.{◌≡◌, ◌≢◌, ◌⊎◌, ℕ, ◌<◌}
-use Rattle.bp_layout.specs.Directory.{entry_count, inumber_at, name_at}
+use Rattle.bp_layout.specs.Directory.{entry_count, ino_at, name_at}
 use Rattle.bp_layout.specs.Inode.{IsDirectory}
 use Rattle.bp_layout.specs.Reached.{IsReached}
 use Rattle.bp_layout.specs.Words.{Image}
 
--- The entry at this slot of directory i has the same inumber and, if it names an inode, the same name.
+-- The entry at this slot of directory i has the same inode number and, if it names an inode, the same name.
 pub record IsSameEntry (old new : Image) (i slot : ℕ) : Type 0 where
-  pub inumber : inumber_at new i slot ≡ inumber_at old i slot
-  pub name : inumber_at new i slot ≢ 0 → name_at new i slot ≡ name_at old i slot
+  pub ino : ino_at new i slot ≡ ino_at old i slot
+  pub name : ino_at new i slot ≢ 0 → name_at new i slot ≡ name_at old i slot
 
 -- the entry is unchanged, and was in a reachable directory of the first image
 pub record WasEntry (old new : Image) (i slot : ℕ) : Type 0 where

@@ -4,7 +4,7 @@ use Rattle.bp_limits.specs.Limits.{entry_words}
 use Rattle.bp_layout.specs.Words.{Image}
 use Rattle.bp_layout.specs.Tree.{byte}
 use Rattle.bp_layout.specs.Inode.{IsDirectory, IsFile, kind_of, root_of, size_of}
-use Rattle.bp_layout.specs.Directory.{EntryNames, inumber_at, entry_word, entry_count}
+use Rattle.bp_layout.specs.Directory.{EntryNames, ino_at, entry_word, entry_count}
 use Rattle.bp_layout.specs.Reached.{IsReached}
 use Rattle.bp_changes.specs.KeepsTrees.{KeepsTrees}
 use Rattle.pm_words.specs.Overlay.{byte_over}
@@ -31,8 +31,8 @@ pub record OverwritesFiles (patches : List Patch) (old new : Image) : Type 0 whe
   pub trees : KeepsTrees old new
   pub kind : (t : ℕ) → IsReached old t → kind_of new t ≡ kind_of old t
   pub size : (t : ℕ) → IsReached old t → size_of new t ≡ size_of old t
-  pub inumber : (i s : ℕ) → IsReached old i → IsDirectory old i → s < entry_count old i →
-      inumber_at new i s ≡ inumber_at old i s
+  pub ino : (i s : ℕ) → IsReached old i → IsDirectory old i → s < entry_count old i →
+      ino_at new i s ≡ ino_at old i s
   pub entry : (i s j f : ℕ) → IsReached old i → EntryNames old i s j → f < entry_words →
       entry_word new i s f ≡ entry_word old i s f
   pub bytes : (i o : ℕ) → IsReached old i → IsFile old i → o < size_of old i →

@@ -4,7 +4,7 @@ use Rattle.std.specs.Prelude.{IsTrue}
 use Rattle.std.specs.FinMap.{get}
 use Rattle.std.proofs.lemmas.Bool.{ltb-false, ltb-true}
 use Rattle.bp_limits.specs.CallLimits.{max_path}
-use Rattle.bp_layout.specs.Directory.{EntryNames, entry_count, inumber_at, lookup_in, name_at}
+use Rattle.bp_layout.specs.Directory.{EntryNames, entry_count, ino_at, lookup_in, name_at}
 use Rattle.bp_layout.specs.Paths.{Name, Node, Path}
 use Rattle.bp_layout.specs.Inode.{kind_of}
 use Rattle.bp_layout.specs.Lookup.{lookup, lookup_from, node_of}
@@ -32,11 +32,11 @@ none_below image j name path found other finds =
 
 module _ (image : Image) (wf : IsWellFormed image) (i : ℕ) (reached : IsReached image i) (kind : kind_of image i ≡ 2) where
   -- what a name finds
-  finds_name : (slot : ℕ) → slot < entry_count image i → inumber_at image i slot ≢ 0 → lookup_in image i (name_at image i slot) ≡ Some (inumber_at image i slot)
+  finds_name : (slot : ℕ) → slot < entry_count image i → ino_at image i slot ≢ 0 → lookup_in image i (name_at image i slot) ≡ Some (ino_at image i slot)
   finds_name slot low some =
-      let here : EntryNames image i slot (inumber_at image i slot) = record { directory = kind; in_size = low; inumber = refl; not_empty = some } in
-      lookup_in-found image i (inumber_at image i slot) (name_at image i slot) (record { slot = slot; entry = here; spelled = refl })
-      (λ r k names spelled. wf.names_once i r slot k (inumber_at image i slot) reached names here spelled)
+      let here : EntryNames image i slot (ino_at image i slot) = record { directory = kind; in_size = low; ino = refl; not_empty = some } in
+      lookup_in-found image i (ino_at image i slot) (name_at image i slot) (record { slot = slot; entry = here; spelled = refl })
+      (λ r k names spelled. wf.names_once i r slot k (ino_at image i slot) reached names here spelled)
 
   pub path_from_entry : (left : ℕ) → HasLongEntry image i 0 (entry_count image i) left → HasLongPath image i left
   path_from_entry left has = record {
@@ -59,10 +59,10 @@ entry_from_path image i left has = go has.path has.finds has.long
           low = omega arith;
           high = omega (arith, shows.entry.in_size);
           is = record {
-            some = λ none. shows.entry.not_empty (sym shows.entry.inumber ∙ none);
+            some = λ none. shows.entry.not_empty (sym shows.entry.ino ∙ none);
             path = path;
             found = has.found;
-            finds = ap (λ j. lookup_from image j path) shows.entry.inumber ∙ through.after;
+            finds = ap (λ j. lookup_from image j path) shows.entry.ino ∙ through.after;
             long = omega (arith, long, ap (λ n. length (path_text (n ∷ path))) shows.spelled);
           };
         }
@@ -71,7 +71,7 @@ entry_from_path image i left has = go has.path has.finds has.long
 
 module _ (image : Image) (i slot left : ℕ) where
   abbrev named : ℕ
-  named = inumber_at image i slot
+  named = ino_at image i slot
 
   -- its name alone is too long
   pub long_name : named ≢ 0 → left < length (name_at image i slot) + 1 → IsLongEntry image i slot left
@@ -134,7 +134,7 @@ module _ (image : Image) (i left : ℕ) where
       go false high = here (record { slot = has.slot; low = omega (arith, ltb-false _ _ high); high = omega (arith, has.high, ltb-false _ _ high, live); is = has.is })
 
   -- empty entries
-  pub none_empty : (first count : ℕ) → ((slot : ℕ) → first ≤ slot → slot < first + count → inumber_at image i slot ≡ 0) → HasLongEntry image i first count left → ⊥
+  pub none_empty : (first count : ℕ) → ((slot : ℕ) → first ≤ slot → slot < first + count → ino_at image i slot ≡ 0) → HasLongEntry image i first count left → ⊥
   none_empty first count empty has = has.is.some (empty has.slot has.low has.high)
 
   -- a row of the entries

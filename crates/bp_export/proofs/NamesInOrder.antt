@@ -3,7 +3,7 @@ use Rattle.std.proofs.Common.{◌≡◌, ℕ, List, map, All, Some, refl, sym, �
 use Rattle.std.proofs.lemmas.Iterator.Adapters.{option_map_id}
 use Rattle.std.proofs.lemmas.List.Elements.{All-contains_itself, All-weaker}
 use Rattle.std.proofs.lemmas.Simd.{map-map}
-use Rattle.bp_layout.specs.Directory.{entry_count, inumber_at, lookup_in, name_at}
+use Rattle.bp_layout.specs.Directory.{entry_count, ino_at, lookup_in, name_at}
 use Rattle.bp_layout.specs.Paths.{Name, Path}
 use Rattle.bp_layout.specs.Inode.{kind_of}
 use Rattle.bp_layout.specs.Lookup.{lookup}
@@ -27,7 +27,7 @@ is_there x = tt
 module _ (image : Image) (wf : IsWellFormed image) (i : ℕ) (reached : IsReached image i) (kind : kind_of image i ≡ 2)
     (done : List (ℕ × Name)) (moved : IsPermutation (entries_named image i 0 (entry_count image i)) done) (up : IsSortedBy entry_comes_before done) where
   abbrev named_at : ℕ → ℕ × Name
-  named_at slot = (inumber_at image i slot, name_at image i slot)
+  named_at slot = (ino_at image i slot, name_at image i slot)
 
   -- no two have one name
   once : {A : Type 0} (of : ℕ → A) → NamesDiffer (map (recorded_by of) (entries_named image i 0 (entry_count image i)))

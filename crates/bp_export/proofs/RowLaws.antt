@@ -9,7 +9,7 @@ use Rattle.bp_limits.specs.Limits.{block_inodes, max_blocks}
 use Rattle.bp_layout.specs.Words.{Image, block_count}
 use Rattle.bp_layout.specs.Tree.{IsSound, content_word}
 use Rattle.bp_layout.specs.Inode.{inode_count, kind_of, root_of, size_of}
-use Rattle.bp_layout.specs.Directory.{EntryNames, entry_count, inumber_at, inumber_in, name_at, word_in}
+use Rattle.bp_layout.specs.Directory.{EntryNames, entry_count, ino_at, ino_in, name_at, word_in}
 use Rattle.bp_layout.specs.Fields.{name_of}
 use Rattle.bp_layout.specs.Reached.{IsReached}
 use Rattle.bp_layout.specs.Reached.IsReached.{inode_file, named}
@@ -45,18 +45,18 @@ module _ (image : Image) (wf : IsWellFormed image) where
   -- ---- the words of entries
 
   module _ (i : ℕ) (reached : IsReached image i) (kind : kind_of image i ≡ 2) where
-    module _ (slot : ℕ) (live : slot < entry_count image i) (some : inumber_at image i slot ≢ 0) where
-      names_here : EntryNames image i slot (inumber_at image i slot)
-      names_here = record { directory = kind; in_size = live; inumber = refl; not_empty = some }
+    module _ (slot : ℕ) (live : slot < entry_count image i) (some : ino_at image i slot ≢ 0) where
+      names_here : EntryNames image i slot (ino_at image i slot)
+      names_here = record { directory = kind; in_size = live; ino = refl; not_empty = some }
 
       name_most : word_in image (root_of image i) slot 1 ≤ 240
       name_most =
-          omega (arith, (wf.names i slot (inumber_at image i slot) reached names_here).short, name_long)
+          omega (arith, (wf.names i slot (ino_at image i slot) reached names_here).short, name_long)
         where
           name_long : length (name_at image i slot) ≡ word_in image (root_of image i) slot 1
           name_long = length-map-range_with_len _ 0 (word_in image (root_of image i) slot 1)
 
-      here_reached : IsReached image (inumber_at image i slot)
+      here_reached : IsReached image (ino_at image i slot)
       here_reached = named slot reached names_here
 
     has_reached : (slot : ℕ) (words : List ℕ) → slot < entry_count image i → HasWords image (root_of image i) slot words → NamesReached image words
@@ -65,7 +65,7 @@ module _ (image : Image) (wf : IsWellFormed image) where
       short = λ some. omega (arith, has.each 1 (omega arith), name_most slot live (λ none. some (is ∙ none)));
     }
       where
-        is : slice_index words 0 ≡ inumber_at image i slot
+        is : slice_index words 0 ≡ ino_at image i slot
         is = has.each 0 (omega arith)
 
     has_entry : (words : List ℕ) → NamesReached image words → HasEntryForm words
@@ -89,25 +89,25 @@ module _ (image : Image) (wf : IsWellFormed image) where
 -- ---- one entry
 
 module _ (image : Image) (i slot : ℕ) (words : List ℕ) (has : HasWords image (root_of image i) slot words) where
-  pub inumber_is : slice_index words 0 ≡ inumber_at image i slot
-  inumber_is = has.each 0 (omega arith)
+  pub ino_is : slice_index words 0 ≡ ino_at image i slot
+  ino_is = has.each 0 (omega arith)
 
   pub length_is : slice_index words 1 ≡ length (name_at image i slot)
   length_is = has.each 1 (omega arith) ∙ sym (length-map-range_with_len _ 0 (word_in image (root_of image i) slot 1))
 
   -- an empty entry names nothing
   pub none_named : slice_index words 0 ≡ 0 → cons_option (entry_named image i slot) [] ≡ []
-  none_named none = let empty : inumber_at image i slot ≡ 0 = sym inumber_is ∙ none in rw empty refl
+  none_named none = let empty : ino_at image i slot ≡ 0 = sym ino_is ∙ none in rw empty refl
 
   pub one_named : slice_index words 0 ≢ 0 → slice_index words 1 ≤ 240 → cons_option (entry_named image i slot) [] ≡ (slice_index words 0, name_of words) ∷ []
-  one_named some short = go (inumber_at image i slot == 0) refl
+  one_named some short = go (ino_at image i slot == 0) refl
     where
       name_is : name_at image i slot ≡ name_of words
       name_is = sym (name_in-words image (root_of image i) slot words (omega (arith, short, has.each 1 (omega arith))) has.each)
 
-      go : (b : Bool) → (inumber_at image i slot == 0) ≡ b → cons_option (entry_named image i slot) [] ≡ (slice_index words 0, name_of words) ∷ []
-      go true at = absurd (some (inumber_is ∙ eqb-true _ _ at))
-      go false at = rw at (ap₂ (λ j n. (j, n) ∷ []) (sym inumber_is) name_is)
+      go : (b : Bool) → (ino_at image i slot == 0) ≡ b → cons_option (entry_named image i slot) [] ≡ (slice_index words 0, name_of words) ∷ []
+      go true at = absurd (some (ino_is ∙ eqb-true _ _ at))
+      go false at = rw at (ap₂ (λ j n. (j, n) ∷ []) (sym ino_is) name_is)
 
 -- ---- entries in a row
 
@@ -127,7 +127,7 @@ named-append image i first count more =
     ∙ filter_map-append (entry_named image i) (range_with_len first count) (range_with_len (first + count) more)
 
 -- empty entries name nothing
-pub named-none : (image : Image) (i first count : ℕ) → ((slot : ℕ) → first ≤ slot → slot < first + count → inumber_at image i slot ≡ 0) → entries_named image i first count ≡ []
+pub named-none : (image : Image) (i first count : ℕ) → ((slot : ℕ) → first ≤ slot → slot < first + count → ino_at image i slot ≡ 0) → entries_named image i first count ≡ []
 named-none image i first zero empty = refl
 named-none image i first (suc count) empty =
     let rest : entries_named image i (first + 1) count ≡ [] = named-none image i (first + 1) count (λ slot low high. empty slot (omega (arith, low)) (omega (arith, high))) in
@@ -143,7 +143,7 @@ module _ (image : Image) (i leaf total : ℕ) (live : 16 * leaf < total) where
       rw (before, after) (ap (λ k. entries_named image i 0 (16 * leaf) ++ entries_named image i k (min 16 (total - 16 * leaf))) (sym from) ∙ sym (named-append image i 0 (16 * leaf) (min 16 (total - 16 * leaf))))
 
   -- where all of it is empty
-  pub null_more : ((slot : ℕ) → 16 * leaf ≤ slot → slot < 16 * (leaf + 1) → inumber_at image i slot ≡ 0) → entries_named image i 0 (min (16 * leaf) total) ≡ entries_named image i 0 (min (16 * (leaf + 1)) total)
+  pub null_more : ((slot : ℕ) → 16 * leaf ≤ slot → slot < 16 * (leaf + 1) → ino_at image i slot ≡ 0) → entries_named image i 0 (min (16 * leaf) total) ≡ entries_named image i 0 (min (16 * (leaf + 1)) total)
   null_more empty =
       sym (append-nil (entries_named image i 0 (min (16 * leaf) total)))
       ∙ ap (λ xs. entries_named image i 0 (min (16 * leaf) total) ++ xs) (sym (named-none image i (16 * leaf) (min 16 (total - 16 * leaf)) (λ slot low high. empty slot low (omega (arith, high)))))
@@ -168,7 +168,7 @@ row_at image i root size leaf words root_is size_is row =
     subst₂ (λ r s. IsRow image r (16 * leaf) (row_length s leaf) words) root_is size_is row
 
 -- a null leaf has only empty entries
-pub null_leaf : (image : Image) (root leaf : ℕ) → ((k : ℕ) → k < 512 → content_word image root (512 * leaf + k) ≡ 0) → (slot : ℕ) → 16 * leaf ≤ slot → slot < 16 * (leaf + 1) → inumber_in image root slot ≡ 0
+pub null_leaf : (image : Image) (root leaf : ℕ) → ((k : ℕ) → k < 512 → content_word image root (512 * leaf + k) ≡ 0) → (slot : ℕ) → 16 * leaf ≤ slot → slot < 16 * (leaf + 1) → ino_in image root slot ≡ 0
 null_leaf image root leaf null slot low high =
     let at : 32 * slot + 0 ≡ 512 * leaf + 32 * (slot - 16 * leaf) = omega (arith, low) in
     ap (content_word image root) at ∙ null (32 * (slot - 16 * leaf)) (omega (arith, low, high))

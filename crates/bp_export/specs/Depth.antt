@@ -1,7 +1,7 @@
 -- Directories with a path below them that is too long.
 use Rattle.std.specs.Prelude.{◌≡◌, ◌≢◌, ◌↔◌, ℕ, ◌+◌, ◌<◌, ◌≤◌, List, ◌∷◌, length, Bool, IsTrue, Some}
 use Rattle.bp_layout.specs.EntryWords.{HasWords, IsRow}
-use Rattle.bp_layout.specs.Directory.{inumber_at, name_at}
+use Rattle.bp_layout.specs.Directory.{ino_at, name_at}
 use Rattle.bp_layout.specs.Inode.{root_of}
 use Rattle.bp_layout.specs.Lookup.{lookup_from}
 use Rattle.bp_layout.specs.Paths.{Path}
@@ -17,10 +17,10 @@ pub record HasLongPath (image : Image) (i left : ℕ) : Type 0 where
 
 -- A path that is too long begins with the entry in a slot of directory i.
 pub record IsLongEntry (image : Image) (i slot left : ℕ) : Type 0 where
-  pub some : inumber_at image i slot ≢ 0
+  pub some : ino_at image i slot ≢ 0
   pub path : Path
   pub found : ℕ
-  pub finds : lookup_from image (inumber_at image i slot) path ≡ Some found
+  pub finds : lookup_from image (ino_at image i slot) path ≡ Some found
   pub long : left < length (path_text (name_at image i slot ∷ path))
 
 -- A path that is too long begins with one of `count` entries of directory i, from slot `first` on.

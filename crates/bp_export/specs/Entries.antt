@@ -4,7 +4,7 @@ use Rattle.std.specs.Cmp.Lexicographic.{slice_cmp}
 use Rattle.std.specs.List.{cons_option, filter_map, range_with_len}
 use Rattle.std.specs.Ordering.{is_lt, nat_cmp}
 use Rattle.bp_layout.specs.EntryWords.{HasWords, IsRow}
-use Rattle.bp_layout.specs.Directory.{inumber_at, lookup_in, name_at}
+use Rattle.bp_layout.specs.Directory.{ino_at, lookup_in, name_at}
 use Rattle.bp_layout.specs.Paths.{Name, Path}
 use Rattle.bp_layout.specs.Inode.{root_of}
 use Rattle.bp_layout.specs.Lookup.{lookup}
@@ -16,7 +16,7 @@ use Rattle.bp_plain.specs.Stands.{Shows}
 -- The inode and the name of an entry of directory i, if it is not empty.
 abbrev pub entry_named : Image → ℕ → ℕ → Option (ℕ × Name)
 entry_named image i slot =
-    if inumber_at image i slot == 0 then None else Some (inumber_at image i slot, name_at image i slot)
+    if ino_at image i slot == 0 then None else Some (ino_at image i slot, name_at image i slot)
 
 -- The inodes and names of those of `count` entries, from slot `first` on, that are not empty.
 abbrev pub entries_named : Image → ℕ → ℕ → ℕ → List (ℕ × Name)

@@ -3,7 +3,7 @@ use Rattle.std.specs.Prelude.{◌≡◌, ◌≢◌, ℕ, ◌+◌, ◌-◌, ◌*�
 use Rattle.bp_layout.specs.EntryWords.{IsRow}
 use Rattle.bp_limits.specs.Limits.{block_entries, entry_size, entry_words}
 use Rattle.bp_limits.specs.CallLimits.{max_name}
-use Rattle.bp_layout.specs.Directory.{inumber_in}
+use Rattle.bp_layout.specs.Directory.{ino_in}
 use Rattle.bp_layout.specs.Reached.{IsReached}
 use Rattle.bp_layout.specs.Words.{Image}
 
@@ -18,7 +18,7 @@ IsLeafRow image root size leaf words = IsRow image root (block_entries * leaf) (
 -- Each entry of a leaf is empty.
 abbrev pub IsEmptyLeaf : Image → ℕ → ℕ → Type 0
 IsEmptyLeaf image root leaf = (slot : ℕ) → block_entries * leaf ≤ slot → slot < block_entries * (leaf + 1)
-    → inumber_in image root slot ≡ 0
+    → ino_in image root slot ≡ 0
 
 -- The entry is empty, or has an inode number of 32 bits and a name of at most `max_name` bytes.
 pub record HasEntryForm (words : List ℕ) : Type 0 where

@@ -56,8 +56,8 @@ fn is_long<R: Region>(region: &R, view: EntryView<'_>, left: usize) -> bool
     requires entry { NamesReached (words_in R.memory region.now) view.words.now }
     ensures { ReportsLongEntry (words_in R.memory region.now) view.entry.words.now left result }
 {
-    let inumber = view.inumber();
-    if inumber == 0 {
+    let ino = view.ino();
+    if ino == 0 {
         return false;
     }
     // A `/` precedes each name.
@@ -65,8 +65,8 @@ fn is_long<R: Region>(region: &R, view: EntryView<'_>, left: usize) -> bool
     if left < taken {
         return true;
     }
-    match get(region, inumber as u32).kind {
+    match get(region, ino as u32).kind {
         Kind::File => false,
-        Kind::Dir => has_long_path(region, inumber as u32, left - taken),
+        Kind::Dir => has_long_path(region, ino as u32, left - taken),
     }
 }

@@ -118,12 +118,12 @@ impl Entries {
         requires { HasEntryForm view.words.now }
         ensures { PutsEntry view.entry.words.now result self.old self.new }
     {
-        let inumber = view.inumber();
-        if inumber == 0 {
+        let ino = view.ino();
+        if ino == 0 {
             return Ok(());
         }
         let mut name = [0; MAX_NAME];
-        self.push(inumber as u32, view.read_name(&mut name))
+        self.push(ino as u32, view.read_name(&mut name))
     }
 
     /// Appends a name of at most 240 bytes.

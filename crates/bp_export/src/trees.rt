@@ -26,7 +26,7 @@ use crate::work::Work;
 use bp_free::Counts;
 use bp_io::Sink;
 use bp_layout::Kind;
-use bp_limits::{MAX_PATH, ROOT_INUMBER};
+use bp_limits::{MAX_PATH, ROOT_INO};
 use bp_plain::Call;
 use bp_read::Tree;
 use bp_read::inodes::get;
@@ -204,11 +204,11 @@ pub fn export<R: Region, K: Sink>(
     ensures { (tree : FileTree) → Stands (words_in R.memory region.now) tree
         → EndsExport tree result (K.view out.old) (K.view out.new) }
 {
-    if has_long_path(region, ROOT_INUMBER, MAX_PATH) {
+    if has_long_path(region, ROOT_INO, MAX_PATH) {
         return Err(Fault::Deep);
     }
     let mut work = Work::new(alloc)?;
-    export_below(alloc, region, ROOT_INUMBER, counts, &mut work, out)?;
+    export_below(alloc, region, ROOT_INO, counts, &mut work, out)?;
     work.replies.hand_over(out)?;
     Ok(())
 }

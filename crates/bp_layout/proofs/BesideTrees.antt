@@ -68,7 +68,7 @@ module _ (old new : Image) (same : SameTrees old new) where
   names_back i s j n = record {
     directory = sym (kind-same i) ∙ n.directory;
     in_size = subst (λ z. s < z / 256) (size-same i) n.in_size;
-    inumber = sym (content_word-same i (32 * s + 0)) ∙ n.inumber;
+    ino = sym (content_word-same i (32 * s + 0)) ∙ n.ino;
     not_empty = n.not_empty;
   }
 
@@ -97,7 +97,7 @@ module _ (old new : Image) (same : SameTrees old new) where
     full_directories = λ i r kind. to_new (IsFull new) i (full-kept old new (root_of old i) (size_of old i) (keeps i) (wf.full_directories i (reached_back i r) (sym (kind-same i) ∙ kind)));
     inode_blocks = ap (λ z. z % 4096) same.size ∙ wf.inode_blocks;
     some_inodes = subst (λ z. 4096 ≤ z) (sym same.size) wf.some_inodes;
-    inumbers = λ i s j r n. subst (λ z. j < z / 64) (sym same.size) (wf.inumbers i s j (reached_back i r) (names_back i s j n));
+    inos = λ i s j r n. subst (λ z. j < z / 64) (sym same.size) (wf.inos i s j (reached_back i r) (names_back i s j n));
     not_root = λ i s j r n. wf.not_root i s j (reached_back i r) (names_back i s j n);
     named_once = λ i s k q j r p n m kind. wf.named_once i s k q j (reached_back i r) (reached_back k p) (names_back i s j n) (names_back k q j m) (sym (kind-same j) ∙ kind);
     kinds = λ i r. rw (kind-same (suc i)) (wf.kinds i (reached_back (suc i) r));
@@ -112,7 +112,7 @@ module _ (old new : Image) (same : SameTrees old new) where
     directories = record {
       kind = λ i r. kind-same i;
       count = λ i r kind. ap (λ z. z / 256) (size-same i);
-      inumber = λ i s r kind low. content_word-same i (32 * s + 0);
+      ino = λ i s r kind low. content_word-same i (32 * s + 0);
       name = λ i s j r n. name-same i s;
     };
     bytes = λ i r kind. rw (size-same i) (map-same _ _ 0 _ (λ o low high. byte-same i o));

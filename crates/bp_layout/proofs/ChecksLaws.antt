@@ -9,7 +9,7 @@ use Rattle.bp_layout.specs.WellFormed.{IsWellFormed}
 use Rattle.bp_layout.specs.Checks.{IsFound, Fails, pointer_place, entry_place}
 use Rattle.bp_layout.specs.declared.check.Check.{Check}
 use Rattle.bp_layout.specs.Checks.IsFound.{inode_file, root_directory, named}
-use Rattle.bp_layout.specs.Checks.Fails.{height, root_bits, pointer_bits, range, twice, hole, inode_file_size, inumber, root_named, inode_twice, kind, root_kind, directory_size, capacity, name_form, name_twice}
+use Rattle.bp_layout.specs.Checks.Fails.{height, root_bits, pointer_bits, range, twice, hole, inode_file_size, ino, root_named, inode_twice, kind, root_kind, directory_size, capacity, name_form, name_twice}
 use Rattle.bp_layout.specs.Formatted.{version_of}
 use Rattle.bp_limits.specs.Limits.{greatest_height}
 
@@ -47,8 +47,8 @@ none_fails image wf _ _ (hole {t = t} {d = d} {k = k} at (inl e) null) =
 none_fails image wf _ _ (hole {t = t} {d = d} {k = k} at (inr directory) null) = wf.full_directories t (found_reached image t at.found) directory d k at.live null
 none_fails image wf _ _ (inode_file_size (inl odd)) = odd wf.inode_blocks
 none_fails image wf _ _ (inode_file_size (inr small)) = let some : 4096 ≤ size_of image 0 = wf.some_inodes in omega (arith, small, some)
-none_fails image wf _ _ (inumber {i = i} {s = s} {j = j} at high) =
-    let low : j < inode_count image = wf.inumbers i s j (found_reached image i at.found) at.names in omega (arith, high, low)
+none_fails image wf _ _ (ino {i = i} {s = s} {j = j} at high) =
+    let low : j < inode_count image = wf.inos i s j (found_reached image i at.found) at.names in omega (arith, high, low)
 none_fails image wf _ _ (root_named {i = i} {s = s} at) = wf.not_root i s 1 (found_reached image i at.found) at.names refl
 none_fails image wf _ _ (inode_twice {i = i} {s = s} {j = j} {k = k} {r = r} at also other found directory) =
     let same : (i ≡ k) × (s ≡ r) = wf.named_once i s k r j (found_reached image i at.found) (found_reached image k also.found) at.names also.names directory in

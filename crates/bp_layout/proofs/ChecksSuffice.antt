@@ -14,8 +14,8 @@ use Rattle.bp_layout.specs.Formatted.{IsFormatted, version_of}
 use Rattle.bp_limits.specs.Limits.{greatest_height}
 use Rattle.bp_limits.proofs.Versions.{height_most}
 use Rattle.bp_layout.specs.Checks.IsFound.{inode_file, root_directory, named}
-use Rattle.bp_layout.specs.declared.check.Check.TheVariants.{Height, PointerBits, Range, BlockTwice, Hole, InodeFileSize, Inumber, InodeTwice, Kind, DirectorySize, Capacity, NameForm, NameTwice}
-use Rattle.bp_layout.specs.Checks.Fails.{height, root_bits, pointer_bits, range, twice, hole, inode_file_size, inumber, root_named, inode_twice, kind, root_kind, directory_size, capacity, name_form, name_twice}
+use Rattle.bp_layout.specs.declared.check.Check.TheVariants.{Height, PointerBits, Range, BlockTwice, Hole, InodeFileSize, InodeNumber, InodeTwice, Kind, DirectorySize, Capacity, NameForm, NameTwice}
+use Rattle.bp_layout.specs.Checks.Fails.{height, root_bits, pointer_bits, range, twice, hole, inode_file_size, ino, root_named, inode_twice, kind, root_kind, directory_size, capacity, name_form, name_twice}
 use Rattle.bp_layout.proofs.TreeLaws.{live_above, live_pointer_word, live_content, tree_word-suc}
 use Rattle.bp_layout.proofs.OnePlace.{SamePointer, same_block, low_slot}
 use Rattle.bp_layout.proofs.OncePointer.{SeparatesPointers, once_pointer}
@@ -172,7 +172,7 @@ module _ (image : Image) (none : NoneFails image) where
       (all.0, same_slot s r all.2 same.1)
 
   in_file : (i s j : ℕ) → IsFound image i → EntryNames image i s j → j < inode_count image
-  in_file i s j found names = less _ _ (λ high. none.none Inumber _ (inumber (entry i s j found names) high))
+  in_file i s j found names = less _ _ (λ high. none.none InodeNumber _ (ino (entry i s j found names) high))
 
   pub found_all : (t : ℕ) → IsReached image t → IsFound image t
   found_all _ the_inode_file = inode_file
@@ -195,7 +195,7 @@ module _ (image : Image) (none : NoneFails image) where
     full_directories = λ i r directory. full i (found_all i r) (inr directory);
     inode_blocks = is_equal _ _ (λ odd. none.none InodeFileSize 3 (inode_file_size (inl odd)));
     some_inodes = some_inodes;
-    inumbers = λ i s j r n. in_file i s j (found_all i r) n;
+    inos = λ i s j r n. in_file i s j (found_all i r) n;
     not_root = λ i s j r n one. none.none InodeTwice _ (root_named (subst (λ x. IsEntry image i s x (entry_place image i s 0)) one (entry i s j (found_all i r) n)));
     named_once = λ i s k q j r p n m kind.
         one_entry i s j k q j (found_all i r) (found_all k p) n m

@@ -43,6 +43,6 @@ entry_of image root first count index words is low = record {
 }
 
 -- the first word of one of the entries
-pub inumber_of : (image : Image) (root first count index : ℕ) (words : List ℕ) → IsRow image root first count words → index < count →
+pub ino_of : (image : Image) (root first count index : ℕ) (words : List ℕ) → IsRow image root first count words → index < count →
     slice_index (slice_range words (32 * index) (32 * index + 32)) 0 ≡ word_in image root (first + index) 0
-inumber_of image root first count index words is low = (entry_of image root first count index words is low).each 0 (omega arith)
+ino_of image root first count index words is low = (entry_of image root first count index words is low).each 0 (omega arith)

@@ -161,7 +161,7 @@ module _ (image : Image) (version : Version) (has : HasFormat image version) whe
     full_directories = λ i r kind d k live. absurd (none_live (root_of image i) d k (rw (size_is i r kind) at live));
     inode_blocks = rw has.size refl;
     some_inodes = rw has.size (omega arith);
-    inumbers = λ i s j r n. absurd (no_name i s j r n);
+    inos = λ i s j r n. absurd (no_name i s j r n);
     not_root = λ i s j r n. absurd (no_name i s j r n);
     named_once = λ i s k q j r p n m kind. absurd (no_name i s j r n);
     kinds = λ i r. rw (kind_is i r) (omega arith, omega arith);

@@ -5,7 +5,7 @@ use Rattle.std.proofs.lemmas.Bool.{cases_eq}
 use Rattle.std.proofs.lemmas.Slice.Eq.{bytes_eq-Decides}
 use Rattle.std.specs.Cmp.Lexicographic.{same_text}
 use Rattle.bp_layout.specs.Words.{Image}
-use Rattle.bp_layout.specs.Directory.{EntryNames, name_at, inumber_at, entry_count, is_named}
+use Rattle.bp_layout.specs.Directory.{EntryNames, name_at, ino_at, entry_count, is_named}
 use Rattle.bp_layout.specs.Paths.{Name}
 use Rattle.bp_layout.specs.Reached.{IsReached}
 use Rattle.bp_layout.specs.WellFormed.{IsWellFormed}
@@ -18,15 +18,15 @@ use Rattle.bp_layout.proofs.LookupLaws.{is_named-true}
 
 -- the entry at a slot has the name
 pub record IsEntryFor (image : Image) (name : NameIn) (slot : ℕ) : Type 0 where
-  pub entry : EntryNames image name.0 slot (inumber_at image name.0 slot)
+  pub entry : EntryNames image name.0 slot (ino_at image name.0 slot)
   pub spelled : name_at image name.0 slot ≡ name.1
 
 pub entry_of_slot : (image : Image) (name : NameIn) (slot : ℕ) → IsSlotOf image name slot → IsEntryFor image name slot
 entry_of_slot image name slot of =
     let at : Finds (is_named image name.0 name.1) 0 (entry_count image name.0) slot = find-passes _ 0 _ slot of.named in
-    let parts : (inumber_at image name.0 slot ≢ 0) × (bytes_eq (name_at image name.0 slot) name.1 ≡ true) = named_true _ _ at.passes in
+    let parts : (ino_at image name.0 slot ≢ 0) × (bytes_eq (name_at image name.0 slot) name.1 ≡ true) = named_true _ _ at.passes in
     record {
-      entry = record { directory = of.directory; in_size = omega (arith, at.high); inumber = refl; not_empty = parts.0 };
+      entry = record { directory = of.directory; in_size = omega (arith, at.high); ino = refl; not_empty = parts.0 };
       spelled = same_text _ _ (sym parts.1);
     }
 
@@ -43,10 +43,10 @@ slot_of_entry image i slot j name wf reached entry spelled = record {
     unnamed : (r : ℕ) → r < slot → (b : Bool) → is_named image i name r ≡ b → is_named image i name r ≡ false
     unnamed r before false is = is
     unnamed r before true is =
-        let parts : (inumber_at image i r ≢ 0) × (bytes_eq (name_at image i r) name ≡ true) = named_true _ _ is in
-        let other : EntryNames image i r (inumber_at image i r) =
-        record { directory = entry.directory; in_size = omega (arith, before, entry.in_size); inumber = refl; not_empty = parts.0 } in
-        let same : r ≡ slot = wf.names_once i r slot (inumber_at image i r) j reached other entry (same_text _ _ (sym parts.1) ∙ sym spelled) in
+        let parts : (ino_at image i r ≢ 0) × (bytes_eq (name_at image i r) name ≡ true) = named_true _ _ is in
+        let other : EntryNames image i r (ino_at image i r) =
+        record { directory = entry.directory; in_size = omega (arith, before, entry.in_size); ino = refl; not_empty = parts.0 } in
+        let same : r ≡ slot = wf.names_once i r slot (ino_at image i r) j reached other entry (same_text _ _ (sym parts.1) ∙ sym spelled) in
         absurd (omega (arith, same, before))
 
 -- ---- what is known stays right

@@ -7,7 +7,7 @@ use Rattle.std.proofs.lemmas.Slice.Eq.{bytes_eq-Decides}
 use Rattle.std.specs.Cmp.Lexicographic.{same_text}
 use Rattle.bp_layout.specs.Words.{Image}
 use Rattle.bp_layout.specs.Inode.{kind_of}
-use Rattle.bp_layout.specs.Directory.{EntryNames, name_at, inumber_at, entry_count, is_named, slot_named, lookup_in}
+use Rattle.bp_layout.specs.Directory.{EntryNames, name_at, ino_at, entry_count, is_named, slot_named, lookup_in}
 use Rattle.bp_layout.specs.Paths.{Name}
 use Rattle.bp_layout.proofs.Finding.{Finds, find-passes}
 use Rattle.bp_layout.proofs.View.{named_true}
@@ -21,15 +21,15 @@ pub record Shows (image : Image) (i : ℕ) (name : Name) (j : ℕ) : Type 0 wher
 pub lookup_in-shows : (image : Image) (i j : ℕ) (name : Name) → lookup_in image i name ≡ Some j → Shows image i name j
 lookup_in-shows image i j name e = go (kind_of image i == 2) refl
   where
-    at_slot : kind_of image i ≡ 2 → (found : Option ℕ) → slot_named image i name ≡ found → option_map (inumber_at image i) found ≡ Some j → Shows image i name j
+    at_slot : kind_of image i ≡ 2 → (found : Option ℕ) → slot_named image i name ≡ found → option_map (ino_at image i) found ≡ Some j → Shows image i name j
     at_slot kind None f is = absurd (cc)
     at_slot kind (Some slot) f is =
         let passes : Finds (is_named image i name) 0 (entry_count image i) slot = find-passes _ 0 _ slot f in
-        let inumber : inumber_at image i slot ≡ j = cc in
-        let parts : (inumber_at image i slot ≢ 0) × (bytes_eq (name_at image i slot) name ≡ true) = named_true _ _ passes.passes in
+        let ino : ino_at image i slot ≡ j = cc in
+        let parts : (ino_at image i slot ≢ 0) × (bytes_eq (name_at image i slot) name ≡ true) = named_true _ _ passes.passes in
         record {
           slot = slot;
-          entry = record { directory = kind; in_size = omega (arith, passes.high); inumber = inumber; not_empty = λ none. parts.0 (inumber ∙ none) };
+          entry = record { directory = kind; in_size = omega (arith, passes.high); ino = ino; not_empty = λ none. parts.0 (ino ∙ none) };
           spelled = same_text _ _ (sym parts.1);
         }
 
@@ -56,7 +56,7 @@ named_from a b not_empty also = go (a == 0) refl
 
 pub is_named-true : (image : Image) (i slot j : ℕ) (name : Name) → EntryNames image i slot j → name_at image i slot ≡ name → is_named image i name slot ≡ true
 is_named-true image i slot j name names spelled =
-    named_from _ _ (λ none. names.not_empty (sym names.inumber ∙ none)) ((bytes_eq-Decides (name_at image i slot) name).1 spelled)
+    named_from _ _ (λ none. names.not_empty (sym names.ino ∙ none)) ((bytes_eq-Decides (name_at image i slot) name).1 spelled)
 
 pub lookup_in-found : (image : Image) (i j : ℕ) (name : Name) → (shows : Shows image i name j) →
     ((r k : ℕ) → EntryNames image i r k → name_at image i r ≡ name → r ≡ shows.slot) → lookup_in image i name ≡ Some j
@@ -65,14 +65,14 @@ lookup_in-found image i j name shows once = rw shows.entry.directory (at_slot (s
     passes : is_named image i name shows.slot ≡ true
     passes = is_named-true image i shows.slot j name shows.entry shows.spelled
 
-    at_slot : (found : Option ℕ) → slot_named image i name ≡ found → option_map (inumber_at image i) (slot_named image i name) ≡ Some j
+    at_slot : (found : Option ℕ) → slot_named image i name ≡ found → option_map (ino_at image i) (slot_named image i name) ≡ Some j
     at_slot None f = absurd (true≢false (sym passes ∙ find-none (is_named image i name) 0 (entry_count image i) shows.slot f (omega arith) (omega (arith, shows.entry.in_size))))
     at_slot (Some r) f =
         let found : Finds (is_named image i name) 0 (entry_count image i) r = find-passes _ 0 _ r f in
-        let parts : (inumber_at image i r ≢ 0) × (bytes_eq (name_at image i r) name ≡ true) = named_true _ _ found.passes in
-        let here : r ≡ shows.slot = once r (inumber_at image i r)
-        (record { directory = shows.entry.directory; in_size = omega (arith, found.high); inumber = refl; not_empty = parts.0 }) (same_text _ _ (sym parts.1)) in
-        rw f (ap Some (ap (inumber_at image i) here ∙ shows.entry.inumber))
+        let parts : (ino_at image i r ≢ 0) × (bytes_eq (name_at image i r) name ≡ true) = named_true _ _ found.passes in
+        let here : r ≡ shows.slot = once r (ino_at image i r)
+        (record { directory = shows.entry.directory; in_size = omega (arith, found.high); ino = refl; not_empty = parts.0 }) (same_text _ _ (sym parts.1)) in
+        rw f (ap Some (ap (ino_at image i) here ∙ shows.entry.ino))
 
 pub lookup_in-none : (image : Image) (i : ℕ) (name : Name) → ((j : ℕ) → Shows image i name j → ⊥) → lookup_in image i name ≡ None
 lookup_in-none image i name nothing = go (lookup_in image i name) refl

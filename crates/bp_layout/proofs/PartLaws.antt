@@ -9,7 +9,7 @@ use Rattle.std.proofs.lemmas.List.FromFn.{fill_by_all, get_or-map-range_with_len
 use Rattle.std.proofs.lemmas.Slice.Eq.{bytes_eq-Decides}
 use Rattle.bp_layout.specs.Words.{Image}
 use Rattle.bp_layout.specs.Tree.{byte}
-use Rattle.bp_layout.specs.Directory.{word_in, inumber_in, name_in, is_named_in}
+use Rattle.bp_layout.specs.Directory.{word_in, ino_in, name_in, is_named_in}
 use Rattle.pm_words.specs.Bytes.{word_of}
 use Rattle.bp_layout.proofs.Finding.{unequal}
 use Rattle.bp_layout.proofs.EntryWords.{byte-at}
@@ -98,7 +98,7 @@ module _ (image : Image) (root slot : ℕ) (name : List ℕ) where
       go : (b : Bool) → is_named_in image root name slot ≡ b → false ≡ b
       go false at = refl
       go true at =
-          let parts : (inumber_in image root slot ≢ 0) × (bytes_eq (name_in image root slot) name ≡ true) = named_true _ _ at in
+          let parts : (ino_in image root slot ≢ 0) × (bytes_eq (name_in image root slot) name ≡ true) = named_true _ _ at in
           let same : name_in image root slot ≡ name = (bytes_eq-Decides (name_in image root slot) name).0 parts.1 in
           let long : word_in image root slot 1 ≡ length name = sym (length-map-range_with_len (byte_in image root slot) 0 (word_in image root slot 1)) ∙ ap length same in
           absurd (other (spelled_back (ap (λ n. map (byte_in image root slot) (range_with_len 0 n)) (sym long) ∙ same)))
@@ -109,7 +109,7 @@ module _ (image : Image) (root slot : ℕ) (name : List ℕ) where
       go : (b : Bool) → is_named_in image root name slot ≡ b → false ≡ b
       go false at = refl
       go true at =
-          let parts : (inumber_in image root slot ≢ 0) × (bytes_eq (name_in image root slot) name ≡ true) = named_true _ _ at in
+          let parts : (ino_in image root slot ≢ 0) × (bytes_eq (name_in image root slot) name ≡ true) = named_true _ _ at in
           let same : name_in image root slot ≡ name = (bytes_eq-Decides (name_in image root slot) name).0 parts.1 in
           absurd (other (sym (length-map-range_with_len (byte_in image root slot) 0 (word_in image root slot 1)) ∙ ap length same))
 

@@ -10,4 +10,4 @@ use Rattle.bp_layout.specs.WellFormed.{IsWellFormed}
 pub reached-in_file : (image : Image) → IsWellFormed image → (t : ℕ) → IsReached image t → t < inode_count image
 reached-in_file image wf _ inode_file = let some : 4096 ≤ size_of image 0 = wf.some_inodes in omega (arith, some)
 reached-in_file image wf _ root_directory = let some : 4096 ≤ size_of image 0 = wf.some_inodes in omega (arith, some)
-reached-in_file image wf _ (named {i} {j} slot r n) = wf.inumbers i slot j r n
+reached-in_file image wf _ (named {i} {j} slot r n) = wf.inos i slot j r n

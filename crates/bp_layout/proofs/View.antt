@@ -5,7 +5,7 @@ use Rattle.std.specs.Option.{option_map}
 use Rattle.bp_layout.specs.Words.{Image}
 use Rattle.bp_layout.specs.Tree.{content}
 use Rattle.bp_layout.specs.Inode.{kind_of, root_of, size_of}
-use Rattle.bp_layout.specs.Directory.{EntryNames, name_at, inumber_at, entry_count, is_named, slot_named, lookup_in}
+use Rattle.bp_layout.specs.Directory.{EntryNames, name_at, ino_at, entry_count, is_named, slot_named, lookup_in}
 use Rattle.bp_layout.specs.Paths.{Name, Path}
 use Rattle.bp_layout.specs.Reached.{IsReached}
 use Rattle.bp_layout.specs.Reached.IsReached.{root_directory, named}
@@ -17,7 +17,7 @@ use Rattle.bp_layout.proofs.Finding.{find-same, Finds, find-passes}
 pub record SameDirectories (old new : Image) : Type 0 where
   pub kind : (i : ℕ) → IsReached old i → kind_of new i ≡ kind_of old i
   pub count : (i : ℕ) → IsReached old i → kind_of old i ≡ 2 → entry_count new i ≡ entry_count old i
-  pub inumber : (i slot : ℕ) → IsReached old i → kind_of old i ≡ 2 → slot < entry_count old i → inumber_at new i slot ≡ inumber_at old i slot
+  pub ino : (i slot : ℕ) → IsReached old i → kind_of old i ≡ 2 → slot < entry_count old i → ino_at new i slot ≡ ino_at old i slot
   pub name : (i slot j : ℕ) → IsReached old i → EntryNames old i slot j → name_at new i slot ≡ name_at old i slot
 
 -- and the same bytes
@@ -27,23 +27,23 @@ pub record SameView (old new : Image) : Type 0 where
 
 is_named-same : (old new : Image) (same : SameDirectories old new) (i slot : ℕ) (name : Name) → IsReached old i → kind_of old i ≡ 2 →
     slot < entry_count old i → is_named new i name slot ≡ is_named old i name slot
-is_named-same old new same i slot name reached kind in_size = go (inumber_at old i slot == 0) refl
+is_named-same old new same i slot name reached kind in_size = go (ino_at old i slot == 0) refl
   where
-    go : (b : Bool) → (inumber_at old i slot == 0) ≡ b → is_named new i name slot ≡ is_named old i name slot
-    go true at = rw (same.inumber i slot reached kind in_size, at) refl
+    go : (b : Bool) → (ino_at old i slot == 0) ≡ b → is_named new i name slot ≡ is_named old i name slot
+    go true at = rw (same.ino i slot reached kind in_size, at) refl
     go false at =
-        let named : EntryNames old i slot (inumber_at old i slot) =
-        record { directory = kind; in_size = in_size; inumber = refl; not_empty = eqb-false _ _ at } in
-        rw (same.inumber i slot reached kind in_size, at, same.name i slot (inumber_at old i slot) reached named) refl
+        let named : EntryNames old i slot (ino_at old i slot) =
+        record { directory = kind; in_size = in_size; ino = refl; not_empty = eqb-false _ _ at } in
+        rw (same.ino i slot reached kind in_size, at, same.name i slot (ino_at old i slot) reached named) refl
 
 lookup_in-same : (old new : Image) (same : SameDirectories old new) (i : ℕ) (name : Name) → IsReached old i → lookup_in new i name ≡ lookup_in old i name
 lookup_in-same old new same i name reached = go (kind_of old i == 2) refl
   where
-    at_slot : kind_of old i ≡ 2 → (found : Option ℕ) → slot_named old i name ≡ found → option_map (inumber_at new i) found ≡ option_map (inumber_at old i) found
+    at_slot : kind_of old i ≡ 2 → (found : Option ℕ) → slot_named old i name ≡ found → option_map (ino_at new i) found ≡ option_map (ino_at old i) found
     at_slot kind None e = refl
     at_slot kind (Some slot) e =
         let passes : Finds (is_named old i name) 0 (entry_count old i) slot = find-passes _ 0 _ slot e in
-        ap Some (same.inumber i slot reached kind (omega (arith, passes.high)))
+        ap Some (same.ino i slot reached kind (omega (arith, passes.high)))
 
     go : (b : Bool) → (kind_of old i == 2) ≡ b → lookup_in new i name ≡ lookup_in old i name
     go true at =
@@ -64,16 +64,16 @@ named_true a b e = go (a == 0) refl
 pub lookup_in-reached : (image : Image) (i j : ℕ) (name : Name) → IsReached image i → lookup_in image i name ≡ Some j → IsReached image j
 lookup_in-reached image i j name reached e = go (kind_of image i == 2) refl
   where
-    at_slot : kind_of image i ≡ 2 → (found : Option ℕ) → slot_named image i name ≡ found → option_map (inumber_at image i) found ≡ Some j → IsReached image j
+    at_slot : kind_of image i ≡ 2 → (found : Option ℕ) → slot_named image i name ≡ found → option_map (ino_at image i) found ≡ Some j → IsReached image j
     at_slot kind None f is = absurd (cc)
     at_slot kind (Some slot) f is =
         let passes : Finds (is_named image i name) 0 (entry_count image i) slot = find-passes _ 0 _ slot f in
-        let inumber : inumber_at image i slot ≡ j = cc in
+        let ino : ino_at image i slot ≡ j = cc in
         named slot reached (record {
           directory = kind;
           in_size = omega (arith, passes.high);
-          inumber = inumber;
-          not_empty = λ none. (named_true _ _ passes.passes).0 (inumber ∙ none);
+          ino = ino;
+          not_empty = λ none. (named_true _ _ passes.passes).0 (ino ∙ none);
         })
 
     go : (b : Bool) → (kind_of image i == 2) ≡ b → IsReached image j

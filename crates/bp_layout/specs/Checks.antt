@@ -3,13 +3,13 @@
 use Rattle.std.specs.Prelude.{◌≡◌, ◌≢◌, ◌⊎◌, ℕ, zero, suc, ◌+◌, ◌*◌, ◌/◌, ◌%◌, ◌<◌, ◌≤◌}
 use Rattle.bp_layout.specs.Words.{Image, block_count, height_of}
 use Rattle.bp_layout.specs.Formatted.{version_of}
-use Rattle.bp_limits.specs.Limits.{block_size, block_words, directory_kind, entry_size, entry_words, file_kind, greatest_height, inode_words, root_inumber, super_root, super_size}
+use Rattle.bp_limits.specs.Limits.{block_size, block_words, directory_kind, entry_size, entry_words, file_kind, greatest_height, inode_words, root_ino, super_root, super_size}
 use Rattle.bp_layout.specs.Tree.{tree_word, node, place_of, covered, IsLivePointer}
 use Rattle.bp_layout.specs.Inode.{IsDirectory, inode_count, kind_of, root_of, size_of}
 use Rattle.bp_layout.specs.Directory.{EntryNames, name_at}
 use Rattle.bp_layout.specs.Paths.{IsName}
 use Rattle.bp_layout.specs.declared.check.Check.{Check}
-use Rattle.bp_layout.specs.declared.check.Check.TheVariants.{Height, PointerBits, Range, BlockTwice, Hole, InodeFileSize, Inumber, InodeTwice, Kind, DirectorySize, Capacity, NameForm, NameTwice}
+use Rattle.bp_layout.specs.declared.check.Check.TheVariants.{Height, PointerBits, Range, BlockTwice, Hole, InodeFileSize, InodeNumber, InodeTwice, Kind, DirectorySize, Capacity, NameForm, NameTwice}
 
 -- the number of a check in the list of docs/format.md
 abbrev pub number_of : Check → ℕ
@@ -19,7 +19,7 @@ number_of Range = 3
 number_of BlockTwice = 4
 number_of Hole = 5
 number_of InodeFileSize = 6
-number_of Inumber = 7
+number_of InodeNumber = 7
 number_of InodeTwice = 8
 number_of Kind = 9
 number_of DirectorySize = 10
@@ -70,7 +70,7 @@ ContentFollowed image t index =
 -- directory names, if the inode itself can be followed.
 pub data IsFound (image : Image) : ℕ → Type 0 where
   inode_file : IsFound image 0
-  root_directory : ContentFollowed image 0 inode_words → IsFound image root_inumber
+  root_directory : ContentFollowed image 0 inode_words → IsFound image root_ino
   named : {i j : ℕ} → (slot : ℕ) → IsFound image i → EntryNames image i slot j
       → ContentFollowed image i (entry_words * slot) → j < inode_count image
       → ContentFollowed image 0 (inode_words * j) → IsFound image j
@@ -105,14 +105,14 @@ pub data Fails (image : Image) : Check → ℕ → Type 0 where
       → node image (root_of image t) d k ≡ 0 → Fails image Hole p
   inode_file_size : (size_of image 0 % block_size ≢ 0) ⊎ (size_of image 0 < block_size)
       → Fails image InodeFileSize super_size
-  inumber : {i s j p : ℕ} → IsEntry image i s j p → inode_count image ≤ j → Fails image Inumber p
-  root_named : {i s p : ℕ} → IsEntry image i s root_inumber p → Fails image InodeTwice p
+  ino : {i s j p : ℕ} → IsEntry image i s j p → inode_count image ≤ j → Fails image InodeNumber p
+  root_named : {i s p : ℕ} → IsEntry image i s root_ino p → Fails image InodeTwice p
   inode_twice : {i s j p k r q : ℕ} → IsEntry image i s j p → IsEntry image k r j q → p ≢ q → IsFound image j
       → IsDirectory image j → Fails image InodeTwice p
   kind : {i p : ℕ} → IsFound image (suc i) → kind_of image (suc i) ≢ file_kind → kind_of image (suc i) ≢ directory_kind
       → inode_place image (suc i) 0 ≡ p → Fails image Kind p
-  root_kind : {p : ℕ} → IsFound image root_inumber → kind_of image root_inumber ≢ directory_kind
-      → inode_place image root_inumber 0 ≡ p → Fails image Kind p
+  root_kind : {p : ℕ} → IsFound image root_ino → kind_of image root_ino ≢ directory_kind
+      → inode_place image root_ino 0 ≡ p → Fails image Kind p
   directory_size : {i p : ℕ} → IsFound image i → IsDirectory image i → size_of image i % entry_size ≢ 0
       → size_place image i ≡ p → Fails image DirectorySize p
   capacity : {t p : ℕ} → IsFound image t → covered (suc (height_of (root_of image t))) < size_of image t

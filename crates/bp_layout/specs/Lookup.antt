@@ -1,6 +1,6 @@
 -- What an image has at each path.
 use Rattle.std.specs.Prelude.{ℕ, List, [], ◌∷◌, ◌==◌, Bool, false, Option, None, Some, option_map, option_and_then, if◌then◌else◌}
-use Rattle.bp_limits.specs.Limits.{root_inumber, file_kind}
+use Rattle.bp_limits.specs.Limits.{root_ino, file_kind}
 use Rattle.bp_layout.specs.Words.{Image}
 use Rattle.bp_layout.specs.Tree.{content}
 use Rattle.bp_layout.specs.Inode.{kind_of, root_of, size_of}
@@ -14,7 +14,7 @@ lookup_from image i [] = Some i
 lookup_from image i (name ∷ path) = option_and_then (λ j. lookup_from image j path) (lookup_in image i name)
 
 abbrev pub lookup : Image → Path → Option ℕ
-lookup image path = lookup_from image root_inumber path
+lookup image path = lookup_from image root_ino path
 
 abbrev pub node_of : Image → ℕ → Node
 node_of image i = if kind_of image i == file_kind then file (content image (root_of image i) (size_of image i)) else dir

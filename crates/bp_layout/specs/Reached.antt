@@ -1,6 +1,6 @@
 -- The trees that the image reaches, and the blocks that they hold.
 use Rattle.std.specs.Prelude.{◌≡◌, ℕ, ◌<◌, ◌≤◌, Bool, false}
-use Rattle.bp_limits.specs.Limits.{root_inumber}
+use Rattle.bp_limits.specs.Limits.{root_ino}
 use Rattle.bp_layout.specs.Words.{Image, block_count}
 use Rattle.bp_layout.specs.Tree.{HasBlock}
 use Rattle.bp_layout.specs.Inode.{root_of, size_of}
@@ -9,7 +9,7 @@ use Rattle.bp_layout.specs.Directory.{EntryNames}
 -- a reachable tree: the inode file, the root directory, and each inode that an entry of a reachable directory names
 pub data IsReached (image : Image) : ℕ → Type 0 where
   inode_file : IsReached image 0
-  root_directory : IsReached image root_inumber
+  root_directory : IsReached image root_ino
   named : {i j : ℕ} → (slot : ℕ) → IsReached image i → EntryNames image i slot j → IsReached image j
 
 -- one of these trees holds the block, up to a size in bytes for each tree

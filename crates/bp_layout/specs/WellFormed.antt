@@ -7,7 +7,7 @@ use Rattle.bp_layout.specs.Directory.{EntryNames, name_at}
 use Rattle.bp_layout.specs.Paths.{IsName}
 use Rattle.bp_layout.specs.Reached.{IsReached}
 use Rattle.bp_layout.specs.Formatted.{IsFormatted, version_of}
-use Rattle.bp_limits.specs.Limits.{block_size, entry_size, greatest_height, root_inumber}
+use Rattle.bp_limits.specs.Limits.{block_size, entry_size, greatest_height, root_ino}
 
 pub record IsWellFormed (image : Image) : Type 0 where
   pub formatted : IsFormatted image
@@ -26,12 +26,12 @@ pub record IsWellFormed (image : Image) : Type 0 where
   pub inode_blocks : size_of image 0 % block_size ≡ 0
   pub some_inodes : block_size ≤ size_of image 0
   -- each entry names an existing inode, none names the root, and no two entries name one directory
-  pub inumbers : (i s j : ℕ) → IsReached image i → EntryNames image i s j → j < inode_count image
-  pub not_root : (i s j : ℕ) → IsReached image i → EntryNames image i s j → j ≢ root_inumber
+  pub inos : (i s j : ℕ) → IsReached image i → EntryNames image i s j → j < inode_count image
+  pub not_root : (i s j : ℕ) → IsReached image i → EntryNames image i s j → j ≢ root_ino
   pub named_once : (i s k r j : ℕ) → IsReached image i → IsReached image k → EntryNames image i s j
       → EntryNames image k r j → IsDirectory image j → (i ≡ k) × (s ≡ r)
   pub kinds : (i : ℕ) → IsReached image (suc i) → (1 ≤ kind_of image (suc i)) × (kind_of image (suc i) ≤ 2)
-  pub root_kind : IsDirectory image root_inumber
+  pub root_kind : IsDirectory image root_ino
   pub directory_sizes : (i : ℕ) → IsReached image i → IsDirectory image i → size_of image i % entry_size ≡ 0
   pub names : (i s j : ℕ) → IsReached image i → EntryNames image i s j → IsName (name_at image i s)
   pub names_once : (i s r j k : ℕ) → IsReached image i → EntryNames image i s j → EntryNames image i r k

@@ -19,7 +19,7 @@ pub enum Check {
     /// The inode file is empty, or its size is not a multiple of the block size.
     InodeFileSize,
     /// An entry names an inode that is not in the inode file.
-    Inumber,
+    InodeNumber,
     /// An entry names the root directory, or a directory that another entry names too. A file may have several names.
     InodeTwice,
     /// An inode is neither a file nor a directory, or inode 1 is no directory.
@@ -46,7 +46,7 @@ impl Check {
             Check::BlockTwice => 4,
             Check::Hole => 5,
             Check::InodeFileSize => 6,
-            Check::Inumber => 7,
+            Check::InodeNumber => 7,
             Check::InodeTwice => 8,
             Check::Kind => 9,
             Check::DirectorySize => 10,

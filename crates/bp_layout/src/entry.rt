@@ -11,7 +11,7 @@ use crate::name_words::name_word;
 use bp_limits::ENTRY_WORDS;
 
 /// The word of an entry with the number of the inode that it names; 0 if the entry is empty.
-pub const INUMBER_WORD: u64 = 0;
+pub const INO_WORD: u64 = 0;
 
 /// The word of an entry with the length of the name, in bytes.
 pub const LENGTH_WORD: u64 = 1;
@@ -26,7 +26,7 @@ pub const NAME_WORDS: usize = 30;
 #[derive(Debug, Drop)]
 pub struct Entry {
     /// Inode that the entry names; 0 if the entry is empty.
-    pub inumber: u64,
+    pub ino: u64,
     /// Name of that inode.
     pub name: Name,
 }
@@ -36,7 +36,7 @@ impl Entry {
     pub fn read(words: &[u64; ENTRY_WORDS as usize]) -> Entry
         requires least { 1 ≤ slice_index words.now 1 }
         requires most { slice_index words.now 1 ≤ max_name }
-        ensures inumber { result.inumber ≡ slice_index words.now 0 }
+        ensures ino { result.ino ≡ slice_index words.now 0 }
         ensures name { result.name.items ≡ name_of words.now }
     {
         let mut name = Name::new();
@@ -44,7 +44,7 @@ impl Entry {
             name.push(byte(words[NAME_WORD as usize + offset / 8], offset % 8));
         }
         Entry {
-            inumber: words[INUMBER_WORD as usize],
+            ino: words[INO_WORD as usize],
             name,
         }
     }
@@ -52,13 +52,13 @@ impl Entry {
     /// Returns the words with these fields, with zeros after the name.
     pub fn words(&self) -> [u64; ENTRY_WORDS as usize]
         requires { 1 ≤ array_vec_len self.now.name }
-        ensures inumber { slice_index result 0 ≡ self.now.inumber }
+        ensures ino { slice_index result 0 ≡ self.now.ino }
         ensures length { slice_index result 1 ≡ array_vec_len self.now.name }
         ensures name { (offset : ℕ) → offset < max_name
             → name_byte result offset ≡ slice_index self.now.name.items offset }
     {
         let mut words = [0; ENTRY_WORDS as usize];
-        words[INUMBER_WORD as usize] = self.inumber;
+        words[INO_WORD as usize] = self.ino;
         words[LENGTH_WORD as usize] = self.name.len() as u64;
         for index in 0..NAME_WORDS {
             words[NAME_WORD as usize + index] = name_word(&self.name, index);

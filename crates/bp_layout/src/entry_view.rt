@@ -9,7 +9,7 @@ ghost use Rattle.bp_limits.specs.Limits.{entry_words};
 ghost use Rattle.bp_limits.specs.CallLimits.{max_name};
 
 use crate::bytes::unpack;
-use crate::entry::{INUMBER_WORD, LENGTH_WORD, NAME_WORD};
+use crate::entry::{INO_WORD, LENGTH_WORD, NAME_WORD};
 use crate::name_words::{last_part, whole_word};
 use bp_limits::{ENTRY_WORDS, MAX_NAME};
 use pm_words::low_bytes;
@@ -40,10 +40,10 @@ impl<'a> EntryView<'a> {
     }
 
     /// Returns the number of the inode that the entry names, 0 if it is empty.
-    pub fn inumber(&self) -> u64
+    pub fn ino(&self) -> u64
         ensures { result ≡ slice_index self.now.words.now 0 }
     {
-        self.words[INUMBER_WORD as usize]
+        self.words[INO_WORD as usize]
     }
 
     /// Returns the length of the name in bytes.
@@ -87,7 +87,7 @@ impl<'a> EntryView<'a> {
         if self.name_len() != name.len() as u64 {
             return false;
         }
-        if self.inumber() == 0 {
+        if self.ino() == 0 {
             return false;
         }
         for part in 0..whole {

@@ -71,7 +71,7 @@ pub fn inode_written(words: [u64; 3]) -> [u64; 3]
 /// Writes and reads an entry: the result is the same.
 pub fn entry_read(entry: Entry) -> Entry
     requires { 1 ≤ array_vec_len entry.name }
-    ensures inumber { result.inumber ≡ entry.inumber }
+    ensures ino { result.ino ≡ entry.ino }
     ensures name { result.name ≡ entry.name }
 {
     Entry::read(&entry.words())

@@ -14,7 +14,7 @@ mod name_words;
 
 pub use bytes::unpack;
 pub use check::Check;
-pub use entry::{Entry, INUMBER_WORD, LENGTH_WORD, NAME_WORD, NAME_WORDS};
+pub use entry::{Entry, INO_WORD, LENGTH_WORD, NAME_WORD, NAME_WORDS};
 pub use entry_view::EntryView;
 pub use fields::{BadPointer, Inode, Kind, Name, RootWord, Stat, Super, pointer, pointer_word};
 pub use hints::{Hints, NoHints};

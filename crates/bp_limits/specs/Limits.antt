@@ -1,6 +1,6 @@
 -- The limits of the format, of scripts and of the programs. CallLimits has those of calls.
 use Rattle.std.specs.Prelude.{ℕ, ◌==◌, if◌then◌else◌}
-use Rattle.bp_limits.specs.declared.TheConstants.{BLOCK_SIZE, BLOCK_WORDS, MIN_BLOCKS, MAX_BLOCKS, MAX_FILE_BLOCKS, SUPER_MAGIC, SUPER_BLOCKS, SUPER_ROOT, SUPER_SIZE, SUPER_SNAPSHOT_ROOT, SUPER_SNAPSHOT_SIZE, INODE_SIZE, INODE_WORDS, ROOT_FIELD, SIZE_FIELD, BLOCK_INODES, ROOT_INUMBER, FIRST_INODE, FILE_KIND, DIRECTORY_KIND, ENTRY_SIZE, ENTRY_WORDS, BLOCK_ENTRIES, MAX_HEIGHT, MAX_READ, MAX_PIECES, CALL_ROOM, MAX_LINE, MAX_TEXT, MAX_INPUT, LOG_EVENTS, MAX_MASK, MAX_TURNS}
+use Rattle.bp_limits.specs.declared.TheConstants.{BLOCK_SIZE, BLOCK_WORDS, MIN_BLOCKS, MAX_BLOCKS, MAX_FILE_BLOCKS, SUPER_MAGIC, SUPER_BLOCKS, SUPER_ROOT, SUPER_SIZE, SUPER_SNAPSHOT_ROOT, SUPER_SNAPSHOT_SIZE, INODE_SIZE, INODE_WORDS, ROOT_FIELD, SIZE_FIELD, BLOCK_INODES, ROOT_INO, FIRST_INODE, FILE_KIND, DIRECTORY_KIND, ENTRY_SIZE, ENTRY_WORDS, BLOCK_ENTRIES, MAX_HEIGHT, MAX_READ, MAX_PIECES, CALL_ROOM, MAX_LINE, MAX_TEXT, MAX_INPUT, LOG_EVENTS, MAX_MASK, MAX_TURNS}
 use Rattle.bp_limits.specs.declared.version.Version.{Version}
 use Rattle.bp_limits.specs.declared.version.Version.TheVariants.{One, Two}
 
@@ -77,8 +77,8 @@ abbrev pub block_inodes : ℕ
 block_inodes = BLOCK_INODES
 
 -- The number of the root directory's inode.
-abbrev pub root_inumber : ℕ
-root_inumber = ROOT_INUMBER
+abbrev pub root_ino : ℕ
+root_ino = ROOT_INO
 
 -- The first word of the root directory's inode in a new image.
 abbrev pub first_inode : ℕ

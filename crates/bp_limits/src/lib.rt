@@ -66,7 +66,7 @@ pub const SIZE_FIELD: u64 = 2;
 pub const BLOCK_INODES: u32 = 64;
 
 /// The number of the root directory's inode.
-pub const ROOT_INUMBER: u32 = 1;
+pub const ROOT_INO: u32 = 1;
 
 /// The first word of the root directory's inode in a new image: after inode 0 in block 1, which then is all of the
 /// inode file.

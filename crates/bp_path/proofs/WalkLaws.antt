@@ -2,7 +2,7 @@
 use Rattle.std.proofs.Common.{◌≡◌, ◌≢◌, ℕ, zero, suc, ◌*◌, ◌/◌, ◌<◌, ◌≤◌, ◌^◌, [], ◌∷◌, ◌++◌, Bool, true, false, ◌==◌, Option, None, Some, option_and_then, bytes_eq, append-nil, refl, sym, ◌∙◌, ap, arith}
 use Rattle.bp_layout.specs.Words.{Image, block_count}
 use Rattle.bp_layout.specs.Inode.{kind_of, root_of, size_of, inode_count}
-use Rattle.bp_layout.specs.Directory.{entry_count, is_named, inumber_at, name_at, slot_named, lookup_in}
+use Rattle.bp_layout.specs.Directory.{entry_count, is_named, ino_at, name_at, slot_named, lookup_in}
 use Rattle.bp_layout.specs.Paths.{Name, Path}
 use Rattle.bp_layout.specs.Lookup.{lookup_from, lookup}
 use Rattle.bp_layout.specs.Reached.{IsReached}
@@ -32,7 +32,7 @@ walk-dir image i name names at = rw at refl
 pub walk-step : (image : Image) (i j : ℕ) (name : Name) (names : Path) → lookup_in image i name ≡ Some j → walk_from image i (name ∷ names) ≡ walk_from image j names
 walk-step image i j name names e = walk-dir image i name names (lookup_in-dir image i j name e) ∙ ap (λ o. stepped image i names o) e
 
-pub lookup_in-slot : (image : Image) (i j slot : ℕ) (name : Name) → kind_of image i ≡ 2 → slot_named image i name ≡ Some slot → inumber_at image i slot ≡ j → lookup_in image i name ≡ Some j
+pub lookup_in-slot : (image : Image) (i j slot : ℕ) (name : Name) → kind_of image i ≡ 2 → slot_named image i name ≡ Some slot → ino_at image i slot ≡ j → lookup_in image i name ≡ Some j
 lookup_in-slot image i j slot name kind at is = rw (kind, at) (ap Some is)
 
 -- a walk goes on from where its first names lead
@@ -69,7 +69,7 @@ walk_is_lookup image i j names = (walk-lookup image i j names, lookup-walk image
 pub there : (image : Image) (i : ℕ) → IsWellFormed image → IsReached image i → i < inode_count image
 there image _ wf inode_file = omega (arith, wf.some_inodes)
 there image _ wf root_directory = omega (arith, wf.some_inodes)
-there image _ wf (named {i = u} {j = k} slot from n) = wf.inumbers u slot k from n
+there image _ wf (named {i = u} {j = k} slot from n) = wf.inos u slot k from n
 
 pub low_number : (image : Image) (i : ℕ) → IsWellFormed image → i < inode_count image → i < 2 ^ 32
 low_number image i wf inside =
@@ -90,11 +90,11 @@ slot_there image i slot name found_at =
     let at : Finds (is_named image i name) 0 (entry_count image i) slot = find-passes _ 0 _ slot found_at in omega (arith, at.high)
 
 -- the inode that an entry with a name stands for is reached
-pub named_reached : (image : Image) (i j slot : ℕ) (name : Name) → IsReached image i → kind_of image i ≡ 2 → slot_named image i name ≡ Some slot → inumber_at image i slot ≡ j → IsReached image j
+pub named_reached : (image : Image) (i j slot : ℕ) (name : Name) → IsReached image i → kind_of image i ≡ 2 → slot_named image i name ≡ Some slot → ino_at image i slot ≡ j → IsReached image j
 named_reached image i j slot name reached kind at is = lookup_in-reached image i j name reached (lookup_in-slot image i j slot name kind at is)
 
-pub not_inode_file : (image : Image) (i j slot : ℕ) (name : Name) → slot_named image i name ≡ Some slot → inumber_at image i slot ≡ j → 1 ≤ j
+pub not_inode_file : (image : Image) (i j slot : ℕ) (name : Name) → slot_named image i name ≡ Some slot → ino_at image i slot ≡ j → 1 ≤ j
 not_inode_file image i j slot name found_at is =
     let at : Finds (is_named image i name) 0 (entry_count image i) slot = find-passes _ 0 _ slot found_at in
-    let parts : (inumber_at image i slot ≢ 0) × (bytes_eq (name_at image i slot) name ≡ true) = named_true _ _ at.passes in
+    let parts : (ino_at image i slot ≢ 0) × (bytes_eq (name_at image i slot) name ≡ true) = named_true _ _ at.passes in
     omega (arith, parts.0, is)

@@ -4,7 +4,7 @@ use Rattle.std.specs.List.{list_all}
 use Rattle.std.proofs.lemmas.List.{same_from_push}
 use Rattle.bp_layout.specs.Words.{Image}
 use Rattle.bp_layout.specs.Inode.{kind_of}
-use Rattle.bp_layout.specs.Directory.{inumber_at, slot_named, lookup_in}
+use Rattle.bp_layout.specs.Directory.{ino_at, slot_named, lookup_in}
 use Rattle.bp_layout.specs.Paths.{Name, Path, is_name}
 use Rattle.bp_layout.specs.Lookup.{lookup}
 use Rattle.bp_layout.specs.Reached.{IsReached}
@@ -20,10 +20,10 @@ use Rattle.bp_path.proofs.PartsLaws.{no_text}
 pub record HasCome (image : Image) (text rest : List ℕ) (entry : FoundEntry) : Type 0 where
   pub before : Path
   pub splits : path_parts text ≡ before ++ path_parts rest
-  pub leads : lookup image before ≡ Some entry.inumber
+  pub leads : lookup image before ≡ Some entry.ino
   pub is_entry : IsEntryOf image before entry
   pub right : list_all is_name (path_parts rest) ≡ true
-  pub some : 1 ≤ entry.inumber
+  pub some : 1 ≤ entry.ino
 
 snoc-some : (before : Path) (name : Name) → before ++ name ∷ [] ≢ []
 snoc-some [] name e = absurd (cc)
@@ -32,7 +32,7 @@ snoc-some (first ∷ before) name e = absurd (cc)
 some-snoc : (before : Path) (name : Name) → [] ≢ before ++ name ∷ []
 some-snoc before name e = snoc-some before name (sym e)
 
-pub start : (image : Image) (text : List ℕ) → list_all is_name (path_parts text) ≡ true → HasCome image text text (record { inumber = 1; dir = 0; slot = 0 })
+pub start : (image : Image) (text : List ℕ) → list_all is_name (path_parts text) ≡ true → HasCome image text text (record { ino = 1; dir = 0; slot = 0 })
 start image text right = record {
   before = [];
   splits = refl;
@@ -45,13 +45,13 @@ start image text right = record {
 -- one name further
 pub come_on : (image : Image) (text rest following : List ℕ) (name : Name) (entry next : FoundEntry) → HasCome image text rest entry →
     path_parts rest ≡ name ∷ path_parts following → list_all is_name (path_parts following) ≡ true →
-    kind_of image entry.inumber ≡ 2 → next.dir ≡ entry.inumber → slot_named image entry.inumber name ≡ Some next.slot →
-    inumber_at image entry.inumber next.slot ≡ next.inumber → 1 ≤ next.inumber → HasCome image text following next
+    kind_of image entry.ino ≡ 2 → next.dir ≡ entry.ino → slot_named image entry.ino name ≡ Some next.slot →
+    ino_at image entry.ino next.slot ≡ next.ino → 1 ≤ next.ino → HasCome image text following next
 come_on image text rest following name entry next here split right kind dir slot is some = record {
   before = here.before ++ name ∷ [];
   splits = here.splits ∙ ap (λ ps. here.before ++ ps) split ∙ sym (append_assoc here.before (name ∷ []) (path_parts following));
   leads =
-      lookup_from-append image 1 here.before name ∙ ap (option_and_then (λ k. lookup_in image k name)) here.leads ∙ lookup_in-slot image entry.inumber next.inumber next.slot name kind slot is;
+      lookup_from-append image 1 here.before name ∙ ap (option_and_then (λ k. lookup_in image k name)) here.leads ∙ lookup_in-slot image entry.ino next.ino next.slot name kind slot is;
   is_entry = record {
     top = λ none. absurd (snoc-some here.before name none);
     below = λ parent last same.
@@ -64,20 +64,20 @@ come_on image text rest following name entry next here split right kind dir slot
 
 -- the walk fails at the name where it has come to
 pub fails : (image : Image) (text rest following : List ℕ) (name : Name) (entry : FoundEntry) → HasCome image text rest entry →
-    path_parts rest ≡ name ∷ path_parts following → walk_from image 1 (path_parts text) ≡ walk_from image entry.inumber (name ∷ path_parts following)
+    path_parts rest ≡ name ∷ path_parts following → walk_from image 1 (path_parts text) ≡ walk_from image entry.ino (name ∷ path_parts following)
 fails image text rest following name entry here split =
-    ap (walk_from image 1) (here.splits ∙ ap (λ ps. here.before ++ ps) split) ∙ walk_on image 1 entry.inumber here.before (name ∷ path_parts following) here.leads
+    ap (walk_from image 1) (here.splits ∙ ap (λ ps. here.before ++ ps) split) ∙ walk_on image 1 entry.ino here.before (name ∷ path_parts following) here.leads
 
 -- all names are gone through
 pub all_before : (image : Image) (text rest : List ℕ) (entry : FoundEntry) → (here : HasCome image text rest entry) → length rest ≡ 0 → path_parts text ≡ here.before
 all_before image text rest entry here none = here.splits ∙ ap (λ ps. here.before ++ ps) (no_text rest none) ∙ append-nil here.before
 
-pub walked : (image : Image) (text rest : List ℕ) (entry : FoundEntry) → HasCome image text rest entry → length rest ≡ 0 → found entry.inumber ≡ walk_from image 1 (path_parts text)
+pub walked : (image : Image) (text rest : List ℕ) (entry : FoundEntry) → HasCome image text rest entry → length rest ≡ 0 → found entry.ino ≡ walk_from image 1 (path_parts text)
 walked image text rest entry here none =
-    sym (ap (walk_from image 1) (here.splits ∙ ap (λ ps. here.before ++ ps) (no_text rest none)) ∙ walk_on image 1 entry.inumber here.before [] here.leads)
+    sym (ap (walk_from image 1) (here.splits ∙ ap (λ ps. here.before ++ ps) (no_text rest none)) ∙ walk_on image 1 entry.ino here.before [] here.leads)
 
 pub enters : (image : Image) (text rest : List ℕ) (entry : FoundEntry) → (here : HasCome image text rest entry) → length rest ≡ 0 → IsEntryOf image (path_parts text) entry
 enters image text rest entry here none = let same = all_before image text rest entry here none in rw same here.is_entry
 
-pub reaches : (image : Image) (text rest : List ℕ) (entry : FoundEntry) → HasCome image text rest entry → IsReached image entry.inumber
-reaches image text rest entry here = lookup-reached image entry.inumber here.before here.leads
+pub reaches : (image : Image) (text rest : List ℕ) (entry : FoundEntry) → HasCome image text rest entry → IsReached image entry.ino
+reaches image text rest entry here = lookup-reached image entry.ino here.before here.leads

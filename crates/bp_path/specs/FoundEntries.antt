@@ -4,7 +4,7 @@ use Rattle.bp_layout.specs.Words.{Image}
 use Rattle.bp_layout.specs.Directory.{slot_named}
 use Rattle.bp_layout.specs.Paths.{Name, Path}
 use Rattle.bp_layout.specs.Lookup.{lookup}
-use Rattle.bp_limits.specs.Limits.{root_inumber}
+use Rattle.bp_limits.specs.Limits.{root_ino}
 use Rattle.bp_path.specs.Walk.{Walked, in_directory, walk_from}
 use Rattle.bp_path.specs.Walk.Walked.{found, missing, in_file}
 use Rattle.bp_path.specs.declared.steps.FoundEntry.{FoundEntry}
@@ -21,7 +21,7 @@ FailsAt image dir name fault = (rest : Path) → walk_from image dir (name ∷ r
 
 -- The inode at which a walk ended, or its fault. `dir_of`: the same for a walk to a parent directory.
 abbrev pub walked_of : Result FoundEntry WalkFault → Walked
-walked_of (Ok entry) = found entry.inumber
+walked_of (Ok entry) = found entry.ino
 walked_of (Err fault) = fault_of fault
 
 abbrev pub dir_of : Result ℕ WalkFault → Walked
@@ -37,7 +37,7 @@ pub record IsEntryOf (image : Image) (path : Path) (entry : FoundEntry) : Type 0
 -- A walk to the parent directory ends where a walk along all names except the last does, if that is a directory.
 abbrev pub WalksToParent : Image → Path → Result ℕ WalkFault → Type 0
 WalksToParent image path result = (parent : Path) (name : Name) → path ≡ parent ++ name ∷ [] →
-    dir_of result ≡ in_directory image (walk_from image root_inumber parent)
+    dir_of result ≡ in_directory image (walk_from image root_ino parent)
 
 -- A walk to the parent directory finds the directory to which all names except the last lead.
 abbrev pub FindsParent : Image → Path → Result ℕ WalkFault → Type 0

@@ -3,9 +3,9 @@
 ghost use Rattle.std.specs.Prelude.{◌≡◌, ◌≢◌, ◌≤◌, [], true, length, Some, IfOk, IfErr};
 ghost use Rattle.std.specs.List.{list_all};
 ghost use Rattle.bp_layout.specs.Inode.{IsDirectory};
-ghost use Rattle.bp_layout.specs.Directory.{inumber_at, slot_named};
+ghost use Rattle.bp_layout.specs.Directory.{ino_at, slot_named};
 ghost use Rattle.bp_layout.specs.Hints.{AreRight};
-ghost use Rattle.bp_limits.specs.Limits.{root_inumber};
+ghost use Rattle.bp_limits.specs.Limits.{root_ino};
 ghost use Rattle.bp_limits.specs.CallLimits.{max_name};
 ghost use Rattle.bp_layout.specs.Lookup.{lookup};
 ghost use Rattle.bp_layout.specs.Paths.{is_name};
@@ -19,7 +19,7 @@ ghost use Rattle.bp_path.specs.FoundEntries.{FailsAt, FindsParent, IsEntryOf, Wa
 use crate::names::{split_first, split_last};
 use crate::path::Path;
 use bp_layout::{Hints, Kind};
-use bp_limits::ROOT_INUMBER;
+use bp_limits::ROOT_INO;
 use bp_read::inodes::get;
 use bp_read::{Finder, Hinted, Scan, Tree};
 use pm_region::Region;
@@ -28,7 +28,7 @@ use pm_region::Region;
 #[derive(Clone, Copy, Debug, PartialEq, Eq)]
 pub struct FoundEntry {
     /// The number of the inode.
-    pub inumber: u32,
+    pub ino: u32,
     /// The number of the directory's inode; 0 for `/`.
     pub dir: u32,
     /// The entry's slot in the directory; 0 for `/`.
@@ -65,8 +65,8 @@ fn step<R: Region, F: Finder>(
     ensures dir { IfOk result (λ entry. entry.dir ≡ dir) }
     ensures slot { let words = words_in R.memory region.now in
         IfOk result (λ entry. slot_named words dir name.now ≡ Some entry.slot) }
-    ensures inumber { let words = words_in R.memory region.now in
-        IfOk result (λ entry. inumber_at words dir entry.slot ≡ entry.inumber) }
+    ensures ino { let words = words_in R.memory region.now in
+        IfOk result (λ entry. ino_at words dir entry.slot ≡ entry.ino) }
     ensures fault { IfErr result (FailsAt (words_in R.memory region.now) dir name.now) }
     ensures right { F.right finder.new (words_in R.memory region.now) }
     ensures references { F.same_references finder.old finder.new }
@@ -78,7 +78,7 @@ fn step<R: Region, F: Finder>(
         Kind::Dir => match finder.find(region, dir, tree, name) {
             None => Err(WalkFault::NotFound),
             Some(found) => Ok(FoundEntry {
-                inumber: found.inumber as u32,
+                ino: found.ino as u32,
                 dir,
                 slot: found.slot,
             }),
@@ -96,24 +96,24 @@ fn walk_names<R: Region, F: Finder>(
     requires names { list_all is_name (path_parts text.now) ≡ true }
     requires right { F.right finder.old (words_in R.memory region.now) }
     ensures walked { let words = words_in R.memory region.now in
-        walked_of result ≡ walk_from words root_inumber (path_parts text.now) }
+        walked_of result ≡ walk_from words root_ino (path_parts text.now) }
     ensures lookup { let words = words_in R.memory region.now in
-        IfOk result (λ entry. lookup words (path_parts text.now) ≡ Some entry.inumber) }
+        IfOk result (λ entry. lookup words (path_parts text.now) ≡ Some entry.ino) }
     ensures entry { IfOk result (λ entry. IsEntryOf (words_in R.memory region.now) (path_parts text.now) entry) }
-    ensures reached { IfOk result (λ entry. IsReached (words_in R.memory region.now) entry.inumber) }
-    ensures some { IfOk result (λ entry. 1 ≤ entry.inumber) }
+    ensures reached { IfOk result (λ entry. IsReached (words_in R.memory region.now) entry.ino) }
+    ensures some { IfOk result (λ entry. 1 ≤ entry.ino) }
     ensures right { F.right finder.new (words_in R.memory region.now) }
     ensures references { F.same_references finder.old finder.new }
 {
     let mut entry = FoundEntry {
-        inumber: ROOT_INUMBER,
+        ino: ROOT_INO,
         dir: 0,
         slot: 0,
     };
     let mut rest = text;
     while !rest.is_empty() {
         let (name, following) = split_first(rest);
-        entry = step(region, entry.inumber, name, finder)?;
+        entry = step(region, entry.ino, name, finder)?;
         rest = following;
     }
     Ok(entry)
@@ -129,12 +129,12 @@ fn walk_names<R: Region, F: Finder>(
 /// - `NotFound`: the directory does not have it.
 pub fn walk<R: Region>(region: &R, path: &Path<'_>) -> Result<FoundEntry, WalkFault>
     requires { IsWellFormed (words_in R.memory region.now) }
-    ensures walked { walked_of result ≡ walk_from (words_in R.memory region.now) root_inumber path.now }
+    ensures walked { walked_of result ≡ walk_from (words_in R.memory region.now) root_ino path.now }
     ensures lookup { let words = words_in R.memory region.now in
-        IfOk result (λ entry. lookup words path.now ≡ Some entry.inumber) }
+        IfOk result (λ entry. lookup words path.now ≡ Some entry.ino) }
     ensures entry { IfOk result (λ entry. IsEntryOf (words_in R.memory region.now) path.now entry) }
-    ensures reached { IfOk result (λ entry. IsReached (words_in R.memory region.now) entry.inumber) }
-    ensures some { IfOk result (λ entry. 1 ≤ entry.inumber) }
+    ensures reached { IfOk result (λ entry. IsReached (words_in R.memory region.now) entry.ino) }
+    ensures some { IfOk result (λ entry. 1 ≤ entry.ino) }
 {
     walk_by(region, path, &mut Scan)
 }
@@ -151,12 +151,12 @@ pub fn walk_by<R: Region, F: Finder>(
 ) -> Result<FoundEntry, WalkFault>
     requires well { IsWellFormed (words_in R.memory region.now) }
     requires right { F.right finder.old (words_in R.memory region.now) }
-    ensures walked { walked_of result ≡ walk_from (words_in R.memory region.now) root_inumber path.now }
+    ensures walked { walked_of result ≡ walk_from (words_in R.memory region.now) root_ino path.now }
     ensures lookup { let words = words_in R.memory region.now in
-        IfOk result (λ entry. lookup words path.now ≡ Some entry.inumber) }
+        IfOk result (λ entry. lookup words path.now ≡ Some entry.ino) }
     ensures entry { IfOk result (λ entry. IsEntryOf (words_in R.memory region.now) path.now entry) }
-    ensures reached { IfOk result (λ entry. IsReached (words_in R.memory region.now) entry.inumber) }
-    ensures some { IfOk result (λ entry. 1 ≤ entry.inumber) }
+    ensures reached { IfOk result (λ entry. IsReached (words_in R.memory region.now) entry.ino) }
+    ensures some { IfOk result (λ entry. 1 ≤ entry.ino) }
     ensures right { F.right finder.new (words_in R.memory region.now) }
     ensures references { F.same_references finder.old finder.new }
 {
@@ -176,12 +176,12 @@ pub fn walk_with<R: Region, H: Hints>(
 ) -> Result<FoundEntry, WalkFault>
     requires well { IsWellFormed (words_in R.memory region.now) }
     requires right { AreRight (words_in R.memory region.now) (H.known hints.old) }
-    ensures walked { walked_of result ≡ walk_from (words_in R.memory region.now) root_inumber path.now }
+    ensures walked { walked_of result ≡ walk_from (words_in R.memory region.now) root_ino path.now }
     ensures lookup { let words = words_in R.memory region.now in
-        IfOk result (λ entry. lookup words path.now ≡ Some entry.inumber) }
+        IfOk result (λ entry. lookup words path.now ≡ Some entry.ino) }
     ensures entry { IfOk result (λ entry. IsEntryOf (words_in R.memory region.now) path.now entry) }
-    ensures reached { IfOk result (λ entry. IsReached (words_in R.memory region.now) entry.inumber) }
-    ensures some { IfOk result (λ entry. 1 ≤ entry.inumber) }
+    ensures reached { IfOk result (λ entry. IsReached (words_in R.memory region.now) entry.ino) }
+    ensures some { IfOk result (λ entry. 1 ≤ entry.ino) }
     ensures right { AreRight (words_in R.memory region.now) (H.known hints.new) }
 {
     let mut finder = Hinted { hints };
@@ -228,7 +228,7 @@ pub fn walk_parent_by<R: Region, F: Finder>(
     ensures references { F.same_references finder.old finder.new }
 {
     let (parent, _) = split_last(path.text());
-    let dir = walk_names(region, parent, finder)?.inumber;
+    let dir = walk_names(region, parent, finder)?.ino;
     match get(region, dir).kind {
         Kind::File => Err(WalkFault::NotDir),
         Kind::Dir => Ok(dir),

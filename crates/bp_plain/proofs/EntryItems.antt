@@ -11,7 +11,7 @@ use Rattle.std.specs.List.{AllByRecursion, IsDistinct, cons_option, range_with_l
 use Rattle.std.specs.Ordering.{eq_by_cmp}
 use Rattle.std.proofs.lemmas.Bool.{eqb-false, false_from_ne_true}
 use Rattle.std.proofs.lemmas.Map.Text.{is_eq-slice_cmp}
-use Rattle.bp_layout.specs.Directory.{EntryNames, entry_count, inumber_at, is_named, lookup_in, name_at, slot_named}
+use Rattle.bp_layout.specs.Directory.{EntryNames, entry_count, ino_at, is_named, lookup_in, name_at, slot_named}
 use Rattle.bp_layout.specs.Paths.{Name, Path}
 use Rattle.bp_layout.specs.Inode.{kind_of}
 use Rattle.bp_layout.specs.Lookup.{lookup, node_of}
@@ -29,32 +29,32 @@ tied-names : (name other : Name) → eq_by_cmp by_bytes name other ≡ bytes_eq 
 tied-names name other = (eq_by_cmp_equiv nat_list_cmp_total).symm name other ∙ is_eq-slice_cmp other name
 
 module _ (image : Image) (wf : IsWellFormed image) (i : ℕ) (reached : IsReached image i) (kind : kind_of image i ≡ 2) {A Item : Type 0} (of : ℕ → A)
-    (keyed : Item → Name × A) (item : ℕ → Item) (is : (slot : ℕ) → keyed (item slot) ≡ (name_at image i slot, of (inumber_at image i slot))) where
+    (keyed : Item → Name × A) (item : ℕ → Item) (is : (slot : ℕ) → keyed (item slot) ≡ (name_at image i slot, of (ino_at image i slot))) where
   -- an item for each of some slots whose entry names an inode
   abbrev items_at : List ℕ → List Item
-  items_at slots = filter_map (λ slot. if inumber_at image i slot == 0 then None else Some (item slot)) slots
+  items_at slots = filter_map (λ slot. if ino_at image i slot == 0 then None else Some (item slot)) slots
 
   abbrev items_from : ℕ → ℕ → List (Name × A)
   items_from first count = map keyed (items_at (range_with_len first count))
 
-  entry_at : (slot : ℕ) → slot < entry_count image i → inumber_at image i slot ≢ 0 → EntryNames image i slot (inumber_at image i slot)
-  entry_at slot low not_empty = record { directory = kind; in_size = low; inumber = refl; not_empty = not_empty }
+  entry_at : (slot : ℕ) → slot < entry_count image i → ino_at image i slot ≢ 0 → EntryNames image i slot (ino_at image i slot)
+  entry_at slot low not_empty = record { directory = kind; in_size = low; ino = refl; not_empty = not_empty }
 
   -- no later entry has the name of an earlier one
-  apart : (slot later : ℕ) → slot < later → later < entry_count image i → inumber_at image i slot ≢ 0 → inumber_at image i later ≢ 0 →
+  apart : (slot later : ℕ) → slot < later → later < entry_count image i → ino_at image i slot ≢ 0 → ino_at image i later ≢ 0 →
       eq_by_cmp by_bytes (keyed (item slot)).0 (keyed (item later)).0 ≡ false
   apart slot later low high here there = false_from_ne_true _ (λ tied.
       let same : name_at image i slot ≡ name_at image i later = ap (λ (e : Name × A). e.0) (sym (is slot)) ∙ same_name _ _ tied ∙ ap (λ (e : Name × A). e.0) (is later) in
       let once : slot ≡ later = wf.names_once i slot later _ _ reached (entry_at slot (omega arith) here) (entry_at later high there) same in
       omega (arith, once))
 
-  others : (slot first count : ℕ) → slot < first → first + count ≤ entry_count image i → inumber_at image i slot ≢ 0 →
+  others : (slot first count : ℕ) → slot < first → first + count ≤ entry_count image i → ino_at image i slot ≢ 0 →
       AllByRecursion (λ name. eq_by_cmp by_bytes (keyed (item slot)).0 name ≡ false) (map (λ e. e.0) (items_from first count))
   others slot first zero low high not_empty = tt
-  others slot first (suc count) low high not_empty = go (others slot (first + 1) count (omega arith) (omega (arith, high)) not_empty) (inumber_at image i first == 0) refl
+  others slot first (suc count) low high not_empty = go (others slot (first + 1) count (omega arith) (omega (arith, high)) not_empty) (ino_at image i first == 0) refl
     where
       go : AllByRecursion (λ name. eq_by_cmp by_bytes (keyed (item slot)).0 name ≡ false) (map (λ e. e.0) (items_from (first + 1) count)) →
-          (b : Bool) → (inumber_at image i first == 0) ≡ b → AllByRecursion (λ name. eq_by_cmp by_bytes (keyed (item slot)).0 name ≡ false) (map (λ e. e.0) (items_from first (suc count)))
+          (b : Bool) → (ino_at image i first == 0) ≡ b → AllByRecursion (λ name. eq_by_cmp by_bytes (keyed (item slot)).0 name ≡ false) (map (λ e. e.0) (items_from first (suc count)))
       go rest true at = rw at rest
       go rest false at = rw at (apart slot first low (omega (arith, high)) not_empty (eqb-false _ _ at), rest)
 
@@ -62,9 +62,9 @@ module _ (image : Image) (wf : IsWellFormed image) (i : ℕ) (reached : IsReache
   differ : (first count : ℕ) → first + count ≤ entry_count image i → NamesDiffer (items_from first count)
   unfolding IsDistinct
   differ first zero high = tt
-  differ first (suc count) high = go (differ (first + 1) count (omega (arith, high))) (inumber_at image i first == 0) refl
+  differ first (suc count) high = go (differ (first + 1) count (omega (arith, high))) (ino_at image i first == 0) refl
     where
-      go : NamesDiffer (items_from (first + 1) count) → (b : Bool) → (inumber_at image i first == 0) ≡ b → NamesDiffer (items_from first (suc count))
+      go : NamesDiffer (items_from (first + 1) count) → (b : Bool) → (ino_at image i first == 0) ≡ b → NamesDiffer (items_from first (suc count))
       go rest true at = rw at rest
       go rest false at = rw at (others first (first + 1) count (omega arith) (omega (arith, high)) (eqb-false _ _ at), rest)
 
@@ -72,22 +72,22 @@ module _ (image : Image) (wf : IsWellFormed image) (i : ℕ) (reached : IsReache
   items-differ = differ 0 (entry_count image i) (omega arith)
 
   -- a name finds its first slot
-  find-at : (name : Name) (slots : List ℕ) → find by_bytes name (map keyed (items_at slots)) ≡ option_map (λ slot. of (inumber_at image i slot)) (find_first (is_named image i name) slots)
+  find-at : (name : Name) (slots : List ℕ) → find by_bytes name (map keyed (items_at slots)) ≡ option_map (λ slot. of (ino_at image i slot)) (find_first (is_named image i name) slots)
   find-at name [] = refl
-  find-at name (slot ∷ slots) = go (inumber_at image i slot == 0) (items_at slots) (find_first (is_named image i name) slots) (find-at name slots)
+  find-at name (slot ∷ slots) = go (ino_at image i slot == 0) (items_at slots) (find_first (is_named image i name) slots) (find-at name slots)
     where
-      pushed : (b : Bool) (o : Option ℕ) → cond b (Some (of (inumber_at image i slot))) (option_map (λ s. of (inumber_at image i s)) o)
-          ≡ option_map (λ s. of (inumber_at image i s)) (cond b (Some slot) o)
+      pushed : (b : Bool) (o : Option ℕ) → cond b (Some (of (ino_at image i slot))) (option_map (λ s. of (ino_at image i s)) o)
+          ≡ option_map (λ s. of (ino_at image i s)) (cond b (Some slot) o)
       pushed true o = refl
       pushed false o = refl
 
-      go : (empty : Bool) (items : List Item) (o : Option ℕ) → find by_bytes name (map keyed items) ≡ option_map (λ s. of (inumber_at image i s)) o →
+      go : (empty : Bool) (items : List Item) (o : Option ℕ) → find by_bytes name (map keyed items) ≡ option_map (λ s. of (ino_at image i s)) o →
           find by_bytes name (map keyed (cons_option (if empty then None else Some (item slot)) items))
-          ≡ option_map (λ s. of (inumber_at image i s)) (cond (not empty && bytes_eq (name_at image i slot) name) (Some slot) o)
+          ≡ option_map (λ s. of (ino_at image i s)) (cond (not empty && bytes_eq (name_at image i slot) name) (Some slot) o)
       go true items o rest = rest
       go false items o rest =
           ap₂ (λ (e : Name × A) r. cond (eq_by_cmp by_bytes name e.0) (Some e.1) r) (is slot) rest
-          ∙ ap (λ b. cond b (Some (of (inumber_at image i slot))) (option_map (λ s. of (inumber_at image i s)) o)) (tied-names name (name_at image i slot))
+          ∙ ap (λ b. cond b (Some (of (ino_at image i slot))) (option_map (λ s. of (ino_at image i s)) o)) (tied-names name (name_at image i slot))
           ∙ pushed (bytes_eq (name_at image i slot) name) o
 
   -- so it finds what is stated of its inode
@@ -95,9 +95,9 @@ module _ (image : Image) (wf : IsWellFormed image) (i : ℕ) (reached : IsReache
   find-items name =
       find-at name (range_with_len 0 (entry_count image i))
       ∙ go (slot_named image i name)
-      ∙ ap (λ k. option_map of (if k == 2 then option_map (inumber_at image i) (slot_named image i name) else None)) (sym kind)
+      ∙ ap (λ k. option_map of (if k == 2 then option_map (ino_at image i) (slot_named image i name) else None)) (sym kind)
     where
-      go : (o : Option ℕ) → option_map (λ slot. of (inumber_at image i slot)) o ≡ option_map of (option_map (inumber_at image i) o)
+      go : (o : Option ℕ) → option_map (λ slot. of (ino_at image i slot)) o ≡ option_map of (option_map (ino_at image i) o)
       go None = refl
       go (Some slot) = refl
 

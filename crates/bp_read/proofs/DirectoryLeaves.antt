@@ -160,7 +160,7 @@ pub found_is_first : (p : ℕ → Bool) (number n : ℕ) (found : Option Found) 
 found_is_first p number n (Some found) some is = is.some
 found_is_first p number n None some is = absurd (true≢false (sym some))
 
-pub inumber_kept : (f : ℕ → ℕ) (before now : Option Found) → IfSome before (λ found. found.inumber ≡ f found.slot) → IfSome before (λ found. now ≡ before) →
-    IfNone before (IfSome now (λ found. found.inumber ≡ f found.slot)) → IfSome now (λ found. found.inumber ≡ f found.slot)
-inumber_kept f (Some found) now was same here = let P : Option Found → Type 0 = λ o. IfSome o (λ it. it.inumber ≡ f it.slot) in subst P (sym same) was
-inumber_kept f None now was same here = here
+pub ino_kept : (f : ℕ → ℕ) (before now : Option Found) → IfSome before (λ found. found.ino ≡ f found.slot) → IfSome before (λ found. now ≡ before) →
+    IfNone before (IfSome now (λ found. found.ino ≡ f found.slot)) → IfSome now (λ found. found.ino ≡ f found.slot)
+ino_kept f (Some found) now was same here = let P : Option Found → Type 0 = λ o. IfSome o (λ it. it.ino ≡ f it.slot) in subst P (sym same) was
+ino_kept f None now was same here = here

@@ -2,7 +2,7 @@
 use Rattle.std.specs.Prelude.{ℕ, not, ◌==◌, List, Option, length, filter, find}
 use Rattle.std.specs.List.{range_with_len}
 use Rattle.bp_layout.specs.Words.{Image}
-use Rattle.bp_layout.specs.Directory.{inumber_in, is_named_in}
+use Rattle.bp_layout.specs.Directory.{ino_in, is_named_in}
 use Rattle.bp_layout.specs.Paths.{Name}
 use Rattle.bp_read.specs.declared.leaf.Leaf.{Leaf}
 
@@ -16,8 +16,8 @@ named_in_leaf image leaf name = find (is_named_in image leaf.tree.root name) (le
 
 -- the first empty slot
 abbrev pub empty_in_leaf : Image → Leaf → Option ℕ
-empty_in_leaf image leaf = find (λ slot. inumber_in image leaf.tree.root slot == 0) (leaf_slots leaf)
+empty_in_leaf image leaf = find (λ slot. ino_in image leaf.tree.root slot == 0) (leaf_slots leaf)
 
 -- the number of entries that name an inode
 abbrev pub names_in_leaf : Image → Leaf → ℕ
-names_in_leaf image leaf = length (filter (λ slot. not (inumber_in image leaf.tree.root slot == 0)) (leaf_slots leaf))
+names_in_leaf image leaf = length (filter (λ slot. not (ino_in image leaf.tree.root slot == 0)) (leaf_slots leaf))

@@ -3,7 +3,7 @@
 ghost use Rattle.std.specs.Prelude.{◌≡◌, ◌≢◌, ◌+◌, ◌*◌, ◌/◌, ◌<◌, ◌≤◌, ◌↔◌, ℕ, length, IsTrue, IfNone, IfSome};
 ghost use Rattle.bp_layout.specs.Words.{height_of};
 ghost use Rattle.bp_layout.specs.Tree.{node, IsSound, IsFull};
-ghost use Rattle.bp_layout.specs.Directory.{inumber_in, word_in, empty_slot_in, slot_named_in};
+ghost use Rattle.bp_layout.specs.Directory.{ino_in, word_in, empty_slot_in, slot_named_in};
 ghost use Rattle.bp_limits.specs.Limits.{block_words, entry_size, entry_words};
 ghost use Rattle.bp_limits.specs.CallLimits.{max_name};
 ghost use Rattle.pm_region.specs.Memory.{words_in};
@@ -15,17 +15,17 @@ ghost use Rattle.bp_read.specs.Spots.{FreeIs, found_slot, named_slot};
 use crate::leaf::{leaf_count, leaf_from};
 use crate::spot::{Both, Found, Spot};
 use crate::tree::{Tree, content_place, content_word};
-use bp_layout::{EntryView, INUMBER_WORD, last_word};
+use bp_layout::{EntryView, INO_WORD, last_word};
 use bp_limits::{BLOCK_ENTRIES, ENTRY_WORDS};
 use pm_region::Region;
 
 /// Returns the number of the inode that the entry in a slot names, 0 if the entry is empty.
-pub fn inumber<R: Region>(region: &R, tree: Tree, slot: u64) -> u64
+pub fn entry_ino<R: Region>(region: &R, tree: Tree, slot: u64) -> u64
     requires sound { IsSound (words_in R.memory region.now) tree.root tree.size }
     requires live { slot < tree.size / entry_size }
-    ensures { result ≡ inumber_in (words_in R.memory region.now) tree.root slot }
+    ensures { result ≡ ino_in (words_in R.memory region.now) tree.root slot }
 {
-    content_word(region, tree, ENTRY_WORDS * slot + INUMBER_WORD)
+    content_word(region, tree, ENTRY_WORDS * slot + INO_WORD)
 }
 
 /// Returns the entry in a slot, or `None` if it is empty because its block is null.
@@ -57,8 +57,8 @@ pub fn find_entry<R: Region>(region: &R, tree: Tree, name: &[u8]) -> Option<Foun
     requires sound { IsSound (words_in R.memory region.now) tree.root tree.size }
     requires short { length name.now ≤ max_name }
     ensures slot { found_slot result ≡ slot_named_in (words_in R.memory region.now) tree.root tree.size name.now }
-    ensures inumber { IfSome result
-        (λ found. found.inumber ≡ inumber_in (words_in R.memory region.now) tree.root found.slot) }
+    ensures ino { IfSome result
+        (λ found. found.ino ≡ ino_in (words_in R.memory region.now) tree.root found.slot) }
 {
     let last = last_word(name);
     for number in 0..leaf_count(tree) {
@@ -121,8 +121,8 @@ pub fn find_both<R: Region>(region: &R, tree: Tree, one: &[u8], other: &[u8]) ->
     requires one { length one.now ≤ max_name }
     requires other { length other.now ≤ max_name }
     ensures slot { found_slot result.found ≡ slot_named_in (words_in R.memory region.now) tree.root tree.size one.now }
-    ensures inumber { IfSome result.found
-        (λ found. found.inumber ≡ inumber_in (words_in R.memory region.now) tree.root found.slot) }
+    ensures ino { IfSome result.found
+        (λ found. found.ino ≡ ino_in (words_in R.memory region.now) tree.root found.slot) }
     ensures named { named_slot result.spot ≡
         slot_named_in (words_in R.memory region.now) tree.root tree.size other.now }
     ensures free { FreeIs result.spot (empty_slot_in (words_in R.memory region.now) tree.root tree.size) }

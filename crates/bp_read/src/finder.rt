@@ -2,7 +2,7 @@
 
 ghost use Rattle.std.specs.Prelude.{◌≡◌, ◌≤◌, length, IfSome, refl, ⊤};
 ghost use Rattle.std.proofs.Common.{◌∙◌};
-ghost use Rattle.bp_layout.specs.Directory.{inumber_at, slot_named};
+ghost use Rattle.bp_layout.specs.Directory.{ino_at, slot_named};
 ghost use Rattle.bp_layout.specs.Hints.{AreRight};
 ghost use Rattle.bp_layout.specs.Inode.{IsDirectory, root_of, size_of};
 ghost use Rattle.bp_layout.specs.Reached.{IsReached};
@@ -12,7 +12,7 @@ ghost use Rattle.bp_limits.specs.CallLimits.{max_name};
 ghost use Rattle.pm_region.specs.Memory.{words_in};
 ghost use Rattle.bp_read.specs.Spots.{found_slot};
 
-use crate::directory::{find_entry, inumber};
+use crate::directory::{entry_ino, find_entry};
 use crate::spot::Found;
 use crate::tree::Tree;
 use bp_layout::Hints;
@@ -36,8 +36,8 @@ pub trait Finder {
         requires short { length name.now ≤ max_name }
         requires right { right self.old (words_in R.memory region.now) }
         ensures slot { found_slot result ≡ slot_named (words_in R.memory region.now) dir name.now }
-        ensures inumber { IfSome result
-            (λ found. found.inumber ≡ inumber_at (words_in R.memory region.now) dir found.slot) }
+        ensures ino { IfSome result
+            (λ found. found.ino ≡ ino_at (words_in R.memory region.now) dir found.slot) }
         ensures right { right self.new (words_in R.memory region.now) }
         ensures references { same_references self.old self.new };
 
@@ -82,7 +82,7 @@ impl<'a, H: Hints> Finder for Hinted<'a, H> {
         if let Some(slot) = self.hints.hint(dir, name) {
             return Some(Found {
                 slot,
-                inumber: inumber(region, tree, slot),
+                ino: entry_ino(region, tree, slot),
             });
         }
         let found = find_entry(region, tree, name)?;

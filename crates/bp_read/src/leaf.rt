@@ -2,7 +2,7 @@
 
 ghost use Rattle.std.specs.Prelude.{◌≡◌, ◌≢◌, ℕ, ◌+◌, ◌-◌, ◌*◌, ◌/◌, ◌%◌, ◌<◌, ◌≤◌, min, length, Option, IfSome, IfNone};
 ghost use Rattle.bp_layout.specs.Tree.{IsSound};
-ghost use Rattle.bp_layout.specs.Directory.{inumber_in};
+ghost use Rattle.bp_layout.specs.Directory.{ino_in};
 ghost use Rattle.pm_region.specs.Memory.{words_in};
 ghost use Rattle.bp_layout.specs.EntryWords.{HasWords, IsRow, IsZeroEntry, last_part, part_word};
 ghost use Rattle.bp_read.specs.EntryWords.{IsLeaf};
@@ -92,8 +92,8 @@ impl Leaf {
         requires short { length name.now ≤ max_name }
         requires last { last ≡ part_word name.now (last_part name.now) }
         ensures slot { found_slot result ≡ named_in_leaf (words_in R.memory region.now) self.now name.now }
-        ensures inumber { IfSome result
-            (λ found. found.inumber ≡ inumber_in (words_in R.memory region.now) self.now.tree.root found.slot) }
+        ensures ino { IfSome result
+            (λ found. found.ino ≡ ino_in (words_in R.memory region.now) self.now.tree.root found.slot) }
     {
         if self.block == 0 {
             return None;
@@ -104,7 +104,7 @@ impl Leaf {
             if entry.is_named(name, last) {
                 return Some(Found {
                     slot: self.first + index,
-                    inumber: entry.inumber(),
+                    ino: entry.ino(),
                 });
             }
         }
@@ -126,8 +126,8 @@ impl Leaf {
         ensures some { IfSome before (λ found. result ≡ before) }
         ensures slot { IfNone before
             (found_slot result ≡ named_in_leaf (words_in R.memory region.now) self.now name.now) }
-        ensures inumber { IfNone before (IfSome result
-            (λ found. found.inumber ≡ inumber_in (words_in R.memory region.now) self.now.tree.root found.slot)) }
+        ensures ino { IfNone before (IfSome result
+            (λ found. found.ino ≡ ino_in (words_in R.memory region.now) self.now.tree.root found.slot)) }
     {
         match before {
             Some(_) => before,
@@ -145,7 +145,7 @@ impl Leaf {
         }
         let words = self.words(region);
         for index in 0..self.count {
-            if EntryView::in_row(words, index as usize).inumber() == 0 {
+            if EntryView::in_row(words, index as usize).ino() == 0 {
                 return Some(self.first + index);
             }
         }
@@ -176,7 +176,7 @@ impl Leaf {
         let words = self.words(region);
         let mut names = 0;
         for index in 0..self.count {
-            if EntryView::in_row(words, index as usize).inumber() != 0 {
+            if EntryView::in_row(words, index as usize).ino() != 0 {
                 names += 1;
             }
         }

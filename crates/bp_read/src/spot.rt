@@ -15,7 +15,7 @@ pub struct Found {
     /// Slot of the entry.
     pub slot: u64,
     /// Number of the inode that it names.
-    pub inumber: u64,
+    pub ino: u64,
 }
 
 /// Result of a scan of a directory for two names.

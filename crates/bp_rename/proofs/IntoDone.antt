@@ -20,7 +20,7 @@ use Rattle.bp_cow.specs.Cover.{LeadsInside, commit_cover, copied_count, copied_p
 use Rattle.bp_cow.specs.Touched.{IsTouched, NoneBegins, all_paths, path_of, word_paths}
 use Rattle.bp_cow.specs.declared.touched.Touched.{Touched}
 use Rattle.bp_rename.specs.CanRename.{CanRename, moved_inode}
-use Rattle.bp_rename.specs.TouchesTwo.{AnyTree, TouchesTwo, inumber_path}
+use Rattle.bp_rename.specs.TouchesTwo.{AnyTree, TouchesTwo, ino_path}
 use Rattle.bp_rename.specs.declared.moves.Move.{Move}
 use Rattle.bp_calls.proofs.Refusals.{found_empty}
 use Rattle.bp_cow.proofs.CopiesNeed.{has-word}
@@ -33,7 +33,7 @@ use Rattle.bp_rename.proofs.WholePaths.{cover-whole, pointed-directory}
 -- ---- what is touched, reported on the image before
 
 module _ (image : Image) (move : Move) (s : ℕ) (can : CanRename image move) (other : move.from_dir ≢ move.to_dir) (found : empty_slot image move.to_dir ≡ Some s)
-    (touched : Touched) (is : TouchesTwo image AnyTree touched (inumber_path image move.to_dir s) (inumber_path image move.from_dir move.from_slot) (moved_inode image move) 0) where
+    (touched : Touched) (is : TouchesTwo image AnyTree touched (ino_path image move.to_dir s) (ino_path image move.from_dir move.from_slot) (moved_inode image move) 0) where
   abbrev change : Change
   change = moves move.from_dir move.from_slot move.to_dir
 
@@ -68,7 +68,7 @@ module _ (image : Image) (move : Move) (s : ℕ) (can : CanRename image move) (o
   heights t =
       ap (λ (bs : List Beyond). fold (λ h (b : Beyond). if b.tree == t then height_with (root_of image t) (size_of image t) b.to else h) (height_of (root_of image t)) (bs ++ new_inodes image (moves move.from_dir move.from_slot move.to_dir))) nothing_beyond
 
-  touched_is : layout.touched image (moves move.from_dir move.from_slot move.to_dir) ≡ inumber_path image move.to_dir s ∷ inumber_path image move.from_dir move.from_slot ∷ []
+  touched_is : layout.touched image (moves move.from_dir move.from_slot move.to_dir) ≡ ino_path image move.to_dir s ∷ ino_path image move.from_dir move.from_slot ∷ []
   touched_is =
       ap (λ o. layout.entered image (moves move.from_dir move.from_slot move.to_dir) move.to_dir o ∷ layout.entry_path image (moves move.from_dir move.from_slot move.to_dir) move.from_dir move.from_slot 0 ∷ []) found
       ∙ ap (λ h. tree_path h move.to_dir (suc (height_after image (moves move.from_dir move.from_slot move.to_dir) move.to_dir)) (32 * s + 0)
@@ -78,19 +78,19 @@ module _ (image : Image) (move : Move) (s : ℕ) (can : CanRename image move) (o
   pub into_paths : all_paths touched ≡ layout.touched image (moves move.from_dir move.from_slot move.to_dir)
   into_paths = two_paths image touched move.to_dir (32 * s + 0) move.from_dir (32 * move.from_slot + 0) (moved_inode image move) 0 is ∙ sym touched_is
 
-  target_there : AllThere (is_there_after image (moves move.from_dir move.from_slot move.to_dir)) [] (inumber_path image move.to_dir s)
+  target_there : AllThere (is_there_after image (moves move.from_dir move.from_slot move.to_dir)) [] (ino_path image move.to_dir s)
   target_there =
       subst (AllThere (is_there_after image (moves move.from_dir move.from_slot move.to_dir)) []) path
       (content_path-there image (moves move.from_dir move.from_slot move.to_dir) can.well_formed (heights 0) move.to_dir (32 * s + 0) can.target (heights move.to_dir)
       (can.well_formed.full_directories move.to_dir can.target can.directory) low_target)
     where
-      path : content_path image (moves move.from_dir move.from_slot move.to_dir) move.to_dir (32 * s + 0) ≡ inumber_path image move.to_dir s
+      path : content_path image (moves move.from_dir move.from_slot move.to_dir) move.to_dir (32 * s + 0) ≡ ino_path image move.to_dir s
       path = ap₂ (λ h k. tree_path h move.to_dir (suc k) (32 * s + 0)) (heights 0) (heights move.to_dir)
 
   pub into_whole : cover image (moves move.from_dir move.from_slot move.to_dir) ≡ common_all (layout.touched image (moves move.from_dir move.from_slot move.to_dir))
   into_whole =
-      cover-whole (is_there_after image (moves move.from_dir move.from_slot move.to_dir)) (layout.touched image (moves move.from_dir move.from_slot move.to_dir)) (inumber_path image move.to_dir s)
-      (subst (λ (ps : List WordPath). Has ps (inumber_path image move.to_dir s)) (sym touched_is) (inl refl)) target_there
+      cover-whole (is_there_after image (moves move.from_dir move.from_slot move.to_dir)) (layout.touched image (moves move.from_dir move.from_slot move.to_dir)) (ino_path image move.to_dir s)
+      (subst (λ (ps : List WordPath). Has ps (ino_path image move.to_dir s)) (sym touched_is) (inl refl)) target_there
 
   -- in any image whose paths are as long, the commit copies as many blocks as are needed
   pub into_count : (mid : Image) → commit_cover mid touched ≡ cover image (moves move.from_dir move.from_slot move.to_dir) → copied_count mid touched ≡ need image (moves move.from_dir move.from_slot move.to_dir)
@@ -104,7 +104,7 @@ module _ (image : Image) (move : Move) (s : ℕ) (can : CanRename image move) (o
 
   pub into_cover : commit_cover image touched ≡ cover image (moves move.from_dir move.from_slot move.to_dir)
   into_cover =
-      cover-whole (is_pointed image) (all_paths touched) (inumber_path image move.to_dir s)
+      cover-whole (is_pointed image) (all_paths touched) (ino_path image move.to_dir s)
       (has_first image touched move.to_dir (32 * s + 0) move.from_dir (32 * move.from_slot + 0) (moved_inode image move) 0 is)
       (pointed-directory image can.well_formed move.to_dir (32 * s + 0) can.target can.directory low_target)
       ∙ ap common_all into_paths ∙ sym into_whole

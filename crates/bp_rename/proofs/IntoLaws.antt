@@ -14,7 +14,7 @@ use Rattle.bp_read.specs.Written.{HasNameAt}
 use Rattle.bp_read.specs.Within.{IsWithin}
 use Rattle.bp_changes.specs.Performs.{AddsTaking, IsOpen}
 use Rattle.bp_changes.specs.Performs.IsOpen.{in_live}
-use Rattle.bp_layout.specs.Directory.{EntryNames, empty_slot, entry_count, inumber_at, name_at}
+use Rattle.bp_layout.specs.Directory.{EntryNames, empty_slot, entry_count, ino_at, name_at}
 use Rattle.bp_layout.specs.Inode.{ContentStandsAt, kind_of, root_of, size_of}
 use Rattle.bp_layout.specs.Reached.{IsReached}
 use Rattle.bp_layout.specs.Reached.IsReached.{inode_file}
@@ -33,7 +33,7 @@ use Rattle.bp_calls.proofs.Refusals.{found_empty}
 use Rattle.bp_calls.proofs.Spares.{row_stands, spare_entry}
 use Rattle.bp_calls.proofs.Trees.{SameTrees, spare_trees, word_kept}
 use Rattle.bp_rename.specs.CanRename.{CanRename, moved_inode}
-use Rattle.bp_rename.specs.TouchesTwo.{AnyTree, TouchesTwo, inumber_path}
+use Rattle.bp_rename.specs.TouchesTwo.{AnyTree, TouchesTwo, ino_path}
 use Rattle.bp_rename.specs.declared.moves.Move.{Move}
 use Rattle.bp_rename.proofs.ListedTrees.{lists_stay}
 use Rattle.bp_rename.proofs.Outside.{below_before}
@@ -48,7 +48,7 @@ module _ (old third mid : Memory) (move : Move) (s entry : ℕ) (can : CanRename
   in_size : s < entry_count (current_words old) move.to_dir
   in_size = (found_empty (current_words old) move.to_dir s found).0
 
-  empty : inumber_at (current_words old) move.to_dir s ≡ 0
+  empty : ino_at (current_words old) move.to_dir s ≡ 0
   empty = (found_empty (current_words old) move.to_dir s found).1
 
   -- the words of the name are an empty entry's
@@ -133,8 +133,8 @@ module _ (old third mid : Memory) (move : Move) (s entry : ℕ) (can : CanRename
   mid_size : s < entry_count (current_words mid) move.to_dir
   mid_size = rw (sizes move.to_dir can.target) in_size
 
-  pub mid_empty : inumber_at (current_words mid) move.to_dir s ≡ 0
-  mid_empty = into_trees.prepared.meaning.inumber move.to_dir s can.target can.directory in_size ∙ empty
+  pub mid_empty : ino_at (current_words mid) move.to_dir s ≡ 0
+  mid_empty = into_trees.prepared.meaning.ino move.to_dir s can.target can.directory in_size ∙ empty
 
   pub mid_name : name_at (current_words mid) move.to_dir s ≡ move.name.now
   mid_name =
@@ -165,12 +165,12 @@ module _ (old third mid : Memory) (move : Move) (s entry : ℕ) (can : CanRename
 
   -- ---- the paths stay
 
-  same_path : (t slot : ℕ) → IsReached (current_words old) t → slot < entry_count (current_words old) t → inumber_path (current_words old) t slot ≡ inumber_path (current_words mid) t slot
+  same_path : (t slot : ℕ) → IsReached (current_words old) t → slot < entry_count (current_words old) t → ino_path (current_words old) t slot ≡ ino_path (current_words mid) t slot
   same_path t slot reached low =
       ap₂ (λ top root. tree_path (height_of top) t (suc (height_of root)) (32 * slot + 0)) (sym (into_trees.root 0 inode_file (omega (arith, can.well_formed.some_inodes)))) (sym (into_trees.root t reached (omega (arith, low))))
 
-  pub mid_touches : (touched : Touched) (one two : ℕ) → TouchesTwo (current_words old) AnyTree touched (inumber_path (current_words old) move.to_dir s) (inumber_path (current_words old) move.from_dir move.from_slot) one two →
-      TouchesTwo (current_words mid) AnyTree touched (inumber_path (current_words mid) move.to_dir s) (inumber_path (current_words mid) move.from_dir move.from_slot) one two
+  pub mid_touches : (touched : Touched) (one two : ℕ) → TouchesTwo (current_words old) AnyTree touched (ino_path (current_words old) move.to_dir s) (ino_path (current_words old) move.from_dir move.from_slot) one two →
+      TouchesTwo (current_words mid) AnyTree touched (ino_path (current_words mid) move.to_dir s) (ino_path (current_words mid) move.from_dir move.from_slot) one two
   mid_touches touched one two is = record {
     none = is.none;
     trees = lists_stay (current_words old) (current_words mid) AnyTree touched.trees.now (ap height_of (into_trees.root 0 inode_file (omega (arith, can.well_formed.some_inodes))))

@@ -52,7 +52,7 @@ use Rattle.bp_calls.proofs.Trees.{SameTrees}
 use Rattle.bp_rename.specs.CanRename.{CanRename, moved_inode}
 use Rattle.bp_rename.specs.RenamesEntry.{RenamesEntry, new_slot}
 use Rattle.bp_rename.specs.RenamesEntry.RenamesEntry.{across}
-use Rattle.bp_rename.specs.TouchesTwo.{AnyTree, TouchesTwo, inumber_path}
+use Rattle.bp_rename.specs.TouchesTwo.{AnyTree, TouchesTwo, ino_path}
 use Rattle.bp_rename.specs.declared.moves.Move.{Move}
 use Rattle.bp_rename.proofs.ContentWords.{AreContent, size_kept, words_can, words_only, words_value}
 use Rattle.bp_rename.proofs.IntoDone.{into_count, into_cover, into_prefixes, into_loose, into_paths, into_shape, into_some, into_whole}
@@ -66,7 +66,7 @@ module _ {in_snapshot : ℕ → Bool} (old third mid : Memory) (move : Move) (s 
     (found : empty_slot (current_words old) move.to_dir ≡ Some s) (entry_at : ContentStandsAt (current_words old) move.to_dir (32 * s + 0) entry)
     (spells : AddsMay (AnyAt (IsWithin (entry + 1) 31)) 0 31 old third) (spelled : HasNameAt (current_words third) entry move.name.now)
     (ends : Adds third mid (Barrier ∷ [])) (touched : Touched)
-    (is : TouchesTwo (current_words old) AnyTree touched (inumber_path (current_words old) move.to_dir s) (inumber_path (current_words old) move.from_dir move.from_slot) (moved_inode (current_words old) move) 0)
+    (is : TouchesTwo (current_words old) AnyTree touched (ino_path (current_words old) move.to_dir s) (ino_path (current_words old) move.from_dir move.from_slot) (moved_inode (current_words old) move) 0)
     (blocks inodes : Set) (exact : AreExact (current_words old) in_snapshot blocks inodes)
     (room : room_for (need (current_words old) (moves move.from_dir move.from_slot move.to_dir)) ≤ room_in old + 2) (loose : in_snapshot (entry / 512) ≡ false) where
   can_move : CanMoveEntry (current_words mid) move.from_dir move.from_slot move.to_dir s (moved_inode (current_words old) move)
@@ -78,7 +78,7 @@ module _ {in_snapshot : ℕ → Bool} (old third mid : Memory) (move : Move) (s 
   formed : IsWellFormed (current_words mid)
   formed = mid_formed old third mid move s entry can new_name other found entry_at spells spelled ends
 
-  is_mid : TouchesTwo (current_words mid) AnyTree touched (inumber_path (current_words mid) move.to_dir s) (inumber_path (current_words mid) move.from_dir move.from_slot) (moved_inode (current_words old) move) 0
+  is_mid : TouchesTwo (current_words mid) AnyTree touched (ino_path (current_words mid) move.to_dir s) (ino_path (current_words mid) move.from_dir move.from_slot) (moved_inode (current_words old) move) 0
   is_mid = mid_touches old third mid move s entry can new_name other found entry_at spells spelled ends touched (moved_inode (current_words old) move) 0 is
 
   low_target : 8 * (32 * s + 0) < size_of (current_words mid) move.to_dir
@@ -110,7 +110,7 @@ module _ {in_snapshot : ℕ → Bool} (old third mid : Memory) (move : Move) (s 
 
   covers : commit_cover (current_words mid) touched ≡ cover (current_words old) (moves move.from_dir move.from_slot move.to_dir)
   covers =
-      cover-whole (is_pointed (current_words mid)) (all_paths touched) (inumber_path (current_words mid) move.to_dir s)
+      cover-whole (is_pointed (current_words mid)) (all_paths touched) (ino_path (current_words mid) move.to_dir s)
       (has_first (current_words mid) touched move.to_dir (32 * s + 0) move.from_dir (32 * move.from_slot + 0) (moved_inode (current_words old) move) 0 is_mid)
       (pointed-directory (current_words mid) formed move.to_dir (32 * s + 0) can_move.target can_move.directory low_target)
       ∙ ap common_all (into_paths (current_words old) move s can other found touched is) ∙ sym (into_whole (current_words old) move s can other found touched is)

@@ -5,7 +5,7 @@ use Rattle.std.proofs.lemmas.List.{length-set}
 use Rattle.bp_free.specs.Set.{Set, has, with}
 use Rattle.bp_free.proofs.Members.{has_with_other, has_with_same}
 use Rattle.bp_layout.proofs.FewLeaves.{few_inodes}
-use Rattle.bp_layout.specs.Directory.{EntryNames, inumber_at}
+use Rattle.bp_layout.specs.Directory.{EntryNames, ino_at}
 use Rattle.bp_layout.specs.Inode.{inode_count, kind_of, root_of, size_of}
 use Rattle.bp_layout.specs.Names.{AreCounts}
 use Rattle.bp_layout.specs.Need.{need}
@@ -42,14 +42,14 @@ use Rattle.bp_calls.specs.GivenBack.{GivesBack}
 use Rattle.bp_calls.proofs.TruncatedLaws.{gives_as}
 use Rattle.bp_calls.proofs.Shorter.{CanGiveBack}
 use Rattle.bp_rename.specs.CanRename.{CanRename, moved_inode}
-use Rattle.bp_rename.specs.TouchesTwo.{AnyTree, TouchesTwo, inumber_path}
+use Rattle.bp_rename.specs.TouchesTwo.{AnyTree, TouchesTwo, ino_path}
 use Rattle.bp_rename.specs.declared.moves.Move.{Move}
 use Rattle.bp_rename.proofs.ContentWords.{size_kept, words_only, words_value}
 use Rattle.bp_rename.proofs.OntoLaws.{are, onto_can, onto_commit, onto_cover, onto_need, replaced_reached, replaced_some}
 use Rattle.bp_rename.proofs.TwoWords.{first_value, no_leaves, pick, second_value, two_count}
 
 module _ {in_snapshot : ℕ → Bool} (memory : Memory) (move : Move) (r : ℕ) (can : CanRename (current_words memory) move) (onto : move.to_slot ≡ Some r) (touched : Touched)
-    (is : TouchesTwo (current_words memory) AnyTree touched (inumber_path (current_words memory) move.from_dir move.from_slot) (inumber_path (current_words memory) move.to_dir r) 0 (moved_inode (current_words memory) move))
+    (is : TouchesTwo (current_words memory) AnyTree touched (ino_path (current_words memory) move.from_dir move.from_slot) (ino_path (current_words memory) move.to_dir r) 0 (moved_inode (current_words memory) move))
     (blocks inodes : Set) (exact : AreExact (current_words memory) in_snapshot blocks inodes) (room : room_for (need (current_words memory) (replaces move.from_dir move.from_slot move.to_dir r)) ≤ room_in memory + 2) where
   pub ready : CanCommit (current_words memory) (size_of (current_words memory)) in_snapshot touched (has blocks)
   ready = onto_commit (current_words memory) move r can onto touched is (has blocks) exact.free_blocks
@@ -85,7 +85,7 @@ pub record IsReplaced (in_snapshot : ℕ → Bool) (old new : Memory) (move : Mo
       slice_index before t ≡ rest + 1 → AreCounts (current_words new) (set before t rest)
 
 module _ {in_snapshot : ℕ → Bool} (old new : Memory) (move : Move) (r : ℕ) (can : CanRename (current_words old) move) (onto : move.to_slot ≡ Some r) (touched : Touched)
-    (is : TouchesTwo (current_words old) AnyTree touched (inumber_path (current_words old) move.from_dir move.from_slot) (inumber_path (current_words old) move.to_dir r) 0 (moved_inode (current_words old) move))
+    (is : TouchesTwo (current_words old) AnyTree touched (ino_path (current_words old) move.from_dir move.from_slot) (ino_path (current_words old) move.to_dir r) 0 (moved_inode (current_words old) move))
     (blocks inodes left : Set) (exact : AreExact (current_words old) in_snapshot blocks inodes) (room : room_for (need (current_words old) (replaces move.from_dir move.from_slot move.to_dir r)) ≤ room_in old + 2)
     (done : CommitsTouched (size_of (current_words old)) in_snapshot touched old new blocks left) (as_long : length left ≡ length blocks) where
   commits : CanCommit (current_words old) (size_of (current_words old)) in_snapshot touched (has blocks)
@@ -156,34 +156,34 @@ module _ {in_snapshot : ℕ → Bool} (old new : Memory) (move : Move) (r : ℕ)
 
   -- ---- what had the name comes back
 
-  was_there : IsReached (current_words old) (inumber_at (current_words old) move.to_dir r)
+  was_there : IsReached (current_words old) (ino_at (current_words old) move.to_dir r)
   was_there = replaced_reached (current_words old) move r can onto
 
-  some : inumber_at (current_words old) move.to_dir r ≢ 0
+  some : ino_at (current_words old) move.to_dir r ≢ 0
   some = replaced_some (current_words old) move r can onto
 
-  inode_low : inumber_at (current_words old) move.to_dir r < inode_count (current_words old)
-  inode_low = reached-in_file (current_words old) can.well_formed (inumber_at (current_words old) move.to_dir r) was_there
+  inode_low : ino_at (current_words old) move.to_dir r < inode_count (current_words old)
+  inode_low = reached-in_file (current_words old) can.well_formed (ino_at (current_words old) move.to_dir r) was_there
 
-  inode_there : inumber_at (current_words old) move.to_dir r < inode_count (current_words new)
+  inode_there : ino_at (current_words old) move.to_dir r < inode_count (current_words new)
   inode_there = rw (size_stays 0 inode_file) inode_low
 
-  kind_is : kind_of (current_words new) (inumber_at (current_words old) move.to_dir r) ≡ kind_of (current_words old) (inumber_at (current_words old) move.to_dir r)
-  kind_is = onto_moves.kind (inumber_at (current_words old) move.to_dir r) inode_low
+  kind_is : kind_of (current_words new) (ino_at (current_words old) move.to_dir r) ≡ kind_of (current_words old) (ino_at (current_words old) move.to_dir r)
+  kind_is = onto_moves.kind (ino_at (current_words old) move.to_dir r) inode_low
 
-  kind_some : (1 ≤ kind_of (current_words new) (inumber_at (current_words old) move.to_dir r)) × (kind_of (current_words new) (inumber_at (current_words old) move.to_dir r) ≤ 2)
-  kind_some = rw kind_is (kinds (inumber_at (current_words old) move.to_dir r) was_there some)
+  kind_some : (1 ≤ kind_of (current_words new) (ino_at (current_words old) move.to_dir r)) × (kind_of (current_words new) (ino_at (current_words old) move.to_dir r) ≤ 2)
+  kind_some = rw kind_is (kinds (ino_at (current_words old) move.to_dir r) was_there some)
     where
       kinds : (t : ℕ) → IsReached (current_words old) t → t ≢ 0 → (1 ≤ kind_of (current_words old) t) × (kind_of (current_words old) t ≤ 2)
       kinds zero reached other = absurd (other refl)
       kinds (suc n) reached other = can.well_formed.kinds n reached
 
-  onto_gives : CanGiveBack (current_words new) (root_of (current_words new) (inumber_at (current_words old) move.to_dir r)) (size_of (current_words new) (inumber_at (current_words old) move.to_dir r)) left
+  onto_gives : CanGiveBack (current_words new) (root_of (current_words new) (ino_at (current_words old) move.to_dir r)) (size_of (current_words new) (ino_at (current_words old) move.to_dir r)) left
   onto_gives = record {
-    sound = onto_moves.trees.sound (inumber_at (current_words old) move.to_dir r) was_there;
+    sound = onto_moves.trees.sound (ino_at (current_words old) move.to_dir r) was_there;
     room = rw onto_moves.trees.whole (as_long ∙ exact.block_room);
     taken = λ b held.
-        go b (record { tree = inumber_at (current_words old) move.to_dir r; reached = was_there; has = rw (size_stays (inumber_at (current_words old) move.to_dir r) was_there) at held })
+        go b (record { tree = ino_at (current_words old) move.to_dir r; reached = was_there; has = rw (size_stays (ino_at (current_words old) move.to_dir r) was_there) at held })
         (cases_Bool (has left b));
   }
     where
@@ -191,37 +191,37 @@ module _ {in_snapshot : ℕ → Bool} (old new : Memory) (move : Move) (r : ℕ)
       go b held (inl e) = absurd ((done.exact.free b e).free held)
       go b held (inr e) = e
 
-  inode_in_room : inumber_at (current_words old) move.to_dir r < length inodes
+  inode_in_room : ino_at (current_words old) move.to_dir r < length inodes
   inode_in_room =
       let few : size_of (current_words old) 0 / 64 ≤ 64 * block_count (current_words old) =
       few_inodes (current_words old) (root_of (current_words old) 0) (size_of (current_words old) 0) (can.well_formed.sound 0 inode_file) can.well_formed.full_inode_file (omega (arith, can.well_formed.formatted.sized.at_least)) can.well_formed.inode_blocks in
       omega (arith, inode_low, few, exact.inode_room)
 
-  inode_taken : has inodes (inumber_at (current_words old) move.to_dir r) ≡ false
-  inode_taken = go (cases_Bool (has inodes (inumber_at (current_words old) move.to_dir r)))
+  inode_taken : has inodes (ino_at (current_words old) move.to_dir r) ≡ false
+  inode_taken = go (cases_Bool (has inodes (ino_at (current_words old) move.to_dir r)))
     where
-      go : (has inodes (inumber_at (current_words old) move.to_dir r) ≡ true) ⊎ (has inodes (inumber_at (current_words old) move.to_dir r) ≡ false) → has inodes (inumber_at (current_words old) move.to_dir r) ≡ false
-      go (inl e) = absurd ((exact.free_inodes.free (inumber_at (current_words old) move.to_dir r) e).free was_there)
+      go : (has inodes (ino_at (current_words old) move.to_dir r) ≡ true) ⊎ (has inodes (ino_at (current_words old) move.to_dir r) ≡ false) → has inodes (ino_at (current_words old) move.to_dir r) ≡ false
+      go (inl e) = absurd ((exact.free_inodes.free (ino_at (current_words old) move.to_dir r) e).free was_there)
       go (inr e) = e
 
   -- where it has another name all stays
-  module _ (more : HasOtherName (current_words old) move.to_dir r (inumber_at (current_words old) move.to_dir r)) where
-    not_itself : more.directory ≢ inumber_at (current_words old) move.to_dir r
-    not_itself e = can.alone r more.slot (inumber_at (current_words old) move.to_dir r) onto (subst (λ t. EntryNames (current_words old) t more.slot (inumber_at (current_words old) move.to_dir r)) e more.names)
+  module _ (more : HasOtherName (current_words old) move.to_dir r (ino_at (current_words old) move.to_dir r)) where
+    not_itself : more.directory ≢ ino_at (current_words old) move.to_dir r
+    not_itself e = can.alone r more.slot (ino_at (current_words old) move.to_dir r) onto (subst (λ t. EntryNames (current_words old) t more.slot (ino_at (current_words old) move.to_dir r)) e more.names)
 
-    still_named : EntryNames (current_words new) more.directory more.slot (inumber_at (current_words old) move.to_dir r)
+    still_named : EntryNames (current_words new) more.directory more.slot (ino_at (current_words old) move.to_dir r)
     still_named =
         names_stay (current_words old) (current_words new) can.well_formed move.from_dir move.from_slot move.to_dir r (moved_inode (current_words old) move) moved_can onto_moves
-        more.directory more.slot (inumber_at (current_words old) move.to_dir r) more.reached more.names
-        (λ e f. can.apart r onto (sym more.names.inumber ∙ ap₂ (inumber_at (current_words old)) e f)) more.other
+        more.directory more.slot (ino_at (current_words old) move.to_dir r) more.reached more.names
+        (λ e f. can.apart r onto (sym more.names.ino ∙ ap₂ (ino_at (current_words old)) e f)) more.other
 
     still_reached : (t : ℕ) → IsReached (current_words old) t → IsReached (current_words new) t
-    still_reached t was = go (cases_eq t (inumber_at (current_words old) move.to_dir r))
+    still_reached t was = go (cases_eq t (ino_at (current_words old) move.to_dir r))
       where
-        stays : (u : ℕ) → IsReached (current_words old) u → u ≢ inumber_at (current_words old) move.to_dir r → IsReached (current_words new) u
+        stays : (u : ℕ) → IsReached (current_words old) u → u ≢ ino_at (current_words old) move.to_dir r → IsReached (current_words new) u
         stays u reached other = moved_on (current_words old) (current_words new) can.well_formed move.from_dir move.from_slot move.to_dir r (moved_inode (current_words old) move) moved_can onto_moves can.outside u reached (λ not_zero. other)
 
-        go : (t ≡ inumber_at (current_words old) move.to_dir r) ⊎ (t ≡ inumber_at (current_words old) move.to_dir r → ⊥) → IsReached (current_words new) t
+        go : (t ≡ ino_at (current_words old) move.to_dir r) ⊎ (t ≡ ino_at (current_words old) move.to_dir r → ⊥) → IsReached (current_words new) t
         go (inl e) = subst (IsReached (current_words new)) (sym e) (named more.slot (stays more.directory more.reached not_itself) still_named)
         go (inr other) = stays t was other
 
@@ -231,35 +231,35 @@ module _ {in_snapshot : ℕ → Bool} (old new : Memory) (move : Move) (r : ℕ)
         (reached_back (current_words old) (current_words new) can.well_formed move.from_dir move.from_slot move.to_dir r (moved_inode (current_words old) move) moved_can onto_moves) still_reached
         blocks left inodes exact as_long done.exact
 
-  module _ (final : Set) (gives : GivesBack in_snapshot (IsTruncated (current_words new) (root_of (current_words new) (inumber_at (current_words old) move.to_dir r)) (size_of (current_words new) (inumber_at (current_words old) move.to_dir r)) 0) left final) where
-    reported : GivesBack in_snapshot (HasBlock (current_words new) (root_of (current_words new) (inumber_at (current_words old) move.to_dir r)) (size_of (current_words new) (inumber_at (current_words old) move.to_dir r))) left final
-    reported = gives_as (IsTruncated (current_words new) (root_of (current_words new) (inumber_at (current_words old) move.to_dir r)) (size_of (current_words new) (inumber_at (current_words old) move.to_dir r)) 0)
-        (HasBlock (current_words new) (root_of (current_words new) (inumber_at (current_words old) move.to_dir r)) (size_of (current_words new) (inumber_at (current_words old) move.to_dir r))) left final
+  module _ (final : Set) (gives : GivesBack in_snapshot (IsTruncated (current_words new) (root_of (current_words new) (ino_at (current_words old) move.to_dir r)) (size_of (current_words new) (ino_at (current_words old) move.to_dir r)) 0) left final) where
+    reported : GivesBack in_snapshot (HasBlock (current_words new) (root_of (current_words new) (ino_at (current_words old) move.to_dir r)) (size_of (current_words new) (ino_at (current_words old) move.to_dir r))) left final
+    reported = gives_as (IsTruncated (current_words new) (root_of (current_words new) (ino_at (current_words old) move.to_dir r)) (size_of (current_words new) (ino_at (current_words old) move.to_dir r)) 0)
+        (HasBlock (current_words new) (root_of (current_words new) (ino_at (current_words old) move.to_dir r)) (size_of (current_words new) (ino_at (current_words old) move.to_dir r))) left final
         (λ b gone. gone.has) (λ b held. record { has = held; past = omega arith }) gives
 
     -- where it was the last name
-    onto_exact : IsLastName (current_words old) move.to_dir r (inumber_at (current_words old) move.to_dir r) → AreExact (current_words new) in_snapshot final (with inodes (inumber_at (current_words old) move.to_dir r))
+    onto_exact : IsLastName (current_words old) move.to_dir r (ino_at (current_words old) move.to_dir r) → AreExact (current_words new) in_snapshot final (with inodes (ino_at (current_words old) move.to_dir r))
     onto_exact last = record {
       block_room = rw onto_moves.trees.whole (gives.room ∙ as_long ∙ exact.block_room);
-      inode_room = rw onto_moves.trees.whole (length-set inodes (inumber_at (current_words old) move.to_dir r) true ∙ exact.inode_room);
+      inode_room = rw onto_moves.trees.whole (length-set inodes (ino_at (current_words old) move.to_dir r) true ∙ exact.inode_room);
       free_blocks =
           replaced_blocks (current_words old) (current_words new) can.well_formed move.from_dir move.from_slot move.to_dir r (moved_inode (current_words old) move) moved_can onto_moves can.outside some
           last in_snapshot (has left) (has final) done.exact reported.only reported.still reported.given;
       free_inodes =
           replaced_inode (current_words old) (current_words new) can.well_formed move.from_dir move.from_slot move.to_dir r (moved_inode (current_words old) move) moved_can onto_moves can.outside some
-          last (has inodes) (has (with inodes (inumber_at (current_words old) move.to_dir r))) exact.free_inodes
-          (has_with_same inodes (inumber_at (current_words old) move.to_dir r) inode_in_room) (has_with_other inodes (inumber_at (current_words old) move.to_dir r));
+          last (has inodes) (has (with inodes (ino_at (current_words old) move.to_dir r))) exact.free_inodes
+          (has_with_same inodes (ino_at (current_words old) move.to_dir r) inode_in_room) (has_with_other inodes (ino_at (current_words old) move.to_dir r));
     }
 
   -- ---- how many names it has
 
-  onto_counts : (counts : List ℕ) → AreCounts (current_words old) counts → inumber_at (current_words old) move.to_dir r < length counts → (rest : ℕ) →
-      slice_index counts (inumber_at (current_words old) move.to_dir r) ≡ rest + 1 → AreCounts (current_words new) (set counts (inumber_at (current_words old) move.to_dir r) rest)
+  onto_counts : (counts : List ℕ) → AreCounts (current_words old) counts → ino_at (current_words old) move.to_dir r < length counts → (rest : ℕ) →
+      slice_index counts (ino_at (current_words old) move.to_dir r) ≡ rest + 1 → AreCounts (current_words new) (set counts (ino_at (current_words old) move.to_dir r) rest)
   onto_counts counts are low rest is =
       replaced_counts (current_words old) (current_words new) can.well_formed move.from_dir move.from_slot move.to_dir r (moved_inode (current_words old) move) moved_can onto_moves can.outside
       (can.apart r onto) counts are some low rest is
 
-  pub onto_done : IsReplaced in_snapshot old new move r (inumber_at (current_words old) move.to_dir r) inodes left
+  pub onto_done : IsReplaced in_snapshot old new move r (ino_at (current_words old) move.to_dir r) inodes left
   onto_done = record {
     well_formed = onto_well_formed;
     whole = onto_moves.trees.whole;

@@ -1,7 +1,7 @@
 -- A name moves onto another one: what the commit asks, that it is performed, and what comes back.
 use Rattle.std.proofs.Common.{◌≡◌, ◌≢◌, ℕ, ◌+◌, ◌*◌, ◌%◌, ◌<◌, ◌≤◌, List, [], ◌∷◌, length, Bool, Some, refl, sym, ◌∙◌, ap, ap₂, subst, arith, inl}
 use Rattle.bp_limits.specs.Limits.{block_inodes, max_blocks}
-use Rattle.bp_layout.specs.Directory.{EntryNames, inumber_at, name_at}
+use Rattle.bp_layout.specs.Directory.{EntryNames, ino_at, name_at}
 use Rattle.bp_layout.specs.Free.{AreUnheld}
 use Rattle.bp_layout.specs.Inode.{kind_of, size_of}
 use Rattle.bp_layout.specs.Need.{Change, cover, copied, need, is_there_after, common_all}
@@ -23,7 +23,7 @@ use Rattle.bp_cow.specs.Touched.{IsTouched, NoneBegins, all_paths, path_of, word
 use Rattle.bp_cow.specs.declared.touched.Touched.{Touched}
 use Rattle.bp_calls.proofs.ReadingLaws.{few_inode}
 use Rattle.bp_rename.specs.CanRename.{CanRename, moved_inode}
-use Rattle.bp_rename.specs.TouchesTwo.{AnyTree, TouchesTwo, inumber_path}
+use Rattle.bp_rename.specs.TouchesTwo.{AnyTree, TouchesTwo, ino_path}
 use Rattle.bp_rename.specs.declared.moves.Move.{Move}
 use Rattle.bp_rename.proofs.ContentWords.{AreContent, words_apart, words_can, words_prefixes, words_inside, words_shape}
 use Rattle.bp_cow.proofs.CopiesNeed.{has-word}
@@ -36,7 +36,7 @@ module _ (image : Image) (move : Move) (r : ℕ) (can : CanRename image move) (o
   abbrev wf : IsWellFormed image
   wf = can.well_formed
 
-  pub replaced : EntryNames image move.to_dir r (inumber_at image move.to_dir r)
+  pub replaced : EntryNames image move.to_dir r (ino_at image move.to_dir r)
   replaced = found_entry image move.to_dir r move.name.now can.directory (can.slot ∙ onto)
 
   pub spelled : name_at image move.to_dir r ≡ move.name.now
@@ -44,7 +44,7 @@ module _ (image : Image) (move : Move) (r : ℕ) (can : CanRename image move) (o
 
   -- two entries that name two inodes are two
   apart_entries : move.from_dir ≡ move.to_dir → move.from_slot ≡ r → ⊥
-  apart_entries e f = can.apart r onto (ap₂ (inumber_at image) (sym e) (sym f))
+  apart_entries e f = can.apart r onto (ap₂ (ino_at image) (sym e) (sym f))
 
   pub onto_can : CanMoveEntry image move.from_dir move.from_slot move.to_dir r (moved_inode image move)
   onto_can = record {
@@ -56,17 +56,17 @@ module _ (image : Image) (move : Move) (r : ℕ) (can : CanRename image move) (o
     apart = apart_entries;
     alone = λ x l some n. can.alone r x l onto n;
     name = rw spelled can.name;
-    new_name = λ x l n same. can.well_formed.names_once move.to_dir x r l (inumber_at image move.to_dir r) can.target n replaced same;
+    new_name = λ x l n same. can.well_formed.names_once move.to_dir x r l (ino_at image move.to_dir r) can.target n replaced same;
   }
 
-  pub replaced_reached : IsReached image (inumber_at image move.to_dir r)
+  pub replaced_reached : IsReached image (ino_at image move.to_dir r)
   replaced_reached = named r can.target replaced
 
-  pub replaced_some : inumber_at image move.to_dir r ≢ 0
+  pub replaced_some : ino_at image move.to_dir r ≢ 0
   replaced_some = replaced.not_empty
 
-  pub replaced_few : inumber_at image move.to_dir r < block_inodes * max_blocks
-  replaced_few = few_inode image can.well_formed (inumber_at image move.to_dir r) (can.well_formed.inumbers move.to_dir r (inumber_at image move.to_dir r) can.target replaced)
+  pub replaced_few : ino_at image move.to_dir r < block_inodes * max_blocks
+  replaced_few = few_inode image can.well_formed (ino_at image move.to_dir r) (can.well_formed.inos move.to_dir r (ino_at image move.to_dir r) can.target replaced)
 
   low_source : 8 * (32 * move.from_slot + 0) < size_of image move.from_dir
   low_source = omega (arith, can.entry.in_size)
@@ -80,14 +80,14 @@ module _ (image : Image) (move : Move) (r : ℕ) (can : CanRename image move) (o
   abbrev change : Change
   change = replaces move.from_dir move.from_slot move.to_dir r
 
-  source_there : AllThere (is_there_after image (replaces move.from_dir move.from_slot move.to_dir r)) [] (inumber_path image move.from_dir move.from_slot)
+  source_there : AllThere (is_there_after image (replaces move.from_dir move.from_slot move.to_dir r)) [] (ino_path image move.from_dir move.from_slot)
   source_there =
       content_path-there image (replaces move.from_dir move.from_slot move.to_dir r) can.well_formed refl move.from_dir (32 * move.from_slot + 0) can.source refl
       (can.well_formed.full_directories move.from_dir can.source can.entry.directory) low_source
 
   -- ---- what is touched
 
-  module _ (touched : Touched) (is : TouchesTwo image AnyTree touched (inumber_path image move.from_dir move.from_slot) (inumber_path image move.to_dir r) 0 (moved_inode image move)) where
+  module _ (touched : Touched) (is : TouchesTwo image AnyTree touched (ino_path image move.from_dir move.from_slot) (ino_path image move.to_dir r) 0 (moved_inode image move)) where
     pub are : AreContent image (size_of image) touched (pick move.from_dir move.to_dir) (pick (32 * move.from_slot + 0) (32 * r + 0))
     are =
         two_are image touched move.from_dir (32 * move.from_slot + 0) move.to_dir (32 * r + 0) 0 (moved_inode image move) is (size_of image) can.source can.target low_source low_target
@@ -106,16 +106,16 @@ module _ (image : Image) (move : Move) (r : ℕ) (can : CanRename image move) (o
     pub onto_commit : {in_snapshot : ℕ → Bool} (free : ℕ → Bool) → AreUnheld image (IsReached image) (size_of image) in_snapshot free → CanCommit image (size_of image) in_snapshot touched free
     onto_commit free exact = words_can image (size_of image) (wf_forest image can.well_formed) touched (pick move.from_dir move.to_dir) (pick (32 * move.from_slot + 0) (32 * r + 0)) are (λ t q. omega arith) free exact
 
-    all_touched : all_paths touched ≡ inumber_path image move.from_dir move.from_slot ∷ inumber_path image move.to_dir r ∷ []
+    all_touched : all_paths touched ≡ ino_path image move.from_dir move.from_slot ∷ ino_path image move.to_dir r ∷ []
     all_touched = two_paths image touched move.from_dir (32 * move.from_slot + 0) move.to_dir (32 * r + 0) 0 (moved_inode image move) is
 
     pub onto_cover : commit_cover image touched ≡ cover image (replaces move.from_dir move.from_slot move.to_dir r)
     onto_cover =
-        cover-whole (is_pointed image) (all_paths touched) (inumber_path image move.from_dir move.from_slot)
+        cover-whole (is_pointed image) (all_paths touched) (ino_path image move.from_dir move.from_slot)
         (has_first image touched move.from_dir (32 * move.from_slot + 0) move.to_dir (32 * r + 0) 0 (moved_inode image move) is)
         (pointed-directory image can.well_formed move.from_dir (32 * move.from_slot + 0) can.source can.entry.directory low_source)
         ∙ ap common_all all_touched
-        ∙ sym (cover-whole (is_there_after image (replaces move.from_dir move.from_slot move.to_dir r)) (layout.touched image (replaces move.from_dir move.from_slot move.to_dir r)) (inumber_path image move.from_dir move.from_slot) (inl refl) source_there)
+        ∙ sym (cover-whole (is_there_after image (replaces move.from_dir move.from_slot move.to_dir r)) (layout.touched image (replaces move.from_dir move.from_slot move.to_dir r)) (ino_path image move.from_dir move.from_slot) (inl refl) source_there)
 
     pub onto_need : copied_count image touched ≡ need image (replaces move.from_dir move.from_slot move.to_dir r)
     onto_need =
@@ -130,7 +130,7 @@ module _ (image : Image) (move : Move) (r : ℕ) (can : CanRename image move) (o
     -- the cover is that of the change now
     pub onto_now : commit_cover image touched ≡ cover_now image (replaces move.from_dir move.from_slot move.to_dir r)
     onto_now =
-        cover-whole (is_pointed image) (all_paths touched) (inumber_path image move.from_dir move.from_slot)
+        cover-whole (is_pointed image) (all_paths touched) (ino_path image move.from_dir move.from_slot)
         (has_first image touched move.from_dir (32 * move.from_slot + 0) move.to_dir (32 * r + 0) 0 (moved_inode image move) is)
         (pointed-directory image can.well_formed move.from_dir (32 * move.from_slot + 0) can.source can.entry.directory low_source)
         ∙ ap common_all all_touched

@@ -8,7 +8,7 @@ use Rattle.bp_append.specs.Prepared.{HasLooseEnd, need_for}
 use Rattle.bp_append.specs.Stores.{prep_stores}
 use Rattle.bp_append.proofs.StoresLaws.{past_end_whole}
 use Rattle.bp_free.specs.Set.{Set, has, members}
-use Rattle.bp_layout.specs.Directory.{EntryNames, empty_slot, entry_count, entry_word, inumber_at, name_at, slot_named}
+use Rattle.bp_layout.specs.Directory.{EntryNames, empty_slot, entry_count, entry_word, ino_at, name_at, slot_named}
 use Rattle.bp_layout.specs.Paths.{IsName}
 use Rattle.bp_layout.specs.Free.{AreUnheld}
 use Rattle.bp_layout.specs.Inode.{inode_count, kind_of, root_of, size_of}
@@ -62,7 +62,7 @@ use Rattle.bp_calls.proofs.SizesWith.{size_with_here, size_with_other, sizes_wit
 use Rattle.bp_rename.specs.CanRename.{CanRename, moved_inode}
 use Rattle.bp_rename.specs.RenamesEntry.{RenamesEntry, new_slot}
 use Rattle.bp_rename.specs.RenamesEntry.RenamesEntry.{across}
-use Rattle.bp_rename.specs.TouchesTwo.{OtherTree, TouchesTwo, inumber_path, size_path}
+use Rattle.bp_rename.specs.TouchesTwo.{OtherTree, TouchesTwo, ino_path, size_path}
 use Rattle.bp_rename.specs.declared.moves.Move.{Move}
 use Rattle.bp_rename.proofs.PastEndTouched.{past_end_are, past_end_cover, past_end_few, past_end_needs, past_end_whole_cover, not_inodes, size_prefixes, touched_loose, touched_needs, touched_paths, touched_size}
 use Rattle.bp_rename.proofs.ListedTrees.{lists_stay}
@@ -83,11 +83,11 @@ short_trail h i d k n path low same =
 
 -- the inode that moves is a number of 32 bits
 pub moved_few : (image : Image) (move : Move) → CanRename image move → moved_inode image move < block_inodes * max_blocks
-moved_few image move can = few_inode image can.well_formed (moved_inode image move) (can.well_formed.inumbers move.from_dir move.from_slot (moved_inode image move) can.source can.entry)
+moved_few image move can = few_inode image can.well_formed (moved_inode image move) (can.well_formed.inos move.from_dir move.from_slot (moved_inode image move) can.source can.entry)
 
 -- the entry can be put there
 pub can_put : {in_snapshot : ℕ → Bool} (memory : Memory) (move : Move) (blocks inodes : Set) (can : CanRename (current_words memory) move) (other : move.from_dir ≢ move.to_dir) (new_name : move.to_slot ≡ None) (none : empty_slot (current_words memory) move.to_dir ≡ None)
-    (touched : Touched) (is : TouchesTwo (current_words memory) (OtherTree move.to_dir) touched (size_path (current_words memory) move.to_dir) (inumber_path (current_words memory) move.from_dir move.from_slot) (size_of (current_words memory) move.to_dir + 256) 0) →
+    (touched : Touched) (is : TouchesTwo (current_words memory) (OtherTree move.to_dir) touched (size_path (current_words memory) move.to_dir) (ino_path (current_words memory) move.from_dir move.from_slot) (size_of (current_words memory) move.to_dir + 256) 0) →
     AreExact (current_words memory) in_snapshot blocks inodes → need (current_words memory) (moves move.from_dir move.from_slot move.to_dir) ≤ length (members blocks) →
     room_for (need (current_words memory) (moves move.from_dir move.from_slot move.to_dir)) ≤ room_in memory + 2 → HasLooseEnd (current_words memory) in_snapshot move.to_dir → CanPutPastEnd in_snapshot memory blocks move.to_dir move.name.now
 can_put memory move blocks inodes can other new_name none touched is exact enough room loose = record {
@@ -104,7 +104,7 @@ module _ {in_snapshot : ℕ → Bool} (old middle : Memory) (move : Move) (block
     (none : empty_slot (current_words old) move.to_dir ≡ None) (exact : AreExact (current_words old) in_snapshot blocks inodes)
     (room : room_for (need (current_words old) (moves move.from_dir move.from_slot move.to_dir)) ≤ room_in old + 2)
     (puts : PutsPastEnd in_snapshot old middle (members blocks) (members after) move.to_dir (moved_inode (current_words old) move) move.name.now) (as_long : length after ≡ length blocks)
-    (touched : Touched) (is : TouchesTwo (current_words old) (OtherTree move.to_dir) touched (size_path (current_words old) move.to_dir) (inumber_path (current_words old) move.from_dir move.from_slot) (size_of (current_words old) move.to_dir + 256) 0) where
+    (touched : Touched) (is : TouchesTwo (current_words old) (OtherTree move.to_dir) touched (size_path (current_words old) move.to_dir) (ino_path (current_words old) move.from_dir move.from_slot) (size_of (current_words old) move.to_dir + 256) 0) where
   abbrev image : Image
   image = current_words old
 
@@ -155,8 +155,8 @@ module _ {in_snapshot : ℕ → Bool} (old middle : Memory) (move : Move) (block
   missing : slot_named mid j move.name.now ≡ None
   missing = slot_named_over image mid can.well_formed puts.prepared.ready.meaning j move.name.now can.target can.directory ∙ can.slot ∙ new_name
 
-  inumber : inumber_at mid j (entry_count mid j) ≡ x
-  inumber = rw size_was puts.inumber
+  ino : ino_at mid j (entry_count mid j) ≡ x
+  ino = rw size_was puts.ino
 
   spelled : name_at mid j (entry_count mid j) ≡ move.name.now
   spelled = rw size_was puts.spelled
@@ -169,10 +169,10 @@ module _ {in_snapshot : ℕ → Bool} (old middle : Memory) (move : Move) (block
   size_stays : size_path image j ≡ size_path mid j
   size_stays = ap (λ r. inode_path (height_of r) j 2) root_inodes
 
-  entry_stays : inumber_path image i s ≡ inumber_path mid i s
+  entry_stays : ino_path image i s ≡ ino_path mid i s
   entry_stays = ap₂ (λ top root. tree_path (height_of top) i (suc (height_of root)) (32 * s + 0)) root_inodes (sym (puts.prepared.ready.roots i can.source other))
 
-  is_mid : TouchesTwo mid (OtherTree j) touched (size_path mid j) (inumber_path mid i s) (size_of image j + 256) 0
+  is_mid : TouchesTwo mid (OtherTree j) touched (size_path mid j) (ino_path mid i s) (size_of image j + 256) 0
   is_mid = record {
     none = is.none;
     trees = lists_stay image mid (OtherTree j) touched.trees.now (ap height_of (sym root_inodes)) (λ t apart reached some. (on t reached, (puts.prepared.ready.roots t reached apart, puts.prepared.ready.sizes t reached))) is.trees;
@@ -223,7 +223,7 @@ module _ {in_snapshot : ℕ → Bool} (old middle : Memory) (move : Move) (block
 
   -- ---- the copies
 
-  covers : commit_cover mid touched ≡ common_all (size_path image j ∷ inumber_path image i s ∷ [])
+  covers : commit_cover mid touched ≡ common_all (size_path image j ∷ ino_path image i s ∷ [])
   covers =
       past_end_cover mid past_end_formed i s j (size_of image j + 256) source entry.in_size entry.directory target touched is_mid
       ∙ ap₂ (λ p q. common_all (p ∷ q ∷ [])) (sym size_stays) (sym entry_stays)
@@ -348,7 +348,7 @@ module _ {in_snapshot : ℕ → Bool} (old middle : Memory) (move : Move) (block
 
     mid_carries : CarriesEntry mid (current_words new) i s j (entry_count mid j) x
     mid_carries =
-        commit_carries mid (current_words new) (changes_of mid (job_of touched)) i s j x past_end_formed source entry target directory inumber (subst IsName (sym spelled) can.name)
+        commit_carries mid (current_words new) (changes_of mid (job_of touched)) i s j x past_end_formed source entry target directory ino (subst IsName (sym spelled) can.name)
         (λ y l n same. not_named mid past_end_formed j move.name.now target missing y l n (same ∙ spelled)) only
         (value 1 (omega (arith, count)) ∙ second_value mid touched 0 (8 * j + 2) i (32 * s + 0) (size_of image j + 256) 0 is_mid)
         (value 0 (omega (arith, count)) ∙ first_value mid touched 0 (8 * j + 2) i (32 * s + 0) (size_of image j + 256) 0 is_mid ∙ ap (λ n. n + 256) (sym size_was))

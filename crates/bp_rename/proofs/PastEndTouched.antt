@@ -27,7 +27,7 @@ use Rattle.bp_cow.specs.Cover.{LeadsInside, commit_cover, copied_count, copied_p
 use Rattle.bp_cow.specs.Touched.{IsTouched, NoneBegins, all_paths, path_of}
 use Rattle.bp_cow.specs.declared.touched.Touched.{Touched}
 use Rattle.bp_rename.specs.CanRename.{CanRename}
-use Rattle.bp_rename.specs.TouchesTwo.{OtherTree, TouchesTwo, inumber_path, size_path}
+use Rattle.bp_rename.specs.TouchesTwo.{OtherTree, TouchesTwo, ino_path, size_path}
 use Rattle.bp_rename.specs.declared.moves.Move.{Move}
 use Rattle.bp_rename.proofs.ContentWords.{AreContent, words_apart, words_prefixes, words_inside, words_shape}
 use Rattle.bp_rename.proofs.LooseCovers.{cover_loose, now_whole}
@@ -38,10 +38,10 @@ use Rattle.bp_rename.proofs.WholePaths.{cover-whole, pointed-directory}
 pub not_inodes : (image : Image) (t : ℕ) → kind_of image t ≡ 2 → t ≡ 0 → ⊥
 not_inodes image t kind e = let two : kind_of image 0 ≡ 2 = subst (λ x. kind_of image x ≡ 2) e kind in omega (arith, two)
 
--- ---- in any image: the size of inode j, and the inumber of an entry (i, s)
+-- ---- in any image: the size of inode j, and the inode number of an entry (i, s)
 
 module _ (image : Image) (wf : IsWellFormed image) (i s j size : ℕ) (source : IsReached image i) (in_size : s < entry_count image i) (directory : kind_of image i ≡ 2) (target : IsReached image j)
-    (touched : Touched) (is : TouchesTwo image (OtherTree j) touched (size_path image j) (inumber_path image i s) size 0) where
+    (touched : Touched) (is : TouchesTwo image (OtherTree j) touched (size_path image j) (ino_path image i s) size 0) where
   low_entry : 8 * (32 * s + 0) < size_of image i
   low_entry = omega (arith, in_size)
 
@@ -72,9 +72,9 @@ module _ (image : Image) (wf : IsWellFormed image) (i s j size : ℕ) (source : 
   past_end_few = two_few image touched 0 (8 * j + 2) i (32 * s + 0) size 0 is past_end_shape past_end_apart
 
   -- a directory has no nulls, so the cover is all with which both paths begin
-  pub past_end_cover : commit_cover image touched ≡ common_all (size_path image j ∷ inumber_path image i s ∷ [])
+  pub past_end_cover : commit_cover image touched ≡ common_all (size_path image j ∷ ino_path image i s ∷ [])
   past_end_cover =
-      cover-whole (is_pointed image) (all_paths touched) (inumber_path image i s) (has_second image touched 0 (8 * j + 2) i (32 * s + 0) size 0 is)
+      cover-whole (is_pointed image) (all_paths touched) (ino_path image i s) (has_second image touched 0 (8 * j + 2) i (32 * s + 0) size 0 is)
       (pointed-directory image wf i (32 * s + 0) source directory low_entry)
       ∙ ap common_all (two_paths image touched 0 (8 * j + 2) i (32 * s + 0) size 0 is)
 
@@ -96,7 +96,7 @@ module _ (image : Image) (move : Move) (can : CanRename image move) (other : mov
   source : height_after image (moves move.from_dir move.from_slot move.to_dir) move.from_dir ≡ height_of (root_of image move.from_dir)
   source = heights move.from_dir (λ e. other (sym e))
 
-  touched_is : layout.touched image (moves move.from_dir move.from_slot move.to_dir) ≡ size_path image move.to_dir ∷ inumber_path image move.from_dir move.from_slot ∷ []
+  touched_is : layout.touched image (moves move.from_dir move.from_slot move.to_dir) ≡ size_path image move.to_dir ∷ ino_path image move.from_dir move.from_slot ∷ []
   touched_is =
       ap (λ o. layout.entered image (moves move.from_dir move.from_slot move.to_dir) move.to_dir o ∷ layout.entry_path image (moves move.from_dir move.from_slot move.to_dir) move.from_dir move.from_slot 0 ∷ []) none
       ∙ ap₂ (λ h k. inode_path h move.to_dir 2 ∷ tree_path h move.from_dir (suc k) (32 * move.from_slot + 0) ∷ []) top source
@@ -104,19 +104,19 @@ module _ (image : Image) (move : Move) (can : CanRename image move) (other : mov
   low : 8 * (32 * move.from_slot + 0) < size_of image move.from_dir
   low = omega (arith, can.entry.in_size)
 
-  entry_there : AllThere (is_there_after image (moves move.from_dir move.from_slot move.to_dir)) [] (inumber_path image move.from_dir move.from_slot)
+  entry_there : AllThere (is_there_after image (moves move.from_dir move.from_slot move.to_dir)) [] (ino_path image move.from_dir move.from_slot)
   entry_there =
       subst (AllThere (is_there_after image (moves move.from_dir move.from_slot move.to_dir)) []) path
       (content_path-there image (moves move.from_dir move.from_slot move.to_dir) can.well_formed top move.from_dir (32 * move.from_slot + 0) can.source source
       (can.well_formed.full_directories move.from_dir can.source can.entry.directory) low)
     where
-      path : content_path image (moves move.from_dir move.from_slot move.to_dir) move.from_dir (32 * move.from_slot + 0) ≡ inumber_path image move.from_dir move.from_slot
+      path : content_path image (moves move.from_dir move.from_slot move.to_dir) move.from_dir (32 * move.from_slot + 0) ≡ ino_path image move.from_dir move.from_slot
       path = ap₂ (λ h k. tree_path h move.from_dir (suc k) (32 * move.from_slot + 0)) top source
 
-  pub past_end_whole_cover : cover image (moves move.from_dir move.from_slot move.to_dir) ≡ common_all (size_path image move.to_dir ∷ inumber_path image move.from_dir move.from_slot ∷ [])
+  pub past_end_whole_cover : cover image (moves move.from_dir move.from_slot move.to_dir) ≡ common_all (size_path image move.to_dir ∷ ino_path image move.from_dir move.from_slot ∷ [])
   past_end_whole_cover =
-      cover-whole (is_there_after image (moves move.from_dir move.from_slot move.to_dir)) (layout.touched image (moves move.from_dir move.from_slot move.to_dir)) (inumber_path image move.from_dir move.from_slot)
-      (subst (λ (ps : List WordPath). Has ps (inumber_path image move.from_dir move.from_slot)) (sym touched_is) (inr (inl refl))) entry_there
+      cover-whole (is_there_after image (moves move.from_dir move.from_slot move.to_dir)) (layout.touched image (moves move.from_dir move.from_slot move.to_dir)) (ino_path image move.from_dir move.from_slot)
+      (subst (λ (ps : List WordPath). Has ps (ino_path image move.from_dir move.from_slot)) (sym touched_is) (inr (inl refl))) entry_there
       ∙ ap common_all touched_is
 
   -- the nodes of the next entry's bytes are made
@@ -128,8 +128,8 @@ module _ (image : Image) (move : Move) (can : CanRename image move) (other : mov
       ∙ length-map (nodes_for image (root_of image move.to_dir) (size_of image move.to_dir) (size_of image move.to_dir) (size_of image move.to_dir + 256)) _
 
   -- In any image whose paths are these, the commit copies what is needed beside them.
-  module _ (touched : Touched) (paths : all_paths touched ≡ size_path image move.to_dir ∷ inumber_path image move.from_dir move.from_slot ∷ []) where
-    pub past_end_needs : (mid : Image) → commit_cover mid touched ≡ common_all (size_path image move.to_dir ∷ inumber_path image move.from_dir move.from_slot ∷ []) →
+  module _ (touched : Touched) (paths : all_paths touched ≡ size_path image move.to_dir ∷ ino_path image move.from_dir move.from_slot ∷ []) where
+    pub past_end_needs : (mid : Image) → commit_cover mid touched ≡ common_all (size_path image move.to_dir ∷ ino_path image move.from_dir move.from_slot ∷ []) →
         need image (moves move.from_dir move.from_slot move.to_dir) ≡ need_for image move.to_dir (size_of image move.to_dir) (size_of image move.to_dir + 256) + copied_count mid touched
     past_end_needs mid covers =
         let same : copied_paths mid touched ≡ copied image (moves move.from_dir move.from_slot move.to_dir) =
@@ -140,8 +140,8 @@ module _ (image : Image) (move : Move) (can : CanRename image move) (other : mov
         omega (arith, made, count, nothing)
 
   -- for what is touched
-  module _ (touched : Touched) (is : TouchesTwo image (OtherTree move.to_dir) touched (size_path image move.to_dir) (inumber_path image move.from_dir move.from_slot) (size_of image move.to_dir + 256) 0) where
-    pub touched_paths : all_paths touched ≡ size_path image move.to_dir ∷ inumber_path image move.from_dir move.from_slot ∷ []
+  module _ (touched : Touched) (is : TouchesTwo image (OtherTree move.to_dir) touched (size_path image move.to_dir) (ino_path image move.from_dir move.from_slot) (size_of image move.to_dir + 256) 0) where
+    pub touched_paths : all_paths touched ≡ size_path image move.to_dir ∷ ino_path image move.from_dir move.from_slot ∷ []
     touched_paths = two_paths image touched 0 (8 * move.to_dir + 2) move.from_dir (32 * move.from_slot + 0) (size_of image move.to_dir + 256) 0 is
 
     pub touched_shape : IsTouched touched

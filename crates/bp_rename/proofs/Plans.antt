@@ -18,7 +18,7 @@ use Rattle.bp_changes.specs.Forest.{root_trail}
 use Rattle.bp_cow.specs.declared.touched.TreeSize.{TreeSize}
 use Rattle.bp_rename.specs.CanRename.{CanRename, moved_inode}
 use Rattle.bp_rename.specs.Planned.{IsPlanned, Needs, TouchesPastEnd, TouchesInto, TouchesOnto, TouchesWithin}
-use Rattle.bp_rename.specs.TouchesTwo.{IsSizedTree, ListsTrees, TouchesTwo, inumber_path}
+use Rattle.bp_rename.specs.TouchesTwo.{IsSizedTree, ListsTrees, TouchesTwo, ino_path}
 use Rattle.bp_rename.specs.declared.moves.Move.{Move}
 use Rattle.bp_rename.proofs.PastEndTouched.{touched_apart, touched_few, touched_inside, touched_needs, touched_now, touched_shape}
 use Rattle.bp_rename.proofs.IntoDone.{into_apart, into_few, into_inside, into_need, into_now, into_shape}
@@ -28,7 +28,7 @@ use Rattle.bp_rename.proofs.RenameThawed.{moved, rename_on}
 use Rattle.bp_rename.proofs.WithinLaws.{respells_can, within_apart_at, within_few_at, within_inside_at, within_need_at, within_now_at, within_shape_at}
 
 module _ (image after : Image) (shape : SameShape image after) where
-  path_over : (t s : ℕ) → IsReached image t → inumber_path image t s ≡ inumber_path after t s
+  path_over : (t s : ℕ) → IsReached image t → ino_path image t s ≡ ino_path after t s
   path_over t s reached = ap₂ (λ top own. tree_path top t (suc own) (32 * s + 0)) (sym (shape.heights 0 inode_file)) (sym (shape.heights t reached))
 
   tree_over : (t : ℕ) (tree : TreeSize) → IsSizedTree image t tree → IsSizedTree after t tree

@@ -20,7 +20,7 @@ use Rattle.bp_calls.proofs.Refusals.{found_empty}
 use Rattle.bp_calls.proofs.TargetPaths.{content_way, end_way, root_way}
 use Rattle.bp_calls.proofs.Trees.{live_leaf}
 use Rattle.bp_rename.specs.CanRename.{CanRename, change_of}
-use Rattle.bp_rename.specs.TouchesTwo.{inumber_path, size_path}
+use Rattle.bp_rename.specs.TouchesTwo.{ino_path, size_path}
 use Rattle.bp_rename.specs.declared.moves.Move.{Move}
 use Rattle.bp_rename.proofs.LooseCovers.{now_way}
 use Rattle.bp_rename.proofs.Renames.{across_change, onto_change, within_change}
@@ -52,22 +52,22 @@ module _ (image : Image) (move : Move) (can : CanRename image move) where
   -- ---- into an empty entry
 
   module _ (s : ℕ) (found : empty_slot image move.to_dir ≡ Some s) where
-    pub into_touched : touched_at (heights_now image) image (moves move.from_dir move.from_slot move.to_dir) ≡ inumber_path image move.to_dir s ∷ inumber_path image move.from_dir move.from_slot ∷ []
+    pub into_touched : touched_at (heights_now image) image (moves move.from_dir move.from_slot move.to_dir) ≡ ino_path image move.to_dir s ∷ ino_path image move.from_dir move.from_slot ∷ []
     into_touched = ap (λ o. entered_at (heights_now image) move.to_dir o ∷ entry_path_at (heights_now image) move.from_dir move.from_slot 0 ∷ []) found
 
-    pub into_among : Has (touched_at (heights_now image) image (moves move.from_dir move.from_slot move.to_dir)) (inumber_path image move.from_dir move.from_slot)
-    into_among = subst (λ (ps : List WordPath). Has ps (inumber_path image move.from_dir move.from_slot)) (sym into_touched) (inr (inl refl))
+    pub into_among : Has (touched_at (heights_now image) image (moves move.from_dir move.from_slot move.to_dir)) (ino_path image move.from_dir move.from_slot)
+    into_among = subst (λ (ps : List WordPath). Has ps (ino_path image move.from_dir move.from_slot)) (sym into_touched) (inr (inl refl))
 
     low_target : 8 * (32 * s + 0) < size_of image move.to_dir
     low_target = let low = (found_empty image move.to_dir s found).0 in omega (arith, low)
 
-    pub into_targets : targets image (moves move.from_dir move.from_slot move.to_dir) ≡ cover_now image (moves move.from_dir move.from_slot move.to_dir) ∷ inumber_path image move.to_dir s ∷ []
+    pub into_targets : targets image (moves move.from_dir move.from_slot move.to_dir) ≡ cover_now image (moves move.from_dir move.from_slot move.to_dir) ∷ ino_path image move.to_dir s ∷ []
     into_targets = ap (λ (o : Option ℕ). cover_now image (moves move.from_dir move.from_slot move.to_dir) ∷ flat_map (end_targets image) (new_entry image move.to_dir o ++ []) ++ slot_target image move.to_dir o) found
 
     pub into_ways : (path : WordPath) → Has (targets image (moves move.from_dir move.from_slot move.to_dir)) path → IsWayIn image path
     into_ways path has = go (subst (λ (ps : List WordPath). Has ps path) into_targets has)
       where
-        go : Has (cover_now image (moves move.from_dir move.from_slot move.to_dir) ∷ inumber_path image move.to_dir s ∷ []) path → IsWayIn image path
+        go : Has (cover_now image (moves move.from_dir move.from_slot move.to_dir) ∷ ino_path image move.to_dir s ∷ []) path → IsWayIn image path
         go (inl e) = subst (IsWayIn image) e (now_way image can.well_formed (moves move.from_dir move.from_slot move.to_dir) move.from_dir (32 * move.from_slot + 0) can.source can.entry.directory low_source into_among)
         go (inr (inl e)) = subst (IsWayIn image) e (content_way image can.well_formed move.to_dir (32 * s + 0) can.target low_target)
         go (inr (inr never)) = absurd never
@@ -75,22 +75,22 @@ module _ (image : Image) (move : Move) (can : CanRename image move) where
     -- where nothing is left to thaw the block of the empty entry is not in the snapshot
     pub slot_loose : (in_snapshot : ℕ → Bool) → thawed image in_snapshot (moves move.from_dir move.from_slot move.to_dir) ≡ [] → (entry : ℕ) → ContentStandsAt image move.to_dir (32 * s + 0) entry → in_snapshot (entry / 512) ≡ false
     slot_loose in_snapshot clear entry stands =
-        let among : Has (targets image (moves move.from_dir move.from_slot move.to_dir)) (inumber_path image move.to_dir s) =
-        subst (λ (ps : List WordPath). Has ps (inumber_path image move.to_dir s)) (sym into_targets) (inr (inl refl)) in
+        let among : Has (targets image (moves move.from_dir move.from_slot move.to_dir)) (ino_path image move.to_dir s) =
+        subst (λ (ps : List WordPath). Has ps (ino_path image move.to_dir s)) (sym into_targets) (inr (inl refl)) in
         let here : node image (root_of image move.to_dir) (height_of (root_of image move.to_dir)) ((32 * s + 0) / 512) ≡ entry / 512 = omega (arith, stands.at) in
         ap in_snapshot (sym here)
         ∙ loose_word image can.well_formed in_snapshot move.to_dir (height_of (root_of image move.to_dir)) (32 * s + 0) can.target
         (live_leaf (root_of image move.to_dir) (size_of image move.to_dir) ((32 * s + 0) / 512) (omega (arith, low_target))) stands.present
-        (loose-on image in_snapshot (targets image (moves move.from_dir move.from_slot move.to_dir)) clear (inumber_path image move.to_dir s) among (length (inumber_path image move.to_dir s) - 1))
+        (loose-on image in_snapshot (targets image (moves move.from_dir move.from_slot move.to_dir)) clear (ino_path image move.to_dir s) among (length (ino_path image move.to_dir s) - 1))
 
   -- ---- after the last entry
 
   module _ (none : empty_slot image move.to_dir ≡ None) where
-    pub past_end_touched : touched_at (heights_now image) image (moves move.from_dir move.from_slot move.to_dir) ≡ size_path image move.to_dir ∷ inumber_path image move.from_dir move.from_slot ∷ []
+    pub past_end_touched : touched_at (heights_now image) image (moves move.from_dir move.from_slot move.to_dir) ≡ size_path image move.to_dir ∷ ino_path image move.from_dir move.from_slot ∷ []
     past_end_touched = ap (λ o. entered_at (heights_now image) move.to_dir o ∷ entry_path_at (heights_now image) move.from_dir move.from_slot 0 ∷ []) none
 
-    pub past_end_among : Has (touched_at (heights_now image) image (moves move.from_dir move.from_slot move.to_dir)) (inumber_path image move.from_dir move.from_slot)
-    past_end_among = subst (λ (ps : List WordPath). Has ps (inumber_path image move.from_dir move.from_slot)) (sym past_end_touched) (inr (inl refl))
+    pub past_end_among : Has (touched_at (heights_now image) image (moves move.from_dir move.from_slot move.to_dir)) (ino_path image move.from_dir move.from_slot)
+    past_end_among = subst (λ (ps : List WordPath). Has ps (ino_path image move.from_dir move.from_slot)) (sym past_end_touched) (inr (inl refl))
 
     pub past_end_targets : targets image (moves move.from_dir move.from_slot move.to_dir) ≡
         cover_now image (moves move.from_dir move.from_slot move.to_dir) ∷ root_path_now image move.to_dir ∷ end_path_now image move.to_dir ∷ []

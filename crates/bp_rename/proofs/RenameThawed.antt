@@ -5,7 +5,7 @@ use Rattle.bp_changes.specs.Thawed.{AfterThaw, SameShape}
 use Rattle.bp_changes.proofs.ReachedOn.{names_on, reached_on}
 use Rattle.bp_changes.proofs.SameMeaning.{name-same, names-back, well_formed-same}
 use Rattle.bp_layout.specs.Paths.{rest_below, Name}
-use Rattle.bp_layout.specs.Directory.{EntryNames, inumber_at, name_at}
+use Rattle.bp_layout.specs.Directory.{EntryNames, ino_at, name_at}
 use Rattle.bp_layout.specs.Words.{Image}
 use Rattle.bp_plain.specs.Plain.{with_moved}
 use Rattle.bp_plain.specs.Stands.{Shows}
@@ -20,11 +20,11 @@ use Rattle.bp_rename.proofs.Outside.{below_before}
 use Rattle.bp_rename.proofs.RenamedStands.{renamed_moves}
 
 module _ (old mid : Image) (move : Move) (can : CanRename old move) (shape : SameShape old mid) where
-  pub moved : inumber_at mid move.from_dir move.from_slot ≡ moved_inode old move
-  moved = shape.meaning.inumber move.from_dir move.from_slot can.source can.entry.directory can.entry.in_size
+  pub moved : ino_at mid move.from_dir move.from_slot ≡ moved_inode old move
+  moved = shape.meaning.ino move.from_dir move.from_slot can.source can.entry.directory can.entry.in_size
 
-  target_inode : (r : ℕ) → move.to_slot ≡ Some r → inumber_at mid move.to_dir r ≡ inumber_at old move.to_dir r
-  target_inode r is = shape.meaning.inumber move.to_dir r can.target can.directory (replaced old move r can is).in_size
+  target_inode : (r : ℕ) → move.to_slot ≡ Some r → ino_at mid move.to_dir r ≡ ino_at old move.to_dir r
+  target_inode r is = shape.meaning.ino move.to_dir r can.target can.directory (replaced old move r can is).in_size
 
   pub rename_on : CanRename mid move
   rename_on = record {
@@ -42,7 +42,7 @@ module _ (old mid : Image) (move : Move) (can : CanRename old move) (shape : Sam
     apart = λ r is same. can.apart r is (sym (target_inode r is) ∙ same ∙ moved);
     alone = λ r x l is names.
         can.alone r x l is
-        (names-back old mid can.well_formed shape.meaning (inumber_at old move.to_dir r) x l (replaced_reached old move r can is)
+        (names-back old mid can.well_formed shape.meaning (ino_at old move.to_dir r) x l (replaced_reached old move r can is)
         (subst (λ u. EntryNames mid u x l) (target_inode r is) names));
   }
 

@@ -1,7 +1,7 @@
 -- Preconditions of a rename, and the change that it is.
 use Rattle.std.specs.Prelude.{◌≡◌, ◌≢◌, ℕ, ◌==◌, length, Option, None, Some, if◌then◌else◌}
 use Rattle.bp_changes.specs.Effects.{IsAtOrBelow}
-use Rattle.bp_layout.specs.Directory.{EntryNames, empty_slot, inumber_at, slot_named}
+use Rattle.bp_layout.specs.Directory.{EntryNames, empty_slot, ino_at, slot_named}
 use Rattle.bp_layout.specs.Paths.{IsName}
 use Rattle.bp_layout.specs.Inode.{IsDirectory}
 use Rattle.bp_layout.specs.Need.{Change}
@@ -13,7 +13,7 @@ use Rattle.bp_rename.specs.declared.moves.Move.{Move}
 
 -- The inode that moves.
 abbrev pub moved_inode : Image → Move → ℕ
-moved_inode image move = inumber_at image move.from_dir move.from_slot
+moved_inode image move = ino_at image move.from_dir move.from_slot
 
 -- The image is well formed. The entry refers to an inode, and the new directory is neither that inode nor below it, so
 -- no inode becomes unreachable. If an entry has the new name, it refers to another inode, which is a file or an empty
@@ -21,15 +21,15 @@ moved_inode image move = inumber_at image move.from_dir move.from_slot
 pub record CanRename (image : Image) (move : Move) : Type 0 where
   pub well_formed : IsWellFormed image
   pub source : IsReached image move.from_dir
-  pub entry : EntryNames image move.from_dir move.from_slot (inumber_at image move.from_dir move.from_slot)
+  pub entry : EntryNames image move.from_dir move.from_slot (ino_at image move.from_dir move.from_slot)
   pub target : IsReached image move.to_dir
   pub directory : IsDirectory image move.to_dir
-  pub outside : IsAtOrBelow image (inumber_at image move.from_dir move.from_slot) move.to_dir → ⊥
+  pub outside : IsAtOrBelow image (ino_at image move.from_dir move.from_slot) move.to_dir → ⊥
   pub name : IsName move.name.now
   pub slot : slot_named image move.to_dir move.name.now ≡ move.to_slot
   pub apart : (r : ℕ) → move.to_slot ≡ Some r →
-      inumber_at image move.to_dir r ≢ inumber_at image move.from_dir move.from_slot
-  pub alone : (r x l : ℕ) → move.to_slot ≡ Some r → EntryNames image (inumber_at image move.to_dir r) x l → ⊥
+      ino_at image move.to_dir r ≢ ino_at image move.from_dir move.from_slot
+  pub alone : (r x l : ℕ) → move.to_slot ≡ Some r → EntryNames image (ino_at image move.to_dir r) x l → ⊥
 
 -- The change of a move: onto the entry that has the new name, if any; else within the directory, or to another
 -- directory.

@@ -3,7 +3,7 @@ use Rattle.std.specs.Prelude.{◌≡◌, ◌≢◌, ℕ, [], ◌∷◌, ◌++◌
 use Rattle.bp_calls.specs.Removed.{IsFoundAt}
 use Rattle.bp_changes.specs.Effects.{CanUnlink}
 use Rattle.bp_layout.specs.Paths.{rest_below, IsName, Name, Path}
-use Rattle.bp_layout.specs.Directory.{inumber_at, name_at, slot_named}
+use Rattle.bp_layout.specs.Directory.{ino_at, name_at, slot_named}
 use Rattle.bp_layout.specs.Inode.{IsDirectory}
 use Rattle.bp_layout.specs.Lookup.{lookup}
 use Rattle.bp_layout.specs.Words.{Image}
@@ -29,8 +29,8 @@ pub record IsFoundTarget (image : Image) (source to : Path) (move : Move) : Type
   pub outside : rest_below source to ≡ None
   pub name : IsName move.name.now
   pub slot : slot_named image move.to_dir move.name.now ≡ move.to_slot
-  pub apart : (r : ℕ) → move.to_slot ≡ Some r → inumber_at image move.to_dir r ≢ moved_inode image move
-  pub leaves : (r : ℕ) → move.to_slot ≡ Some r → CanUnlink image move.to_dir r (inumber_at image move.to_dir r)
+  pub apart : (r : ℕ) → move.to_slot ≡ Some r → ino_at image move.to_dir r ≢ moved_inode image move
+  pub leaves : (r : ℕ) → move.to_slot ≡ Some r → CanUnlink image move.to_dir r (ino_at image move.to_dir r)
 
 -- A path finds the entry that moves, by its name, and another path finds the new directory.
 pub record IsFoundMove (image : Image) (move : Move) : Type 0 where

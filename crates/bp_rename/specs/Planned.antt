@@ -20,7 +20,7 @@ use Rattle.pm_region.specs.Memory.{Memory, current_words}
 use Rattle.bp_rename.specs.CanRename.{CanRename, change_of, moved_inode}
 use Rattle.bp_rename.specs.RenamesEntry.{RenamesEntry}
 use Rattle.bp_rename.specs.Respelled.{TouchesName}
-use Rattle.bp_rename.specs.TouchesTwo.{AnyTree, AreTwo, OtherTree, TouchesTwo, inumber_path, size_path}
+use Rattle.bp_rename.specs.TouchesTwo.{AnyTree, AreTwo, OtherTree, TouchesTwo, ino_path, size_path}
 use Rattle.bp_rename.specs.declared.moves.Move.{Move}
 
 -- What each kind of rename touches: the words of the new name, or two words.
@@ -29,31 +29,31 @@ TouchesWithin image move touched = TouchesName image move.from_dir move.from_slo
 
 abbrev pub TouchesOnto : Image → Move → ℕ → Touched → Type 0
 TouchesOnto image move slot touched =
-    TouchesTwo image AnyTree touched (inumber_path image move.from_dir move.from_slot)
-    (inumber_path image move.to_dir slot) 0 (moved_inode image move)
+    TouchesTwo image AnyTree touched (ino_path image move.from_dir move.from_slot)
+    (ino_path image move.to_dir slot) 0 (moved_inode image move)
 
 abbrev pub TouchesInto : Image → Move → ℕ → Touched → Type 0
 TouchesInto image move slot touched =
-    TouchesTwo image AnyTree touched (inumber_path image move.to_dir slot)
-    (inumber_path image move.from_dir move.from_slot) (moved_inode image move) 0
+    TouchesTwo image AnyTree touched (ino_path image move.to_dir slot)
+    (ino_path image move.from_dir move.from_slot) (moved_inode image move) 0
 
 abbrev pub TouchesPastEnd : Image → Move → Touched → Type 0
 TouchesPastEnd image move touched =
     TouchesTwo image (OtherTree move.to_dir) touched (size_path image move.to_dir)
-    (inumber_path image move.from_dir move.from_slot) (size_of image move.to_dir + entry_size) 0
+    (ino_path image move.from_dir move.from_slot) (size_of image move.to_dir + entry_size) 0
 
 -- The two touched words of each kind of rename, with their new values.
 abbrev pub AreWordsOnto : Image → Move → ℕ → List (ArrayVec ℕ × ℕ) → Type 0
-AreWordsOnto image move slot words = AreTwo words (inumber_path image move.from_dir move.from_slot)
-    (inumber_path image move.to_dir slot) 0 (moved_inode image move)
+AreWordsOnto image move slot words = AreTwo words (ino_path image move.from_dir move.from_slot)
+    (ino_path image move.to_dir slot) 0 (moved_inode image move)
 
 abbrev pub AreWordsInto : Image → Move → ℕ → List (ArrayVec ℕ × ℕ) → Type 0
-AreWordsInto image move slot words = AreTwo words (inumber_path image move.to_dir slot)
-    (inumber_path image move.from_dir move.from_slot) (moved_inode image move) 0
+AreWordsInto image move slot words = AreTwo words (ino_path image move.to_dir slot)
+    (ino_path image move.from_dir move.from_slot) (moved_inode image move) 0
 
 abbrev pub AreWordsPastEnd : Image → Move → List (ArrayVec ℕ × ℕ) → Type 0
 AreWordsPastEnd image move words = AreTwo words (size_path image move.to_dir)
-    (inumber_path image move.from_dir move.from_slot) (size_of image move.to_dir + entry_size) 0
+    (ino_path image move.from_dir move.from_slot) (size_of image move.to_dir + entry_size) 0
 
 -- The cover of the touched words is that of the rename. The paths to them lead inside the image, and still do after a
 -- thaw.

@@ -14,8 +14,8 @@ use Rattle.bp_changes.specs.Forest.{root_trail}
 use Rattle.bp_changes.specs.Trail.{trail_of}
 
 -- The path of the inode number of an entry.
-abbrev pub inumber_path : Image → ℕ → ℕ → WordPath
-inumber_path image i slot =
+abbrev pub ino_path : Image → ℕ → ℕ → WordPath
+ino_path image i slot =
     tree_path (height_of (root_of image 0)) i (suc (height_of (root_of image i))) (entry_words * slot + 0)
 
 -- The path of the size word of an inode.

@@ -19,8 +19,8 @@ use crate::touched_words::{touched_two, trees_of_both};
 use bp_calls::entry_path;
 use bp_cow::{FoundWays, Touched, commit_at};
 use bp_free::{NoSpace, Parts};
-use bp_layout::INUMBER_WORD;
-use bp_read::directory::{entry_place, inumber};
+use bp_layout::INO_WORD;
+use bp_read::directory::{entry_ino, entry_place};
 use bp_read::inodes::tree_of;
 use bp_read::{Slots, put_name};
 use pm_region::Region;
@@ -33,7 +33,7 @@ fn words_into<R: Region>(region: &R, to_move: &Move<'_>, slot: u64) -> [(Slots, 
     ensures { AreWordsInto (words_in R.memory region.now) to_move.now slot result }
 {
     let source = tree_of(region, to_move.from_dir);
-    let inode = inumber(region, source, to_move.from_slot);
+    let inode = entry_ino(region, source, to_move.from_slot);
     let entered = entry_path(region, to_move.to_dir, slot);
     let emptied = entry_path(region, to_move.from_dir, to_move.from_slot);
     [(entered, inode), (emptied, 0)]
@@ -59,7 +59,7 @@ fn move_into<R: Region>(
     ensures { CommitsChange R.memory parts.old parts.new (change_across to_move.now) (RenamesEntry to_move.now) }
 {
     let target = tree_of(&parts.region, to_move.to_dir);
-    let entry = entry_place(&parts.region, target, slot, INUMBER_WORD);
+    let entry = entry_place(&parts.region, target, slot, INO_WORD);
     put_name(&mut parts.region, entry, to_move.name);
     // The store of `commit_at` has a barrier before it anyway. But its contract on crashes starts from the words that
     // it finds, so all stores before it are written back first.

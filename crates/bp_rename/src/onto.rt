@@ -18,7 +18,7 @@ use crate::touched_words::{touched_two, trees_of_both};
 use bp_calls::{entry_path, free_tree};
 use bp_cow::{FoundWays, Touched, commit_at};
 use bp_free::{NoSpace, Parts};
-use bp_read::directory::inumber;
+use bp_read::directory::entry_ino;
 use bp_read::inodes::{get, tree_of};
 use bp_read::{Slots, Tree};
 use pm_region::Region;
@@ -31,7 +31,7 @@ fn words_onto<R: Region>(region: &R, to_move: &Move<'_>, slot: u64) -> [(Slots, 
     ensures { AreWordsOnto (words_in R.memory region.now) to_move.now slot result }
 {
     let source = tree_of(region, to_move.from_dir);
-    let inode = inumber(region, source, to_move.from_slot);
+    let inode = entry_ino(region, source, to_move.from_slot);
     let emptied = entry_path(region, to_move.from_dir, to_move.from_slot);
     let entered = entry_path(region, to_move.to_dir, slot);
     [(emptied, 0), (entered, inode)]
@@ -56,7 +56,7 @@ fn move_onto<R: Region>(
     ensures { CommitsChange R.memory parts.old parts.new (change_onto to_move.now slot) (MovesOnto to_move.now slot) }
 {
     let target = tree_of(&parts.region, to_move.to_dir);
-    let replaced = inumber(&parts.region, target, slot) as u32;
+    let replaced = entry_ino(&parts.region, target, slot) as u32;
     let names = parts.link_counts.names(replaced) - 1;
     parts.link_counts.set(replaced, names);
     commit_at(parts, touched, found);

@@ -22,7 +22,7 @@ use bp_cow::{FoundWays, Touched, commit_at};
 use bp_free::{NoSpace, Parts};
 use bp_limits::ENTRY_SIZE;
 use bp_read::Slots;
-use bp_read::directory::inumber;
+use bp_read::directory::entry_ino;
 use bp_read::inodes::{size_path, tree_of};
 use pm_region::Region;
 
@@ -58,7 +58,7 @@ fn move_past_end<R: Region>(
     ensures { CommitsChange R.memory parts.old parts.new (change_across to_move.now) (RenamesEntry to_move.now) }
 {
     let source = tree_of(&parts.region, to_move.from_dir);
-    let ino = inumber(&parts.region, source, to_move.from_slot) as u32;
+    let ino = entry_ino(&parts.region, source, to_move.from_slot) as u32;
     let target = tree_of(&parts.region, to_move.to_dir);
     append_entry(parts, to_move.to_dir, target, ino, to_move.name);
     commit_at(parts, touched, found);

@@ -20,7 +20,7 @@ use std::process::Abort;
 
 /// The entry that `/d/f` finds in the image [`DEEP`].
 const FILE: FoundEntry = FoundEntry {
-    inumber: 3,
+    ino: 3,
     dir: 2,
     slot: 0,
 };

@@ -11,10 +11,7 @@ fn names_are_found_by_an_index(rt: HostRuntime) -> Result<(), Fail> {
     let region = sample(rt.alloc(), (2, 0x6261), (1, 0x7863))?;
     let made = Index::of(rt.alloc(), &region, TREE);
     let mut index = made.expect(&rt, "each name has a hash of its own");
-    let first = Found {
-        slot: 0,
-        inumber: 2,
-    };
+    let first = Found { slot: 0, ino: 2 };
     assert_eq!(rt; index.find_entry(&region, TREE, b"ab"), Some(first));
     assert_eq!(rt; index.find_entry(&region, TREE, b"a"), None);
     assert_eq!(rt; index.find_or_free(&region, TREE, b"c"), Spot::Named(1));

@@ -1,7 +1,7 @@
 //! Words of the format, and their meaning. The values were computed independently.
 
 use bp_layout::{
-    BadPointer, Entry, INUMBER_WORD, Inode, Kind, LENGTH_WORD, Listing, NAME_WORD, Name, RootWord,
+    BadPointer, Entry, INO_WORD, Inode, Kind, LENGTH_WORD, Listing, NAME_WORD, Name, RootWord,
     Super, name_word, pointer, pointer_word,
 };
 use bp_limits::Version;
@@ -73,12 +73,12 @@ fn records_are_read_and_written(rt: HostRuntime) {
 #[test]
 fn entries_are_read_and_written(rt: HostRuntime) {
     let mut words = [0; 32];
-    words[INUMBER_WORD as usize] = 2;
+    words[INO_WORD as usize] = 2;
     words[LENGTH_WORD as usize] = 9;
     words[NAME_WORD as usize] = 0x6867_6665_6463_6261;
     words[NAME_WORD as usize + 1] = 0xffff_ff69;
     let entry = Entry::read(&words);
-    assert_eq!(rt; entry.inumber, 2);
+    assert_eq!(rt; entry.ino, 2);
     assert_eq!(rt; entry.name.as_slice(), b"abcdefghi".as_slice());
     let back = entry.words();
     assert_eq!(rt; back[NAME_WORD as usize], 0x6867_6665_6463_6261);

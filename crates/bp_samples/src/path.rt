@@ -28,7 +28,7 @@ fn leads_to_the_root(rt: HostRuntime) {
     let path = parse(b"/").expect(&rt, "it is a path");
     assert!(rt; path.is_root());
     let root = FoundEntry {
-        inumber: 1,
+        ino: 1,
         dir: 0,
         slot: 0,
     };

@@ -47,7 +47,7 @@ const DAMAGES: [Damage; 27] = [
     ),
     (&[(521, 0)], Check::Hole, 521),
     (&[(3, 4000)], Check::InodeFileSize, 3),
-    (&[(1024, 64)], Check::Inumber, 1024),
+    (&[(1024, 64)], Check::InodeNumber, 1024),
     (&[(1056, 1)], Check::InodeTwice, 1056),
     (&[(528, 2), (1056, 2)], Check::InodeTwice, 1056),
     (&[(528, 3)], Check::Kind, 528),

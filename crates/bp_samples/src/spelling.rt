@@ -107,7 +107,7 @@ fn names_of_a_wrong_form(rt: HostRuntime) -> Result<(), Fail> {
 fn an_entry_is_read(rt: HostRuntime) -> Result<(), Fail> {
     let region = sample(rt.alloc(), (2, 0x6261), (1, 0x7863))?;
     let second = entry(&region, TREE, 1).expect(&rt, "its block is there");
-    assert_eq!(rt; second.inumber(), 3);
+    assert_eq!(rt; second.ino(), 3);
     assert_eq!(rt; second.name_len(), 1);
     let mut name = [0; MAX_NAME];
     assert_eq!(rt; second.read_name(&mut name), b"c".as_slice());

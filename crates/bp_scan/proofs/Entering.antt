@@ -165,7 +165,7 @@ enter image E D all old new t holes scanned found inode which tree = record {
       (take_both image _ _ all old new scanned.takes tree.takes);
   kinds = λ i e. kinds_all i e;
   sizes = λ i e. sizes_all i e;
-  inumbers = scanned.inumbers;
+  inos = scanned.inos;
   not_root = scanned.not_root;
   forms = scanned.forms;
   enters = λ i s j d names. inl (scanned.enters i s j d names);
@@ -211,7 +211,7 @@ nothing_seen image all = record {
   takes = take_same image (λ p. ⊥) (IsSeen image (λ t. ⊥)) all all (λ p never. absurd never) (λ p s. s.entered) (take_none image all);
   kinds = λ i e. absurd e;
   sizes = λ i e. absurd e;
-  inumbers = λ i s j d. absurd d;
+  inos = λ i s j d. absurd d;
   not_root = λ i s j d. absurd d;
   forms = λ i s j d. absurd d;
   enters = λ i s j d. absurd d;
@@ -231,7 +231,7 @@ pass_entry image E D all left i s scanned entry once names = record {
   takes = scanned.takes;
   kinds = scanned.kinds;
   sizes = scanned.sizes;
-  inumbers = λ k r j d n. low k r j d n;
+  inos = λ k r j d n. low k r j d n;
   not_root = λ k r j d n. not_one k r j d n;
   forms = λ k r j d n. form k r j d n;
   enters = λ k r j d n. into k r j d n;
@@ -243,7 +243,7 @@ pass_entry image E D all left i s scanned entry once names = record {
     moved k r j at n = subst (λ (x : ℕ). EntryNames image i x j) at.1 (subst (λ (x : ℕ). EntryNames image x r j) at.0 n)
 
     low : (k r j : ℕ) → D k r ⊎ ((k ≡ i) × (r ≡ s)) → EntryNames image k r j → j < inode_count image
-    low k r j (inl d) n = scanned.inumbers k r j d n
+    low k r j (inl d) n = scanned.inos k r j d n
     low k r j (inr at) n = (entry j (moved k r j at n)).0
 
     not_one : (k r j : ℕ) → D k r ⊎ ((k ≡ i) × (r ≡ s)) → EntryNames image k r j → j ≢ 1

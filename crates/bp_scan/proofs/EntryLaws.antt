@@ -8,10 +8,10 @@ use Rattle.bp_free.proofs.Members.{has_with_same, has_with_other, count_with, co
 use Rattle.bp_layout.specs.Words.{Image, block_count, height_of}
 use Rattle.bp_layout.specs.Tree.{node, IsSound, IsFull}
 use Rattle.bp_layout.specs.Inode.{kind_of, root_of, size_of, inode_count}
-use Rattle.bp_layout.specs.Directory.{EntryNames, inumber_at, inumber_in}
+use Rattle.bp_layout.specs.Directory.{EntryNames, ino_at, ino_in}
 use Rattle.bp_layout.specs.Checks.{Fails, entry_place}
 use Rattle.bp_layout.specs.declared.check.Check.{Check}
-use Rattle.bp_layout.specs.declared.check.Check.TheVariants.{InodeTwice, Inumber}
+use Rattle.bp_layout.specs.declared.check.Check.TheVariants.{InodeTwice, InodeNumber}
 use Rattle.bp_spelling.specs.Names.{AreNames, AreNumbers, IsUsed, in_32_bits}
 use Rattle.bp_walk.proofs.TakenLaws.{known, clash, has_less}
 use Rattle.bp_scan.specs.Counted.{HasCounted, IsCountable}
@@ -58,15 +58,15 @@ module _ (image : Image) (work : Scan) (directory : Directory) (slot : ℕ) (ins
       let few : inode_count image + 64 ≤ 64 * block_count image = inodes_fewer image work d slot reading in
       countable image work.inodes (inode_count image) work.totals (omega (arith, few, reading.ready.formatted.sized.at_most)) reading.counted
 
-  module _ (live : slot < directory.tree.size / 256) (j : ℕ) (named : j ≡ inumber_in image directory.tree.root slot) where
-    here : inumber_at image d slot ≡ j
-    here = ap (λ (x : ℕ). inumber_in image x slot) inside.root ∙ sym named
+  module _ (live : slot < directory.tree.size / 256) (j : ℕ) (named : j ≡ ino_in image directory.tree.root slot) where
+    here : ino_at image d slot ≡ j
+    here = ap (λ (x : ℕ). ino_in image x slot) inside.root ∙ sym named
 
     in_size : slot < size_of image d / 256
     in_size = subst (λ (x : ℕ). slot < x / 256) (sym inside.size) live
 
     entry_names : j ≢ 0 → EntryNames image d slot j
-    entry_names some = record { directory = inside.at.kind; in_size = in_size; inumber = here; not_empty = some }
+    entry_names some = record { directory = inside.at.kind; in_size = in_size; ino = here; not_empty = some }
 
     stands : (p : ℕ) → p ≡ 512 * node image directory.tree.root (height_of directory.tree.root) ((32 * slot + 0) / 512) + (32 * slot + 0) % 512 → entry_place image d slot 0 ≡ p
     stands p at = ap (λ (x : ℕ). 512 * node image x (height_of x) ((32 * slot + 0) / 512) + (32 * slot + 0) % 512) inside.root ∙ sym at
@@ -101,7 +101,7 @@ module _ (image : Image) (work : Scan) (directory : Directory) (slot : ℕ) (ins
         omega (arith, is, low, few, reading.ready.formatted.sized.at_most)
 
     module _ (some : j ≢ 0) where
-      pub fails_high : (p : ℕ) → p ≡ 512 * node image directory.tree.root (height_of directory.tree.root) ((32 * slot + 0) / 512) + (32 * slot + 0) % 512 → inode_count image ≤ j → Fails image Inumber p
+      pub fails_high : (p : ℕ) → p ≡ 512 * node image directory.tree.root (height_of directory.tree.root) ((32 * slot + 0) / 512) + (32 * slot + 0) % 512 → inode_count image ≤ j → Fails image InodeNumber p
       fails_high p at high = too_high image work d slot reading inside.at.entered inside.at.kind slot j p (entry_names some) (stands p at) high
 
       module _ (low : j < inode_count image) where
@@ -173,7 +173,7 @@ module _ (image : Image) (work : Scan) (directory : Directory) (slot : ℕ) (ins
             two = omega (arith, some, no_root)
 
             used : (r k : ℕ) → EntryNames image d r k → IsUsed image (root_of image d) (size_of image d) r
-            used r k n = record { live = n.in_size; some = λ null. n.not_empty (sym n.inumber ∙ null) }
+            used r k n = record { live = n.in_size; some = λ null. n.not_empty (sym n.ino ∙ null) }
 
         pub fails_in_inode : has work.inodes j ≡ true → (c : Check) (p : ℕ) → FailsInode image j work.blocks c p → Fails image c p
         fails_in_inode new c p fails =
@@ -209,7 +209,7 @@ module _ (image : Image) (work : Scan) (directory : Directory) (slot : ℕ) (ins
               go there (inr other) = absurd (clash there (ap (λ (s : Set). has s j) (enters.file other) ∙ not_to_do))
 
           used : (r k : ℕ) → EntryNames image d r k → IsUsed image (root_of image d) (size_of image d) r
-          used r k n = record { live = n.in_size; some = λ null. n.not_empty (sym n.inumber ∙ null) }
+          used r k n = record { live = n.in_size; some = λ null. n.not_empty (sym n.ino ∙ null) }
 
           which : (j ≡ 0) ⊎ (kind_of image j ≡ 2) → enters.holes ≡ false
           which (inl none) = absurd (some none)

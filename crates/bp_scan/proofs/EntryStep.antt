@@ -43,7 +43,7 @@ module _ (image : Image) (all old new inodes todo later : Set) (current slot j :
       (inode_found image (IsEntered image inodes) (IsDone image inodes todo current slot) all old some first state.scanned current slot j here names low) inode which tree
 
   same_named : (k : ℕ) → EntryNames image current slot k → k ≡ j
-  same_named k n = sym n.inumber ∙ names.inumber
+  same_named k n = sym n.ino ∙ names.ino
 
   slot_before : (r : ℕ) → IsDone image inodes todo current slot current r → r < slot
   slot_before r (inl d) = absurd (d.3 refl)
@@ -110,7 +110,7 @@ module _ (image : Image) (all blocks inodes todo : Set) (current slot j : ℕ) (
   PassedAgain k r = IsDone image inodes todo current slot k r ⊎ ((k ≡ current) × (r ≡ slot))
 
   named_again : (k : ℕ) → EntryNames image current slot k → k ≡ j
-  named_again k n = sym n.inumber ∙ names.inumber
+  named_again k n = sym n.ino ∙ names.ino
 
   before_again : (r : ℕ) → IsDone image inodes todo current slot current r → r < slot
   before_again r (inl d) = absurd (d.3 refl)

@@ -6,7 +6,7 @@ use Rattle.bp_layout.specs.Tree.{node, covered}
 use Rattle.bp_layout.specs.Inode.{kind_of, root_of, size_of, inode_count}
 use Rattle.bp_layout.specs.Checks.{IsFound, IsPointer, Fails, Passes, pointer_place}
 use Rattle.bp_layout.specs.Checks.IsFound.{inode_file, root_directory, named}
-use Rattle.bp_layout.specs.Checks.Fails.{height, root_bits, pointer_bits, range, twice, hole, inode_file_size, inumber, root_named, inode_twice, kind, root_kind, directory_size, capacity, name_form, name_twice}
+use Rattle.bp_layout.specs.Checks.Fails.{height, root_bits, pointer_bits, range, twice, hole, inode_file_size, ino, root_named, inode_twice, kind, root_kind, directory_size, capacity, name_form, name_twice}
 use Rattle.bp_layout.specs.declared.check.Check.{Check}
 use Rattle.bp_layout.proofs.ChecksLaws.{same_entry, found_reached}
 use Rattle.bp_layout.specs.Checks.{NoneFails}
@@ -57,8 +57,8 @@ module _ (image : Image) (E : ℕ → Type 0) (D : ℕ → ℕ → Type 0) (star
   none _ _ (hole {t = t} {d = d} {k = k} at which null) = (scanned.checked t (found_entered t at.found)).full which d k at.live at.followed null
   none _ _ (inode_file_size (inl odd)) = odd done.blocks
   none _ _ (inode_file_size (inr small)) = let some : 4096 ≤ size_of image 0 = done.some in omega (arith, some, small)
-  none _ _ (inumber {i = i} {s = s} {j = j} at high) =
-      let low : j < inode_count image = scanned.inumbers i s j (done.slots i s j (found_entered i at.found) at.names) at.names in omega (arith, low, high)
+  none _ _ (ino {i = i} {s = s} {j = j} at high) =
+      let low : j < inode_count image = scanned.inos i s j (done.slots i s j (found_entered i at.found) at.names) at.names in omega (arith, low, high)
   none _ _ (root_named {i = i} {s = s} at) = scanned.not_root i s 1 (done.slots i s 1 (found_entered i at.found) at.names) at.names refl
   none _ _ (inode_twice {i = i} {s = s} {j = j} {k = k} {r = r} at also other found directory) =
       other (sym at.at ∙ scanned.named_once i s k r j (done.slots i s j (found_entered i at.found) at.names) (done.slots k r j (found_entered k also.found) also.names) at.names also.names directory ∙ also.at)

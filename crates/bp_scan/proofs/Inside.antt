@@ -4,11 +4,11 @@ use Rattle.bp_free.specs.Set.{has}
 use Rattle.bp_layout.specs.Words.{Image, block_count}
 use Rattle.bp_layout.specs.Tree.{IsSound, IsFull}
 use Rattle.bp_layout.specs.Inode.{kind_of, root_of, size_of, inode_count}
-use Rattle.bp_layout.specs.Directory.{EntryNames, inumber_at}
+use Rattle.bp_layout.specs.Directory.{EntryNames, ino_at}
 use Rattle.bp_layout.specs.Checks.{IsFound, IsEntry, Fails, entry_place}
-use Rattle.bp_layout.specs.Checks.Fails.{inumber, root_named, name_form, name_twice}
+use Rattle.bp_layout.specs.Checks.Fails.{ino, root_named, name_form, name_twice}
 use Rattle.bp_layout.specs.declared.check.Check.{Check}
-use Rattle.bp_layout.specs.declared.check.Check.TheVariants.{InodeTwice, Inumber}
+use Rattle.bp_layout.specs.declared.check.Check.TheVariants.{InodeTwice, InodeNumber}
 use Rattle.bp_spelling.specs.Names.{IsUsed, AreWrong}
 use Rattle.bp_spelling.specs.Names.AreWrong.{form, twice}
 use Rattle.bp_spelling.specs.declared.fault.NameFault.{NameFault}
@@ -84,8 +84,8 @@ module _ (image : Image) (work : Scan) (current slot : ℕ) (reading : IsReading
     here_entry : (r j p : ℕ) → EntryNames image current r j → entry_place image current r 0 ≡ p → IsEntry image current r j p
     here_entry r j p names at = subst (IsEntry image current r j) at (entry_seen image E D reading.midway.all work.blocks reading.ready.some_inodes first scanned current r j entered names)
 
-    pub too_high : (r j p : ℕ) → EntryNames image current r j → entry_place image current r 0 ≡ p → inode_count image ≤ j → Fails image Inumber p
-    too_high r j p names at high = inumber (here_entry r j p names at) high
+    pub too_high : (r j p : ℕ) → EntryNames image current r j → entry_place image current r 0 ≡ p → inode_count image ≤ j → Fails image InodeNumber p
+    too_high r j p names at high = ino (here_entry r j p names at) high
 
     -- another entry named it, or it is the root
     pub not_new : (j p : ℕ) → EntryNames image current slot j → entry_place image current slot 0 ≡ p → j < inode_count image → has work.inodes j ≡ false → kind_of image j ≡ 2 → Fails image InodeTwice p
@@ -103,8 +103,8 @@ module _ (image : Image) (work : Scan) (current slot : ℕ) (reading : IsReading
                 named_before image E D reading.midway.all work.blocks reading.ready.some_inodes first scanned current slot n.directory n.entry (suc (suc j)) entered (subst (IsEntered image work.inodes) (sym d.0) entered) names n.names (scanned.found (suc (suc j)) (low, gone)) kind_is
                 (λ same other. omega (arith, other, d.1))
 
-    used_names : (r : ℕ) → IsUsed image (root_of image current) (size_of image current) r → EntryNames image current r (inumber_at image current r)
-    used_names r used = record { directory = kind; in_size = used.live; inumber = refl; not_empty = used.some }
+    used_names : (r : ℕ) → IsUsed image (root_of image current) (size_of image current) r → EntryNames image current r (ino_at image current r)
+    used_names r used = record { directory = kind; in_size = used.live; ino = refl; not_empty = used.some }
 
     fault_fails : (fault : NameFault) → AreWrong image (root_of image current) (size_of image current) fault → Fails image (check_of fault) (fault_place fault)
     fault_fails _ (form {slot = r} used bad) = name_form (here_entry r _ _ (used_names r used) refl) bad

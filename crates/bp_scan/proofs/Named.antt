@@ -76,7 +76,7 @@ module _ (image : Image) (D G : ℕ → ℕ → Type 0) where
       where
         go : (l r : ℕ) → EntryNames image l r k → D l r ⊎ ((l ≡ i) × (r ≡ s)) → D l r
         go l r n (inl d) = d
-        go l r n (inr at) = absurd (other (sym (subst (λ (x : ℕ). EntryNames image i x k) at.1 (subst (λ (x : ℕ). EntryNames image x r k) at.0 n)).inumber ∙ names.inumber))
+        go l r n (inr at) = absurd (other (sym (subst (λ (x : ℕ). EntryNames image i x k) at.1 (subst (λ (x : ℕ). EntryNames image x r k) at.0 n)).ino ∙ names.ino))
 
     counts_set : (value : ℕ) → (j < length counts → HasAmong image G j value) → CountsAmong image G (set counts j value)
     counts_set value has = record { each = λ k low. at k (rw (length-set counts j value) at low) (cases_eq k j) }

@@ -4,7 +4,7 @@ use Rattle.std.proofs.lemmas.Bool.{cases_eq, cases_lt}
 use Rattle.bp_free.specs.Set.{Set, has, without}
 use Rattle.bp_layout.specs.Words.{Image}
 use Rattle.bp_layout.specs.Inode.{kind_of, size_of, inode_count}
-use Rattle.bp_layout.specs.Directory.{EntryNames, inumber_at}
+use Rattle.bp_layout.specs.Directory.{EntryNames, ino_at}
 use Rattle.bp_scan.specs.Scanned.{IsSeen, IsScanned, IsAll}
 use Rattle.bp_scan.specs.Progress.{IsEntered, IsDone, NamedBy, IsUnderWay}
 use Rattle.bp_scan.specs.Named.{CountsAmong}
@@ -21,7 +21,7 @@ same_scan image E F D G all left there back less scanned = record {
       (λ p s. record { tree = s.tree; depth = s.depth; index = s.index; entered = back s.tree s.entered; pointer = s.pointer }) scanned.takes;
   kinds = λ i f. scanned.kinds i (back (suc i) f);
   sizes = λ i f. scanned.sizes i (back i f);
-  inumbers = λ i s j d n. scanned.inumbers i s j (less i s j n d) n;
+  inos = λ i s j d n. scanned.inos i s j (less i s j n d) n;
   not_root = λ i s j d n. scanned.not_root i s j (less i s j n d) n;
   forms = λ i s j d n. scanned.forms i s j (less i s j n d) n;
   enters = λ i s j d n. there j (scanned.enters i s j (less i s j n d) n);
@@ -85,7 +85,7 @@ keep : (image : Image) (inodes todo later : Set) (one two slot count : ℕ) → 
 keep image inodes todo later one two slot count there j n = record { directory = n.directory; entry = n.entry; done = there n.directory n.entry n.done; names = n.names }
 
 -- an empty entry is passed
-module _ (image : Image) (inodes todo : Set) (current slot : ℕ) (empty : inumber_at image current slot ≡ 0) where
+module _ (image : Image) (inodes todo : Set) (current slot : ℕ) (empty : ino_at image current slot ≡ 0) where
   slot_more : (i s : ℕ) → IsDone image inodes todo current slot i s → IsDone image inodes todo current (slot + 1) i s
   slot_more i s (inl d) = inl d
   slot_more i s (inr d) = inr (d.0, omega (arith, d.1))
@@ -98,7 +98,7 @@ module _ (image : Image) (inodes todo : Set) (current slot : ℕ) (empty : inumb
       go (inl low) = inr (d.0, low)
       go (inr high) =
           let same : s ≡ slot = omega (arith, d.1, high) in
-          absurd (n.not_empty (sym n.inumber ∙ ap (λ (x : ℕ). inumber_at image x s) d.0 ∙ ap (inumber_at image current) same ∙ empty))
+          absurd (n.not_empty (sym n.ino ∙ ap (λ (x : ℕ). ino_at image x s) d.0 ∙ ap (ino_at image current) same ∙ empty))
 
   pub empty_step : (all blocks : Set) → IsUnderWay image all blocks inodes todo current slot → IsUnderWay image all blocks inodes todo current (slot + 1)
   empty_step all blocks state = record {

@@ -1,7 +1,7 @@
 -- What a scan finds when it enters an inode.
 use Rattle.std.specs.Prelude.{length, Bool, false, ◌≡◌, ◌≢◌, ℕ, ◌+◌, ◌%◌, ◌<◌, ◌≤◌}
 use Rattle.bp_free.specs.Set.{Set, with}
-use Rattle.bp_limits.specs.Limits.{root_inumber, file_kind, directory_kind, entry_size}
+use Rattle.bp_limits.specs.Limits.{root_ino, file_kind, directory_kind, entry_size}
 use Rattle.bp_layout.specs.Words.{Image, word}
 use Rattle.bp_layout.specs.Inode.{IsDirectory, kind_of, root_of, size_of}
 use Rattle.bp_layout.specs.Checks.{inode_place, root_place, size_place}
@@ -28,13 +28,13 @@ pub record AreWords (image : Image) (i : ℕ) (words : InodeWords) : Type 0 wher
 pub record IsRightInode (i kind size : ℕ) : Type 0 where
   pub least : 1 ≤ kind
   pub most : kind ≤ 2
-  pub root : i ≡ root_inumber → kind ≡ directory_kind
+  pub root : i ≡ root_ino → kind ≡ directory_kind
   pub entries : kind ≡ directory_kind → size % entry_size ≡ 0
 
 -- A check that the words of an inode fail, given the place of the first word.
 pub data IsWrong (i kind size place : ℕ) : Check → ℕ → Type 0 where
   no_kind : kind ≢ file_kind → kind ≢ directory_kind → IsWrong i kind size place Kind place
-  root_file : i ≡ root_inumber → kind ≢ directory_kind → IsWrong i kind size place Kind place
+  root_file : i ≡ root_ino → kind ≢ directory_kind → IsWrong i kind size place Kind place
   part_of_entry : kind ≡ directory_kind → size % entry_size ≢ 0 → IsWrong i kind size place DirectorySize (place + 2)
 
 -- Inode `i` is right, its blocks are taken out of the set, it is counted, and it is marked to be read if it is a

@@ -1,7 +1,7 @@
 -- Properties that hold while the trees of an image are read.
 use Rattle.std.specs.Prelude.{length, replicate, true, false, ◌≡◌, ◌⊎◌, ℕ, ◌+◌, ◌*◌, ◌/◌, ◌%◌, ◌<◌, ◌≤◌, vec_len}
 use Rattle.bp_free.specs.Set.{Set, has, members, empty}
-use Rattle.bp_limits.specs.Limits.{block_size, block_inodes, entry_size, root_inumber}
+use Rattle.bp_limits.specs.Limits.{block_size, block_inodes, entry_size, root_ino}
 use Rattle.bp_layout.specs.Words.{Image, block_count}
 use Rattle.bp_layout.specs.Inode.{IsDirectory, inode_count, root_of, size_of}
 use Rattle.bp_layout.specs.Formatted.{IsFormatted}
@@ -38,7 +38,7 @@ pub record IsReading (image : Image) (work : Scan) (current slot : ℕ) : Type 0
   pub ready : HasWholeInodes image
   pub room : HasScanMemory image work
   pub range : (i : ℕ) → has work.inodes i ≡ true → (2 ≤ i) × (i < inode_count image)
-  pub root_kind : IsDirectory image root_inumber
+  pub root_kind : IsDirectory image root_ino
   pub midway : IsMidway image work.blocks work.inodes work.todo current slot
   pub counts : CountsAmong image (IsDone image work.inodes work.todo current slot) work.counts
   pub counted : HasCounted image work.inodes (inode_count image) work.totals

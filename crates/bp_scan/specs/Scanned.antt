@@ -1,7 +1,7 @@
 -- What a scan has found so far of an image.
 use Rattle.std.specs.Prelude.{length, Bool, true, false, ◌≡◌, ◌≢◌, ◌⊎◌, ℕ, suc, ◌%◌, ◌<◌, ◌≤◌}
 use Rattle.bp_free.specs.Set.{Set, has}
-use Rattle.bp_limits.specs.Limits.{block_size, root_inumber, entry_size}
+use Rattle.bp_limits.specs.Limits.{block_size, root_ino, entry_size}
 use Rattle.bp_layout.specs.Words.{Image, block_count, height_of}
 use Rattle.bp_layout.specs.Tree.{node, covered, IsLivePointer}
 use Rattle.bp_layout.specs.Inode.{IsDirectory, inode_count, kind_of, root_of, size_of}
@@ -36,8 +36,8 @@ pub record IsScanned (image : Image) (E : ℕ → Type 0) (D : ℕ → ℕ → T
   pub takes : Takes image (IsSeen image E) all left
   pub kinds : (i : ℕ) → E (suc i) → (1 ≤ kind_of image (suc i)) × (kind_of image (suc i) ≤ 2)
   pub sizes : (i : ℕ) → E i → IsDirectory image i → size_of image i % entry_size ≡ 0
-  pub inumbers : (i s j : ℕ) → D i s → EntryNames image i s j → j < inode_count image
-  pub not_root : (i s j : ℕ) → D i s → EntryNames image i s j → j ≢ root_inumber
+  pub inos : (i s j : ℕ) → D i s → EntryNames image i s j → j < inode_count image
+  pub not_root : (i s j : ℕ) → D i s → EntryNames image i s j → j ≢ root_ino
   pub forms : (i s j : ℕ) → D i s → EntryNames image i s j → IsName (name_at image i s)
   pub enters : (i s j : ℕ) → D i s → EntryNames image i s j → E j
   pub named_once : (i s k r j : ℕ) → D i s → D k r → EntryNames image i s j → EntryNames image k r j
@@ -50,8 +50,8 @@ pub record IsAll (image : Image) (E : ℕ → Type 0) (D : ℕ → ℕ → Type 
   pub blocks : size_of image 0 % block_size ≡ 0
   pub some : block_size ≤ size_of image 0
   pub inode_file : E 0
-  pub root : E root_inumber
-  pub directory : IsDirectory image root_inumber
+  pub root : E root_ino
+  pub directory : IsDirectory image root_ino
   pub slots : (i s j : ℕ) → E i → EntryNames image i s j → D i s
 
 -- The set has all blocks except the first.

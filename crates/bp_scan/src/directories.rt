@@ -4,7 +4,7 @@ ghost use Rattle.std.specs.Prelude.{◌≡◌, ◌≢◌, false, ◌+◌, ◌*�
 ghost use Rattle.bp_free.specs.Set.{has};
 ghost use Rattle.bp_layout.specs.Checks.{Fails};
 ghost use Rattle.bp_layout.specs.Inode.{inode_count};
-ghost use Rattle.bp_layout.specs.Directory.{inumber_in};
+ghost use Rattle.bp_layout.specs.Directory.{ino_in};
 ghost use Rattle.bp_layout.specs.Tree.{IsFull, IsSound};
 ghost use Rattle.bp_limits.specs.Limits.{block_words, entry_size, max_blocks};
 ghost use Rattle.bp_scan.specs.Reading.{IsReading, IsAtHand, IsInside, steps};
@@ -15,7 +15,7 @@ ghost use Rattle.pm_region.specs.Memory.{words_in};
 
 use crate::trees::enter;
 use crate::work::{Scan, make_numbers, make_room};
-use bp_layout::{Check, INUMBER_WORD, Kind};
+use bp_layout::{Check, INO_WORD, Kind};
 use bp_limits::{ENTRY_SIZE, INODE_SIZE};
 use bp_read::Tree;
 use bp_read::directory::entry_place;
@@ -52,7 +52,7 @@ fn entry_fault<R: Region>(region: &R, directory: Directory, slot: u64, check: Ch
 {
     CheckFault {
         check,
-        place: entry_place(region, directory.tree, slot, INUMBER_WORD),
+        place: entry_place(region, directory.tree, slot, INO_WORD),
     }
 }
 
@@ -65,7 +65,7 @@ fn read_again<R: Region>(
 ) -> Result<(), CheckFault>
     requires inside { IsInside (words_in R.memory region.now) work.old directory slot.number }
     requires live { slot.number < directory.tree.size / entry_size }
-    requires named { slot.named ≡ inumber_in (words_in R.memory region.now) directory.tree.root slot.number }
+    requires named { slot.named ≡ ino_in (words_in R.memory region.now) directory.tree.root slot.number }
     requires some { slot.named ≢ 0 }
     requires there { slot.named < inode_count (words_in R.memory region.now) }
     requires entered { has work.old.inodes slot.named ≡ false }
@@ -93,7 +93,7 @@ fn read_named<R: Region>(
 ) -> Result<(), CheckFault>
     requires inside { IsInside (words_in R.memory region.now) work.old directory slot.number }
     requires live { slot.number < directory.tree.size / entry_size }
-    requires named { slot.named ≡ inumber_in (words_in R.memory region.now) directory.tree.root slot.number }
+    requires named { slot.named ≡ ino_in (words_in R.memory region.now) directory.tree.root slot.number }
     requires some { slot.named ≢ 0 }
     requires there { slot.named < inode_count (words_in R.memory region.now) }
     ensures inside { OnOk result (IsInside (words_in R.memory region.now) work.new directory (slot.number + 1)) }
@@ -128,7 +128,7 @@ fn read_entry<R: Region>(
         return Ok(());
     }
     if u64::from(named) >= inode_file(region).size / INODE_SIZE {
-        return Err(entry_fault(region, directory, number, Check::Inumber));
+        return Err(entry_fault(region, directory, number, Check::InodeNumber));
     }
     read_named(region, directory, Slot { number, named }, work)
 }

@@ -2,7 +2,7 @@
 
 ghost use Rattle.std.specs.Prelude.{◌≡◌, ℕ, ◌%◌, ◌<◌, ◌≤◌, false, true};
 ghost use Rattle.bp_free.specs.Set.{has};
-ghost use Rattle.bp_limits.specs.Limits.{block_size, root_inumber};
+ghost use Rattle.bp_limits.specs.Limits.{block_size, root_ino};
 ghost use Rattle.bp_layout.specs.Checks.{Fails, IsFound};
 ghost use Rattle.bp_layout.specs.Formatted.{IsFormatted};
 ghost use Rattle.bp_layout.specs.declared.check.Check.{Check};
@@ -21,7 +21,7 @@ pub fn nothing_is_left(image: &[u64], blocks: &Blocks, inodes: &Inodes, todo: &I
     requires formatted { IsFormatted image.now }
     requires inode_blocks { size_of image.now 0 % block_size ≡ 0 }
     requires some_inodes { block_size ≤ size_of image.now 0 }
-    requires root_kind { IsDirectory image.now root_inumber }
+    requires root_kind { IsDirectory image.now root_ino }
     requires range { (i : ℕ) → has inodes.now i ≡ true → (2 ≤ i) × (i < inode_count image.now) }
     requires midway { IsMidway image.now blocks.now inodes.now todo.now 0 0 }
     requires none_left { (i : ℕ) → has todo.now i ≡ false }

@@ -18,7 +18,7 @@ use crate::work::Scan;
 use bp_free::Blocks;
 use bp_layout::Check;
 use bp_limits::{
-    BLOCK_SIZE, DIRECTORY_KIND, ENTRY_SIZE, FILE_KIND, ROOT_INUMBER, SUPER_ROOT, SUPER_SIZE,
+    BLOCK_SIZE, DIRECTORY_KIND, ENTRY_SIZE, FILE_KIND, ROOT_INO, SUPER_ROOT, SUPER_SIZE,
 };
 use bp_read::Tree;
 use bp_read::inodes::{inode_file, place};
@@ -87,7 +87,7 @@ fn check_words(ino: u32, words: InodeWords) -> Result<(), CheckFault>
             check: Check::DirectorySize,
             place: words.place + 2,
         }),
-        FILE_KIND if ino != ROOT_INUMBER => Ok(()),
+        FILE_KIND if ino != ROOT_INO => Ok(()),
         _ => Err(CheckFault {
             check: Check::Kind,
             place: words.place,

@@ -3,7 +3,7 @@ use Rattle.std.proofs.Common.{◌≡◌, ◌≢◌, ℕ, ◌+◌, ◌*◌, ◌/�
 use Rattle.std.proofs.lemmas.List.FromFn.{length-map-range_with_len}
 use Rattle.bp_layout.specs.Words.{Image, word, height_of, byte_of}
 use Rattle.bp_layout.specs.Tree.{node, byte, IsSound, IsFull}
-use Rattle.bp_layout.specs.Directory.{inumber_in, word_in, name_in}
+use Rattle.bp_layout.specs.Directory.{ino_in, word_in, name_in}
 use Rattle.bp_layout.specs.Paths.{IsName}
 use Rattle.bp_layout.proofs.Finding.{map-same}
 use Rattle.bp_layout.proofs.TreeLaws.{slot_word-at}
@@ -29,8 +29,8 @@ module _ (image : Image) (root size slot : ℕ) (full : IsFull image root size) 
       ∙ slot_word-at image (node image root (height_of root) (slot / 16)) (32 * (slot % 16) + f) (full _ _ (leaf_pointer root size slot live))
       ∙ ap (word image) at
 
-  pub inumber-there : inumber_in image root slot ≡ word image (entry_place_in image root slot)
-  inumber-there = let at : entry_place_in image root slot + 0 ≡ entry_place_in image root slot = omega arith in word-there 0 (omega arith) ∙ ap (word image) at
+  pub ino-there : ino_in image root slot ≡ word image (entry_place_in image root slot)
+  ino-there = let at : entry_place_in image root slot + 0 ≡ entry_place_in image root slot = omega arith in word-there 0 (omega arith) ∙ ap (word image) at
 
   length-in : length (name_in image root slot) ≡ word_in image root slot 1
   length-in = length-map-range_with_len (λ o. byte image root (256 * slot + 16 + o)) 0 (word_in image root slot 1)

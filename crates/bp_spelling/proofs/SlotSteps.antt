@@ -6,7 +6,7 @@ use Rattle.std.proofs.lemmas.Bool.{cases_eq}
 use Rattle.std.proofs.lemmas.List.{map-append, take_more_set}
 use Rattle.std.proofs.lemmas.List.Elements.{All-push}
 use Rattle.bp_layout.specs.Words.{Image}
-use Rattle.bp_layout.specs.Directory.{inumber_in, name_in}
+use Rattle.bp_layout.specs.Directory.{ino_in, name_in}
 use Rattle.bp_layout.specs.Paths.{IsName}
 use Rattle.bp_spelling.specs.Gathered.{IsGathered}
 use Rattle.bp_spelling.specs.Names.{entry_place_in}
@@ -20,15 +20,15 @@ next_slot : (slot end : ℕ) → slot < end → range_with_len slot (end - slot)
 next_slot slot end below = let n : end - slot ≡ suc (end - (slot + 1)) = omega (arith, below) in ap (range_with_len slot) n
 
 module _ (image : Image) (root end : ℕ) (entries : List Spelled) where
-  more_forms : (slot : ℕ) → ((k : ℕ) → k < slot → inumber_in image root k ≢ 0 → IsName (name_in image root k)) → (inumber_in image root slot ≢ 0 → IsName (name_in image root slot)) →
-      (k : ℕ) → k < slot + 1 → inumber_in image root k ≢ 0 → IsName (name_in image root k)
+  more_forms : (slot : ℕ) → ((k : ℕ) → k < slot → ino_in image root k ≢ 0 → IsName (name_in image root k)) → (ino_in image root slot ≢ 0 → IsName (name_in image root slot)) →
+      (k : ℕ) → k < slot + 1 → ino_in image root k ≢ 0 → IsName (name_in image root k)
   more_forms slot before here k low some = go (cases_eq k slot)
     where
       go : (k ≡ slot) ⊎ (k ≡ slot → ⊥) → IsName (name_in image root k)
-      go (inl same) = subst (λ (s : ℕ). IsName (name_in image root s)) (sym same) (here (λ none. some (ap (inumber_in image root) same ∙ none)))
+      go (inl same) = subst (λ (s : ℕ). IsName (name_in image root s)) (sym same) (here (λ none. some (ap (ino_in image root) same ∙ none)))
       go (inr other) = before k (omega (arith, low, other)) some
 
-  pub gathered_empty : (slot count : ℕ) → slot < end → IsGathered image root end slot entries count → inumber_in image root slot ≡ 0 →
+  pub gathered_empty : (slot count : ℕ) → slot < end → IsGathered image root end slot entries count → ino_in image root slot ≡ 0 →
       IsGathered image root end (slot + 1) entries count
   gathered_empty slot count below is none = record {
     few = omega (arith, is.few);
@@ -40,7 +40,7 @@ module _ (image : Image) (root end : ℕ) (entries : List Spelled) where
     forms = more_forms slot is.forms (λ some. absurd (some none));
   }
 
-  pub gathered_more : (slot count : ℕ) (entry : Spelled) → slot < end → end ≤ length entries → IsGathered image root end slot entries count → inumber_in image root slot ≢ 0 → IsName (name_in image root slot) →
+  pub gathered_more : (slot count : ℕ) (entry : Spelled) → slot < end → end ≤ length entries → IsGathered image root end slot entries count → ino_in image root slot ≢ 0 → IsName (name_in image root slot) →
       place_of entry ≡ entry_place_in image root slot → IsSpelled image entry → IsPresent entry → IsGathered image root end (slot + 1) (set entries count entry) (count + 1)
   gathered_more slot count entry below room is some form there spelled present =
       let rest : List ℕ = used_places image root (range_with_len (slot + 1) (end - (slot + 1))) in

@@ -6,7 +6,7 @@ use Rattle.std.proofs.lemmas.List.Elements.{All-cons}
 use Rattle.std.proofs.lemmas.List.Kept.{AllPairs-cons}
 use Rattle.bp_layout.specs.Words.{Image}
 use Rattle.bp_layout.specs.Tree.{IsSound, IsFull}
-use Rattle.bp_layout.specs.Directory.{inumber_in}
+use Rattle.bp_layout.specs.Directory.{ino_in}
 use Rattle.bp_spelling.specs.Names.{entry_place_in}
 use Rattle.bp_spelling.specs.Places.{used_places}
 use Rattle.bp_spelling.proofs.EntryPlaces.{other_place}
@@ -16,27 +16,27 @@ pub record IsAmong (image : Image) (root from count place : ℕ) : Type 0 where
   pub slot : ℕ
   pub low : from ≤ slot
   pub high : slot < from + count
-  pub some : inumber_in image root slot ≢ 0
+  pub some : ino_in image root slot ≢ 0
   pub there : entry_place_in image root slot ≡ place
 
 module _ (image : Image) (root : ℕ) where
-  pub empty_slot : (slot : ℕ) (more : List ℕ) → inumber_in image root slot ≡ 0 → used_places image root (slot ∷ more) ≡ used_places image root more
+  pub empty_slot : (slot : ℕ) (more : List ℕ) → ino_in image root slot ≡ 0 → used_places image root (slot ∷ more) ≡ used_places image root more
   empty_slot slot more none = rw none refl
 
-  pub used_slot : (slot : ℕ) (more : List ℕ) → inumber_in image root slot ≢ 0 → used_places image root (slot ∷ more) ≡ entry_place_in image root slot ∷ used_places image root more
-  used_slot slot more some = go (inumber_in image root slot == 0) refl
+  pub used_slot : (slot : ℕ) (more : List ℕ) → ino_in image root slot ≢ 0 → used_places image root (slot ∷ more) ≡ entry_place_in image root slot ∷ used_places image root more
+  used_slot slot more some = go (ino_in image root slot == 0) refl
     where
-      go : (b : Bool) → (inumber_in image root slot == 0) ≡ b → used_places image root (slot ∷ more) ≡ entry_place_in image root slot ∷ used_places image root more
+      go : (b : Bool) → (ino_in image root slot == 0) ≡ b → used_places image root (slot ∷ more) ≡ entry_place_in image root slot ∷ used_places image root more
       go true at = absurd (some (eqb-true _ _ at))
       go false at = rw at refl
 
   -- what holds of the places after a slot, and of the slot's place where it has one, holds from the slot on
-  one_more : (P : List ℕ → Type 0) (from count : ℕ) → (inumber_in image root from ≡ 0 → P (used_places image root (range_with_len (from + 1) count))) →
-      (inumber_in image root from ≢ 0 → P (entry_place_in image root from ∷ used_places image root (range_with_len (from + 1) count))) →
+  one_more : (P : List ℕ → Type 0) (from count : ℕ) → (ino_in image root from ≡ 0 → P (used_places image root (range_with_len (from + 1) count))) →
+      (ino_in image root from ≢ 0 → P (entry_place_in image root from ∷ used_places image root (range_with_len (from + 1) count))) →
       P (used_places image root (range_with_len from (suc count)))
-  one_more P from count empty some = go (cases_eq (inumber_in image root from) 0)
+  one_more P from count empty some = go (cases_eq (ino_in image root from) 0)
     where
-      go : (inumber_in image root from ≡ 0) ⊎ (inumber_in image root from ≡ 0 → ⊥) → P (used_places image root (range_with_len from (suc count)))
+      go : (ino_in image root from ≡ 0) ⊎ (ino_in image root from ≡ 0 → ⊥) → P (used_places image root (range_with_len from (suc count)))
       go (inl none) = subst P (sym (empty_slot from (range_with_len (from + 1) count) none)) (empty none)
       go (inr used) = subst P (sym (used_slot from (range_with_len (from + 1) count) used)) (some used)
 
@@ -60,7 +60,7 @@ module _ (image : Image) (root : ℕ) where
   at_head x p xs is = (0, omega arith, is)
 
   -- the place of each entry is among them
-  pub place_among : (from count slot : ℕ) → from ≤ slot → slot < from + count → inumber_in image root slot ≢ 0 →
+  pub place_among : (from count slot : ℕ) → from ≤ slot → slot < from + count → ino_in image root slot ≢ 0 →
       Contains (used_places image root (range_with_len from count)) (entry_place_in image root slot)
   place_among from zero slot low high some = absurd (omega (arith, low, high))
   place_among from (suc count) slot low high some = go (λ l h. place_among (from + 1) count slot l h some) (cases_eq from slot)
@@ -68,7 +68,7 @@ module _ (image : Image) (root : ℕ) where
       go : (from + 1 ≤ slot → slot < from + 1 + count → Contains (used_places image root (range_with_len (from + 1) count)) (entry_place_in image root slot)) →
           (from ≡ slot) ⊎ (from ≡ slot → ⊥) → Contains (used_places image root (range_with_len from (suc count))) (entry_place_in image root slot)
       go rest (inl here) =
-          one_more (λ xs. Contains xs (entry_place_in image root slot)) from count (λ none. absurd (some (ap (inumber_in image root) (sym here) ∙ none))) (λ used.
+          one_more (λ xs. Contains xs (entry_place_in image root slot)) from count (λ none. absurd (some (ap (ino_in image root) (sym here) ∙ none))) (λ used.
           at_head (entry_place_in image root slot) (entry_place_in image root from) (used_places image root (range_with_len (from + 1) count)) (ap (entry_place_in image root) here))
       go rest (inr before) =
           let there : Contains (used_places image root (range_with_len (from + 1) count)) (entry_place_in image root slot) =

@@ -2,7 +2,7 @@
 use Rattle.std.specs.Prelude.{◌≡◌, ◌≢◌, ℕ, ◌+◌, ◌-◌, ◌/◌, ◌<◌, ◌≤◌, List, ◌++◌, min, take, All}
 use Rattle.std.specs.List.{range_with_len}
 use Rattle.bp_layout.specs.Words.{Image}
-use Rattle.bp_layout.specs.Directory.{inumber_in, name_in}
+use Rattle.bp_layout.specs.Directory.{ino_in, name_in}
 use Rattle.bp_layout.specs.Paths.{IsName}
 use Rattle.bp_limits.specs.Limits.{block_entries, entry_size}
 use Rattle.bp_spelling.specs.declared.entry.Spelled.{Spelled}
@@ -17,7 +17,7 @@ pub record IsGathered (image : Image) (root end slot : ℕ) (entries : List Spel
       ≡ used_places image root (range_with_len 0 end)
   pub hashed : All (IsSpelled image) (take count entries)
   pub present : All IsPresent (take count entries)
-  pub forms : (k : ℕ) → k < slot → inumber_in image root k ≢ 0 → IsName (name_in image root k)
+  pub forms : (k : ℕ) → k < slot → ino_in image root k ≢ 0 → IsName (name_in image root k)
 
 -- The slot after the leaf that begins with slot `first`, in a directory of this size.
 abbrev pub leaf_end : ℕ → ℕ → ℕ

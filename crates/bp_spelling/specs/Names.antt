@@ -3,7 +3,7 @@ use Rattle.std.specs.Prelude.{◌≡◌, ◌≢◌, ℕ, ◌+◌, ◌-◌, ◌*�
 use Rattle.bp_limits.specs.Limits.{block_words, entry_size, entry_words}
 use Rattle.bp_layout.specs.Words.{Image, height_of}
 use Rattle.bp_layout.specs.Tree.{node}
-use Rattle.bp_layout.specs.Directory.{inumber_in, name_in}
+use Rattle.bp_layout.specs.Directory.{ino_in, name_in}
 use Rattle.bp_layout.specs.Paths.{IsName}
 use Rattle.bp_spelling.specs.declared.fault.NameFault.{NameFault}
 use Rattle.bp_spelling.specs.declared.fault.NameFault.TheVariants.{Form, Twice}
@@ -11,7 +11,7 @@ use Rattle.bp_spelling.specs.declared.fault.NameFault.TheVariants.{Form, Twice}
 -- The entry lies below the size and refers to an inode.
 pub record IsUsed (image : Image) (root size slot : ℕ) : Type 0 where
   pub live : slot < size / entry_size
-  pub some : inumber_in image root slot ≢ 0
+  pub some : ino_in image root slot ≢ 0
 
 -- The place of the first word of an entry in the region.
 abbrev pub entry_place_in : Image → ℕ → ℕ → ℕ
@@ -25,7 +25,7 @@ in_32_bits number = min number (2 ^ 32 - 1)
 
 -- The list has the inode numbers of the entries before slot `to`, in 32 bits.
 abbrev pub AreNumbers : Image → ℕ → ℕ → List ℕ → Type 0
-AreNumbers image root to numbers = (slot : ℕ) → slot < to → slice_index numbers slot ≡ in_32_bits (inumber_in image root slot)
+AreNumbers image root to numbers = (slot : ℕ) → slot < to → slice_index numbers slot ≡ in_32_bits (ino_in image root slot)
 
 -- Each name is a valid name, and no two are equal.
 pub record AreNames (image : Image) (root size : ℕ) : Type 0 where

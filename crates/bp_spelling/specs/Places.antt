@@ -5,7 +5,7 @@ use Rattle.std.specs.declared.cmp.Ordering.{Ordering}
 use Rattle.std.specs.Ordering.{nat_cmp}
 use Rattle.std.specs.Cmp.Lexicographic.{slice_cmp}
 use Rattle.bp_layout.specs.Words.{Image, word, byte_of}
-use Rattle.bp_layout.specs.Directory.{inumber_in, name_in}
+use Rattle.bp_layout.specs.Directory.{ino_in, name_in}
 use Rattle.bp_layout.specs.Paths.{Name, IsName}
 use Rattle.bp_spelling.specs.Names.{IsUsed, entry_place_in}
 
@@ -43,7 +43,7 @@ pub record IsMisspelled (image : Image) (root size place : ℕ) : Type 0 where
 -- The places of the entries that refer to an inode, in the order of their slots.
 abbrev pub used_places : Image → ℕ → List ℕ → List ℕ
 used_places image root all =
-    map (entry_place_in image root) (filter (λ slot. not (inumber_in image root slot == 0)) all)
+    map (entry_place_in image root) (filter (λ slot. not (ino_in image root slot == 0)) all)
 
 -- A word of an entry's name, without the bytes past its end. Word 0 is the length.
 abbrev pub key_word : Image → ℕ → ℕ → ℕ

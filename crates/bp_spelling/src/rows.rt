@@ -6,7 +6,7 @@ ghost use Rattle.bp_limits.specs.Limits.{entry_words, block_entries};
 ghost use Rattle.bp_layout.specs.Words.{word};
 ghost use Rattle.pm_region.specs.Memory.{words_in};
 
-use bp_layout::INUMBER_WORD;
+use bp_layout::INO_WORD;
 use bp_limits::{BLOCK_ENTRIES, ENTRY_WORDS};
 use pm_region::Region;
 
@@ -22,7 +22,7 @@ pub fn named_in_row<R: Region>(region: &R, place: u64, count: u32) -> [u64; BLOC
     let _words = region.words();
     let mut named = [0; BLOCK_ENTRIES as usize];
     for k in 0..count {
-        named[k as usize] = region.load(place + ENTRY_WORDS * k as u64 + INUMBER_WORD);
+        named[k as usize] = region.load(place + ENTRY_WORDS * k as u64 + INO_WORD);
     }
     named
 }

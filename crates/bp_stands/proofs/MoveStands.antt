@@ -87,7 +87,7 @@ module _ (old new : Image) (i : ℕ) (was : Name) (k : ℕ) (now : Name) (j : �
       go path None e (Some rest) f = rw (e, f) (sym (shown_source old new i was k now j moves from to from_is to_is outside aside rest) ∙ ap (shown new) (sym (rest_below-is source path rest f)))
       go path None e None f = rw (e, f) (shows.shows path ∙ sym (shown_elsewhere old new i was k now j moves from to from_is to_is outside aside path e f))
 
--- an inumber has come from one entry into another
+-- an inode number has come from one entry into another
 pub entry_move_shows : (old new : Image) (wf : IsWellFormed old) (i s k r j : ℕ) → CanMoveEntry old i s k r j → MovesEntry old new i s k r j →
     (from to : Path) → lookup old from ≡ Some i → lookup old to ≡ Some k → rest_below (from ++ name_at old i s ∷ []) to ≡ None →
     (map : PathMap) → Shows old map → Shows new (with_moved map (from ++ name_at old i s ∷ []) (to ++ name_at old k r ∷ []))

@@ -26,7 +26,7 @@ idle-harmless image place value low high =
       superblock = λ h. absurd (omega (arith, h, low));
       pointers = λ t d k reached live stands. absurd (none t d k stands);
       inodes = λ i f reached few read stands. absurd (none _ _ _ stands);
-      inumbers = λ i s reached kind in_size stands. absurd (none _ _ _ stands);
+      inos = λ i s reached kind in_size stands. absurd (none _ _ _ stands);
       names = λ i s j f reached names few stands. absurd (none _ _ _ stands);
       bytes = λ i o reached kind below stands. absurd (none _ _ _ stands);
     }

@@ -84,7 +84,7 @@ module _ (old new : Image) (wf : IsWellFormed old) (turned : Trail → Type 0) (
     size = λ i r. sizes-same (suc i) r;
     inode_blocks = rw (sizes-same 0 inode_file) wf.inode_blocks;
     inodes = le_of_eq (sym (sizes-same 0 inode_file));
-    inumber = λ i s r kind low. entries-same i s 0 r kind low (omega arith);
+    ino = λ i s r kind low. entries-same i s 0 r kind low (omega arith);
     entry = λ i s j f r n few. entries-same i s f r n.directory n.in_size few;
     bytes = λ i o r kind low. ap (λ w. byte_of w (o % 8)) (word-same i (o / 8) r (omega (arith, low)) (λ e. absurd (no_file i kind e)));
   }

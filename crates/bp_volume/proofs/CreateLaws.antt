@@ -5,7 +5,7 @@ use Rattle.std.specs.Option.{option_map}
 use Rattle.std.specs.FinMap.{get}
 use Rattle.bp_calls.specs.OnTrees.{GainsName}
 use Rattle.bp_calls.specs.Entrant.{entrant_of}
-use Rattle.bp_layout.specs.Directory.{inumber_at, lookup_in, slot_named}
+use Rattle.bp_layout.specs.Directory.{ino_at, lookup_in, slot_named}
 use Rattle.bp_layout.specs.Paths.{Name, Path}
 use Rattle.bp_layout.specs.Free.{IsLeastFree}
 use Rattle.bp_layout.specs.Free.IsLeastFree.{some as a_least, none as no_least}
@@ -51,19 +51,19 @@ module _ (image : Image) (path : Path) (below : path ≢ []) (i : ℕ) (parent :
   path_is = by_parent path below ∙ ap (λ n. parent_of path ++ n ∷ []) last
 
   -- the inode that the name leads to
-  pub lookup-name : lookup image path ≡ option_map (inumber_at image i) (slot_named image i name)
+  pub lookup-name : lookup image path ≡ option_map (ino_at image i) (slot_named image i name)
   lookup-name =
       ap (lookup image) path_is
       ∙ lookup_from-append image 1 (parent_of path) name
       ∙ ap (option_and_then (λ k. lookup_in image k name)) parent
-      ∙ ap (λ k. if k then option_map (inumber_at image i) (slot_named image i name) else None) (ap (λ k. k == 2) directory)
+      ∙ ap (λ k. if k then option_map (ino_at image i) (slot_named image i name) else None) (ap (λ k. k == 2) directory)
 
   module _ (tree : FileTree) (stands : Stands image tree) where
-    pub get-name : get tree.now.nodes path ≡ option_map (node_of image) (option_map (inumber_at image i) (slot_named image i name))
+    pub get-name : get tree.now.nodes path ≡ option_map (node_of image) (option_map (ino_at image i) (slot_named image i name))
     get-name =
         ap (get tree.now.nodes) path_is
         ∙ get-next image tree stands (parent_of path) i name parent
-        ∙ ap (λ k. option_map (node_of image) (if k then option_map (inumber_at image i) (slot_named image i name) else None)) (ap (λ k. k == 2) directory)
+        ∙ ap (λ k. option_map (node_of image) (if k then option_map (ino_at image i) (slot_named image i name) else None)) (ap (λ k. k == 2) directory)
 
     pub parent_goes : walk_parent tree.now.nodes path ≡ None
     parent_goes =
@@ -76,10 +76,10 @@ module _ (image : Image) (path : Path) (below : path ≢ []) (i : ℕ) (parent :
         ∙ ap (λ o. first (o ∷ when (is_some (get tree.now.nodes path)) exists ∷ [])) parent_goes
 
     pub create_there : (slot : ℕ) → slot_named image i name ≡ Some slot → refusal_of_new tree path ≡ Some exists
-    create_there slot there = refusals-name ∙ ap (λ o. first (when (is_some o) exists ∷ [])) (get-name ∙ ap (λ o. option_map (node_of image) (option_map (inumber_at image i) o)) there)
+    create_there slot there = refusals-name ∙ ap (λ o. first (when (is_some o) exists ∷ [])) (get-name ∙ ap (λ o. option_map (node_of image) (option_map (ino_at image i) o)) there)
 
     pub create_goes : slot_named image i name ≡ None → refusal_of_new tree path ≡ None
-    create_goes missing = refusals-name ∙ ap (λ o. first (when (is_some o) exists ∷ [])) (get-name ∙ ap (λ o. option_map (node_of image) (option_map (inumber_at image i) o)) missing)
+    create_goes missing = refusals-name ∙ ap (λ o. first (when (is_some o) exists ∷ [])) (get-name ∙ ap (λ o. option_map (node_of image) (option_map (ino_at image i) o)) missing)
 
 -- ---- the call
 

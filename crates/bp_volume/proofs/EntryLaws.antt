@@ -8,7 +8,7 @@ use Rattle.std.proofs.lemmas.List.{map-id}
 use Rattle.std.proofs.lemmas.Simd.{map-map}
 use Rattle.bp_layout.specs.Words.{Image}
 use Rattle.bp_layout.specs.Inode.{kind_of}
-use Rattle.bp_layout.specs.Directory.{entry_count, inumber_at, name_at}
+use Rattle.bp_layout.specs.Directory.{entry_count, ino_at, name_at}
 use Rattle.bp_layout.specs.Paths.{Name, Path}
 use Rattle.bp_layout.specs.Reached.{IsReached}
 use Rattle.bp_layout.specs.Lookup.{lookup}
@@ -35,7 +35,7 @@ module _ (image : Image) (tree : FileTree) (stands : Stands image tree) (here : 
   reported j = kind_seen (kind_of image j)
 
   abbrev seen_at : ℕ → Kind × Name
-  seen_at slot = (reported (inumber_at image i slot), name_at image i slot)
+  seen_at slot = (reported (ino_at image i slot), name_at image i slot)
 
   reached : IsReached image i
   reached = reached_at image stands.now.well_formed here i at

@@ -7,7 +7,7 @@ use Rattle.std.proofs.lemmas.List.{length-append, length-map, length-take-le, ta
 use Rattle.std.proofs.lemmas.List.FromFn.{length-map-range_with_len}
 use Rattle.bp_limits.specs.Limits.{block_size, entry_size, max_height}
 use Rattle.bp_limits.specs.CallLimits.{max_write}
-use Rattle.bp_layout.specs.Directory.{empty_slot, entry_count, inumber_at}
+use Rattle.bp_layout.specs.Directory.{empty_slot, entry_count, ino_at}
 use Rattle.bp_layout.specs.Inode.{root_of, size_of}
 use Rattle.bp_layout.specs.Need.{Beyond, Change, Entrant, beyond, prepared_for, new_inodes, height_after, touched, content_path, entered, entry_path, inode_word_path, new_entry, is_prefix, prefixes_from, prefixes_of, cover_of, is_there_after, need}
 use Rattle.bp_layout.specs.Need.Entrant.{taken, grown, linked}
@@ -279,7 +279,7 @@ module _ (image : Image) (wf : IsWellFormed image) (i : ℕ) (reached : IsReache
   enters_alone : (slot : Option ℕ) → empty_slot image i ≡ slot → (shortest : ℕ) → length (prefixes_of shortest [] (entered image (enters i entrant) i slot ∷ [])) ≤ 2 * suc max_height
   enters_alone None at shortest = omega (arith, alone_few shortest [] (inode_word_path image (enters i entrant) i 2), inode_slots image wf (enters i entrant) i 2)
   enters_alone (Some slot) at shortest =
-      let found : Finds (λ s. inumber_at image i s == 0) 0 (entry_count image i) slot = find-passes (λ s. inumber_at image i s == 0) 0 (entry_count image i) slot at in
+      let found : Finds (λ s. ino_at image i s == 0) 0 (entry_count image i) slot = find-passes (λ s. ino_at image i s == 0) 0 (entry_count image i) slot at in
       omega (arith, alone_few shortest [] (entry_path image (enters i entrant) i slot 0), content_slots image wf (enters i entrant) i (32 * slot + 0) reached (omega (arith, found.high)))
 
   inodes_few : (named : Entrant) → length (flat_map (prepared_for image) (new_inodes image (enters i named))) ≤ 3 + 3 * max_height

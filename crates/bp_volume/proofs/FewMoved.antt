@@ -3,7 +3,7 @@ use Rattle.std.proofs.Common.{◌≡◌, ℕ, zero, suc, ◌+◌, ◌*◌, ◌/�
 use Rattle.std.specs.Prelude.{if◌then◌else◌}
 use Rattle.std.specs.List.{range_with_len, list_any}
 use Rattle.std.proofs.lemmas.List.{append-nil, length-append}
-use Rattle.bp_layout.specs.Directory.{empty_slot, entry_count, inumber_at}
+use Rattle.bp_layout.specs.Directory.{empty_slot, entry_count, ino_at}
 use Rattle.bp_layout.specs.Inode.{size_of}
 use Rattle.bp_layout.specs.Need.{Change, content_path, cover_of, entered, entry_path, height_after, inode_word_path, is_prefix, is_there_after, need, prefixes_from, prefixes_of, touched}
 use Rattle.bp_layout.specs.Need.Change.{moves, replaces, respells}
@@ -45,7 +45,7 @@ module _ (image : Image) (wf : IsWellFormed image) (i : ℕ) (reached : IsReache
     entered_slots : (slot : Option ℕ) → empty_slot image j ≡ slot → length (entered image (moves i s j) j slot) ≤ 2 * suc max_height
     entered_slots None at = omega (arith, inode_slots image wf (moves i s j) j 2)
     entered_slots (Some slot) at =
-        let found : Finds (λ s. inumber_at image j s == 0) 0 (entry_count image j) slot = find-passes (λ s. inumber_at image j s == 0) 0 (entry_count image j) slot at in
+        let found : Finds (λ s. ino_at image j s == 0) 0 (entry_count image j) slot = find-passes (λ s. ino_at image j s == 0) 0 (entry_count image j) slot at in
         content_slots image wf (moves i s j) j (32 * slot + 0) target (omega (arith, found.high))
 
     few_carried : IsFew (need image (moves i s j))

@@ -4,11 +4,11 @@ use Rattle.std.specs.Prelude.{not, unwrap_or}
 use Rattle.std.proofs.lemmas.Bool.{eq-eqb, ne_eqb}
 use Rattle.bp_calls.specs.OnTrees.{LosesName}
 use Rattle.bp_calls.specs.Removed.{IsFoundAt}
-use Rattle.bp_calls.proofs.MayLeave.{found_inumber, found_spelled, file_may_leave, directory_may_leave}
+use Rattle.bp_calls.proofs.MayLeave.{found_ino, found_spelled, file_may_leave, directory_may_leave}
 use Rattle.bp_calls.proofs.ReadingLaws.{length-seen}
 use Rattle.bp_changes.specs.Effects.{CanUnlink}
 use Rattle.bp_read.specs.Names.{name_count}
-use Rattle.bp_layout.specs.Directory.{inumber_at, name_at, slot_named}
+use Rattle.bp_layout.specs.Directory.{ino_at, name_at, slot_named}
 use Rattle.bp_layout.specs.Inode.{kind_of, root_of, size_of}
 use Rattle.bp_layout.specs.Lookup.{lookup}
 use Rattle.bp_layout.specs.Paths.{Path, parse}
@@ -68,13 +68,13 @@ module _ (image : Image) (text : List ℕ) (i s j : ℕ) (at : FindsEntry image 
   stands_in = record { path = at.path; parsed = at.parsed; parent = at.entry.parent; slot = at.entry.slot }
 
   -- it may leave, as the entry of the inode that it names
-  leave : CanUnlink image i s j → CanUnlink image i s (inumber_at image i s)
-  leave can = subst (CanUnlink image i s) (sym (found_inumber image (parent_of at.path) (last_of at.path) i s j is_found)) can
+  leave : CanUnlink image i s j → CanUnlink image i s (ino_at image i s)
+  leave can = subst (CanUnlink image i s) (sym (found_ino image (parent_of at.path) (last_of at.path) i s j is_found)) can
 
-  pub file_leaves : kind_of image j ≡ 1 → CanUnlink image i s (inumber_at image i s)
+  pub file_leaves : kind_of image j ≡ 1 → CanUnlink image i s (ino_at image i s)
   file_leaves kind = leave (file_may_leave image (parent_of at.path) (last_of at.path) i s j is_found kind)
 
-  pub directory_leaves : name_count image (root_of image j) (size_of image j) ≡ 0 → CanUnlink image i s (inumber_at image i s)
+  pub directory_leaves : name_count image (root_of image j) (size_of image j) ≡ 0 → CanUnlink image i s (ino_at image i s)
   directory_leaves none = leave (directory_may_leave image (parent_of at.path) (last_of at.path) i s j is_found none)
 
   -- the text spells no other path
@@ -95,7 +95,7 @@ module _ (image : Image) (text : List ℕ) (i s j : ℕ) (at : FindsEntry image 
       ∙ sym (ap (λ (o : Option Path). unwrap_or o []) at.parsed)
 
   -- it needs few blocks
-  pub leaves_few : IsWellFormed image → CanUnlink image i s (inumber_at image i s) → IsFew (need image (leaves i s))
+  pub leaves_few : IsWellFormed image → CanUnlink image i s (ino_at image i s) → IsFew (need image (leaves i s))
   leaves_few wf can = few_left image wf i s can.reached (omega (arith, can.entry.in_size))
 
   pub name_lost : (after : Image) → LosesName i s image after → (tree : FileTree) → Stands image tree → Shows after (with_nothing tree.now (path_named text))

@@ -4,10 +4,10 @@ use Rattle.std.specs.Prelude.{if◌then◌else◌, is_some}
 use Rattle.std.specs.Option.{option_map}
 use Rattle.std.proofs.lemmas.Bool.{cases_eq, eq-eqb, eqb-false, ne_eqb}
 use Rattle.bp_calls.specs.Removed.{IsFoundAt}
-use Rattle.bp_calls.proofs.MayLeave.{found_inumber, found_spelled}
+use Rattle.bp_calls.proofs.MayLeave.{found_ino, found_spelled}
 use Rattle.bp_changes.specs.Effects.{CanUnlink}
 use Rattle.bp_layout.specs.Paths.{rest_below, Name, Path, parse}
-use Rattle.bp_layout.specs.Directory.{inumber_at, name_at, slot_named}
+use Rattle.bp_layout.specs.Directory.{ino_at, name_at, slot_named}
 use Rattle.bp_layout.specs.Inode.{kind_of, size_of}
 use Rattle.bp_layout.specs.Lookup.{lookup}
 use Rattle.bp_layout.specs.Need.{Change, need}
@@ -73,7 +73,7 @@ module _ (image : Image) (from to : List ℕ) (ends : Ends) (may : MayMove image
   abbrev name : Name
   name = ends.target.name.now
 
-  abbrev source_entry : FindsEntry image from i s ends.source.inumber
+  abbrev source_entry : FindsEntry image from i s ends.source.ino
   source_entry = record { path = p; parsed = found.source_parsed; entry = found.are.source }
 
   other : p ≢ q
@@ -114,25 +114,25 @@ module _ (image : Image) (from to : List ℕ) (ends : Ends) (may : MayMove image
 
   change_is : (made : Change) → IsChange image (rename from to) made → made ≡ change
   change_is _ (onto {i = k} {s = t} {j = l} {r = r} source target) =
-      let one = same_entry image from i s ends.source.inumber source_entry k t source in
+      let one = same_entry image from i s ends.source.ino source_entry k t source in
       let two = there_slot l r target in
       rw (two.1, one.0, one.1, two.0) refl
   change_is _ (across {i = k} {s = t} {j = l} {name = n} source new apart) =
-      let one = same_entry image from i s ends.source.inumber source_entry k t source in
+      let one = same_entry image from i s ends.source.ino source_entry k t source in
       let two = new_there l n new in
       let apart_here : i ≢ j = λ e. apart (one.0 ∙ e ∙ sym two.0) in
       rw (two.2, ne_eqb i j apart_here, one.0, one.1, two.0) refl
   change_is _ (within {i = k} {s = t} {name = n} source new) =
-      let one = same_entry image from i s ends.source.inumber source_entry k t source in
+      let one = same_entry image from i s ends.source.ino source_entry k t source in
       let two = new_there k n new in
       rw (two.2, eq-eqb i j (sym one.0 ∙ two.0), one.0, one.1, two.1) refl
 
   is_change : (slot : Option ℕ) → slot_named image j name ≡ slot → IsChange image (rename from to) (change_to i s j (length name) slot)
-  is_change (Some r) at = onto (stands_in image from i s ends.source.inumber source_entry) (old_name r at)
+  is_change (Some r) at = onto (stands_in image from i s ends.source.ino source_entry) (old_name r at)
   is_change None at = go (cases_eq i j)
     where
       source : StandsIn image from i s
-      source = stands_in image from i s ends.source.inumber source_entry
+      source = stands_in image from i s ends.source.ino source_entry
 
       go : (i ≡ j) ⊎ (i ≡ j → ⊥) → IsChange image (rename from to) (if i == j then respells i s (length name) else moves i s j)
       go (inl same) = rw (eq-eqb i j same) (within source (subst (λ k. FindsNew image to k name) (sym same) (new_name at)))
@@ -164,8 +164,8 @@ module _ (image : Image) (from to : List ℕ) (ends : Ends) (may : MayMove image
     pub moving_makes : MakesChange image (rename from to) (change_of move)
     moving_makes = subst (MakesChange image (rename from to)) (sym change_same) rename_makes
 
-    source_found : IsFoundAt image (parent_of p) (last_of p) move.from_dir move.from_slot ends.source.inumber
-    source_found = rw (is.from_dir, is.from_slot) (is_found image from i s ends.source.inumber source_entry)
+    source_found : IsFoundAt image (parent_of p) (last_of p) move.from_dir move.from_slot ends.source.ino
+    source_found = rw (is.from_dir, is.from_slot) (is_found image from i s ends.source.ino source_entry)
 
     whole_source : parent_of p ++ last_of p ∷ [] ≡ p
     whole_source = sym (by_parent p found.are.source.below)
@@ -181,30 +181,30 @@ module _ (image : Image) (from to : List ℕ) (ends : Ends) (may : MayMove image
       name = rw is.name found.are.target.form;
       slot = ap₂ (slot_named image) is.to_dir is.name ∙ slot;
       apart = λ r has. apart r (sym is.to_slot ∙ has) ends.target.there refl;
-      leaves = λ r has. subst (λ d. CanUnlink image d r (inumber_at image d r)) (sym is.to_dir) (may_leave r (sym is.to_slot ∙ has) ends.target.there refl);
+      leaves = λ r has. subst (λ d. CanUnlink image d r (ino_at image d r)) (sym is.to_dir) (may_leave r (sym is.to_slot ∙ has) ends.target.there refl);
     }
       where
         -- what has the new name is another inode
-        apart : (r : ℕ) → option_map (λ entry. entry.slot) ends.target.there ≡ Some r → (there : Option FoundEntry) → ends.target.there ≡ there → inumber_at image move.to_dir r ≢ moved_inode image move
+        apart : (r : ℕ) → option_map (λ entry. entry.slot) ends.target.there ≡ Some r → (there : Option FoundEntry) → ends.target.there ≡ there → ino_at image move.to_dir r ≢ moved_inode image move
         apart r has None at = let none : ◌≡◌ {A = Option ℕ} None (Some r) = rw at at has in absurd (cc)
         apart r has (Some entry) at =
             let slots : ◌≡◌ {A = Option ℕ} (Some entry.slot) (Some r) = rw at at has in
             let slot : entry.slot ≡ r = cc in
-            let entry_is : FindsEntry image to j entry.slot entry.inumber = target_entry image from to ends found entry at in
-            let named : inumber_at image j entry.slot ≡ entry.inumber = found_inumber image _ _ j entry.slot entry.inumber (is_found image to j entry.slot entry.inumber entry_is) in
-            let target : inumber_at image move.to_dir r ≡ entry.inumber = ap₂ (inumber_at image) is.to_dir (sym slot) ∙ named in
-            let source : moved_inode image move ≡ ends.source.inumber = found_inumber image (parent_of p) (last_of p) move.from_dir move.from_slot ends.source.inumber source_found in
-            λ same. eqb-false entry.inumber ends.source.inumber (sym (ap (is_inode ends.source.inumber) at) ∙ may.other) (sym target ∙ same ∙ source)
+            let entry_is : FindsEntry image to j entry.slot entry.ino = target_entry image from to ends found entry at in
+            let named : ino_at image j entry.slot ≡ entry.ino = found_ino image _ _ j entry.slot entry.ino (is_found image to j entry.slot entry.ino entry_is) in
+            let target : ino_at image move.to_dir r ≡ entry.ino = ap₂ (ino_at image) is.to_dir (sym slot) ∙ named in
+            let source : moved_inode image move ≡ ends.source.ino = found_ino image (parent_of p) (last_of p) move.from_dir move.from_slot ends.source.ino source_found in
+            λ same. eqb-false entry.ino ends.source.ino (sym (ap (is_inode ends.source.ino) at) ∙ may.other) (sym target ∙ same ∙ source)
 
-        may_leave : (r : ℕ) → option_map (λ entry. entry.slot) ends.target.there ≡ Some r → (there : Option FoundEntry) → ends.target.there ≡ there → CanUnlink image j r (inumber_at image j r)
+        may_leave : (r : ℕ) → option_map (λ entry. entry.slot) ends.target.there ≡ Some r → (there : Option FoundEntry) → ends.target.there ≡ there → CanUnlink image j r (ino_at image j r)
         may_leave r has None at = let none : ◌≡◌ {A = Option ℕ} None (Some r) = rw at at has in absurd (cc)
         may_leave r has (Some entry) at =
             let slots : ◌≡◌ {A = Option ℕ} (Some entry.slot) (Some r) = rw at at has in
             let slot : entry.slot ≡ r = cc in
-            subst (λ t. CanUnlink image j t (inumber_at image j t)) slot (may.leaves entry at)
+            subst (λ t. CanUnlink image j t (ino_at image j t)) slot (may.leaves entry at)
 
     pub may_rename : CanRename image move
-    may_rename = found_can_rename image wf move (parent_of p) (parent_of q) (last_of p) ends.source.inumber source_found target_found
+    may_rename = found_can_rename image wf move (parent_of p) (parent_of q) (last_of p) ends.source.ino source_found target_found
 
     pub moving_shows : (after : Image) → MovesPath move image after → (tree : FileTree) → Stands image tree → Shows after (tree_after tree (rename from to)).now
     moving_shows after renames tree stands =
@@ -215,7 +215,7 @@ module _ (image : Image) (from to : List ℕ) (ends : Ends) (may : MayMove image
         (ap (λ a. rest_below a (parent_of q)) named ∙ parent_outside p q found.are.target.below other found.are.outside)))))
       where
         named : parent_of p ++ name_at image move.from_dir move.from_slot ∷ [] ≡ p
-        named = ap (λ n. parent_of p ++ n ∷ []) (found_spelled image (parent_of p) (last_of p) move.from_dir move.from_slot ends.source.inumber source_found) ∙ whole_source
+        named = ap (λ n. parent_of p ++ n ∷ []) (found_spelled image (parent_of p) (last_of p) move.from_dir move.from_slot ends.source.ino source_found) ∙ whole_source
 
         whole : parent_of q ++ move.name.now ∷ [] ≡ q
         whole = ap (λ n. parent_of q ++ n ∷ []) is.name ∙ whole_target

@@ -11,7 +11,7 @@ use Rattle.bp_changes.specs.Effects.{CanUnlink, RemovesEntry}
 use Rattle.bp_changes.specs.SameMeaning.{SameMeaning}
 use Rattle.bp_changes.specs.Thawed.{AfterThaw}
 use Rattle.bp_changes.proofs.SameMeaning.{well_formed-same}
-use Rattle.bp_layout.specs.Directory.{inumber_at, name_at, slot_named}
+use Rattle.bp_layout.specs.Directory.{ino_at, name_at, slot_named}
 use Rattle.bp_layout.specs.Paths.{Name}
 use Rattle.bp_layout.specs.Inode.{IsDirectory}
 use Rattle.bp_layout.specs.Reached.{IsReached}
@@ -51,12 +51,12 @@ found_at image entry at is reached directory named = record {
 
 -- ---- a name goes
 
-pub name_leaves : (old new : Image) → IsWellFormed old → (entry : NamedEntry) (at : NameAt) → IsNameOf entry at → CanUnlink old entry.dir entry.slot (inumber_at old entry.dir entry.slot) →
+pub name_leaves : (old new : Image) → IsWellFormed old → (entry : NamedEntry) (at : NameAt) → IsNameOf entry at → CanUnlink old entry.dir entry.slot (ino_at old entry.dir entry.slot) →
     slot_named old entry.dir entry.name.now ≡ Some entry.slot → (after : AfterThaw (λ image later. RemovesEntry image later entry.dir entry.slot) old new) → NameLeaves after.middle new at
 name_leaves old new wf entry at is can named after =
     let same : SameMeaning old after.middle = after.thawed.meaning in
-    let may : CanUnlink after.middle entry.dir entry.slot (inumber_at after.middle entry.dir entry.slot) = leaving_on old after.middle wf same entry.dir entry.slot can in
-    removes_leave after.middle new (well_formed-same old after.middle wf same) entry.dir entry.slot (inumber_at after.middle entry.dir entry.slot) may after.effect at
+    let may : CanUnlink after.middle entry.dir entry.slot (ino_at after.middle entry.dir entry.slot) = leaving_on old after.middle wf same entry.dir entry.slot can in
+    removes_leave after.middle new (well_formed-same old after.middle wf same) entry.dir entry.slot (ino_at after.middle entry.dir entry.slot) may after.effect at
     (found_at after.middle entry at is may.reached may.entry.directory (slot_named_over old after.middle wf same entry.dir entry.name.now can.reached can.entry.directory ∙ named))
 
 -- ---- a name moves

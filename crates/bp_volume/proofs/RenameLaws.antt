@@ -7,7 +7,7 @@ use Rattle.std.proofs.lemmas.Bool.{cases_eq, eq-eqb, ne_eqb, eqb-true, eqb-false
 use Rattle.bp_calls.proofs.ReadingLaws.{length-seen}
 use Rattle.bp_read.specs.Names.{name_count}
 use Rattle.bp_layout.specs.Paths.{same_path, Path, parse}
-use Rattle.bp_layout.specs.Directory.{inumber_at, slot_named}
+use Rattle.bp_layout.specs.Directory.{ino_at, slot_named}
 use Rattle.bp_layout.specs.Inode.{kind_of, root_of, size_of}
 use Rattle.bp_layout.specs.Lookup.{are_one, file_at, find_one, if_file, lookup, node_of}
 use Rattle.bp_layout.specs.WellFormed.{IsWellFormed}
@@ -112,110 +112,110 @@ file_found image path i at kind = ap (option_and_then (if_file image)) at ∙ ap
 module _ (image : Image) (p q : Path) (ends : Ends) (are : AreRenameEnds image p q ends) where
   past_all : (tree : FileTree) → Stands image tree → move_refusal tree.now.nodes p q ≡ by_kinds (is_dir_at tree.now.nodes p) (is_dir_at tree.now.nodes q) (is_some (get tree.now.nodes q)) (same_path p q) (is_empty_dir tree.now.nodes q)
   past_all tree stands =
-      past_walks image p q are.source.below are.target.below ends.source.dir ends.source.slot ends.source.inumber are.source ends.target are.target tree stands
+      past_walks image p q are.source.below are.target.below ends.source.dir ends.source.slot ends.source.ino are.source ends.target are.target tree stands
       ∙ ap (λ b. first (when b into_self ∷ at_kinds image p q tree)) are.outside
 
-  source_kind : (tree : FileTree) → Stands image tree → (kind : ℕ) → kind_of image ends.source.inumber ≡ kind → is_dir_at tree.now.nodes p ≡ (kind == 2)
-  source_kind tree stands kind is = dir_at image tree stands p ends.source.inumber are.source.inode ∙ ap (λ k. k == 2) is
+  source_kind : (tree : FileTree) → Stands image tree → (kind : ℕ) → kind_of image ends.source.ino ≡ kind → is_dir_at tree.now.nodes p ≡ (kind == 2)
+  source_kind tree stands kind is = dir_at image tree stands p ends.source.ino are.source.inode ∙ ap (λ k. k == 2) is
 
   -- nothing has the new name
   pub new_goes : ends.target.there ≡ None → (tree : FileTree) → Stands image tree → move_refusal tree.now.nodes p q ≡ None
   new_goes none tree stands =
       let missing : get tree.now.nodes q ≡ None =
       get-name image q are.target.below ends.target.dir are.target.parent are.target.directory ends.target.name.now are.target.last tree stands
-      ∙ ap (λ o. option_map (node_of image) (option_map (inumber_at image ends.target.dir) o)) (are.target.new none) in
+      ∙ ap (λ o. option_map (node_of image) (option_map (ino_at image ends.target.dir) o)) (are.target.new none) in
       past_all tree stands
       ∙ ap (λ o. by_kinds (is_dir_at tree.now.nodes p) (is_a_dir o) (is_some o) (same_path p q) (is_empty_dir tree.now.nodes q)) missing
       ∙ kinds-new (is_dir_at tree.now.nodes p) (same_path p q) (is_empty_dir tree.now.nodes q)
 
   module _ (there : FoundEntry) (at : ends.target.there ≡ Some there) where
-    has : IsEntryOn image q ends.target.dir there.slot there.inumber
+    has : IsEntryOn image q ends.target.dir there.slot there.ino
     has = are.target.there there at
 
-    target_kind : (tree : FileTree) → Stands image tree → (kind : ℕ) → kind_of image there.inumber ≡ kind → is_dir_at tree.now.nodes q ≡ (kind == 2)
-    target_kind tree stands kind is = dir_at image tree stands q there.inumber has.inode ∙ ap (λ k. k == 2) is
+    target_kind : (tree : FileTree) → Stands image tree → (kind : ℕ) → kind_of image there.ino ≡ kind → is_dir_at tree.now.nodes q ≡ (kind == 2)
+    target_kind tree stands kind is = dir_at image tree stands q there.ino has.inode ∙ ap (λ k. k == 2) is
 
-    by_both : (tree : FileTree) → Stands image tree → (kind target_is : ℕ) → kind_of image ends.source.inumber ≡ kind → kind_of image there.inumber ≡ target_is →
+    by_both : (tree : FileTree) → Stands image tree → (kind target_is : ℕ) → kind_of image ends.source.ino ≡ kind → kind_of image there.ino ≡ target_is →
         move_refusal tree.now.nodes p q ≡ by_kinds (kind == 2) (target_is == 2) true (same_path p q) (is_empty_dir tree.now.nodes q)
     by_both tree stands kind target_is is target_has =
         past_all tree stands
         ∙ ap₂ (λ a b. by_kinds a b (is_some (get tree.now.nodes q)) (same_path p q) (is_empty_dir tree.now.nodes q)) (source_kind tree stands kind is) (target_kind tree stands target_is target_has)
-        ∙ ap (λ o. by_kinds (kind == 2) (target_is == 2) (is_some o) (same_path p q) (is_empty_dir tree.now.nodes q)) (node_at image tree stands q there.inumber has.inode)
+        ∙ ap (λ o. by_kinds (kind == 2) (target_is == 2) (is_some o) (same_path p q) (is_empty_dir tree.now.nodes q)) (node_at image tree stands q there.ino has.inode)
 
-    pub files_go : kind_of image ends.source.inumber ≡ 1 → kind_of image there.inumber ≡ 1 → (tree : FileTree) → Stands image tree → move_refusal tree.now.nodes p q ≡ None
+    pub files_go : kind_of image ends.source.ino ≡ 1 → kind_of image there.ino ≡ 1 → (tree : FileTree) → Stands image tree → move_refusal tree.now.nodes p q ≡ None
     files_go is target_is tree stands = by_both tree stands 1 1 is target_is ∙ kinds-files (same_path p q) (is_empty_dir tree.now.nodes q)
 
-    pub onto_file : kind_of image ends.source.inumber ≡ 2 → kind_of image there.inumber ≡ 1 → RefusesRename image p q not_dir
+    pub onto_file : kind_of image ends.source.ino ≡ 2 → kind_of image there.ino ≡ 1 → RefusesRename image p q not_dir
     onto_file is target_is tree stands = by_both tree stands 2 1 is target_is
 
-    pub onto_directory : kind_of image ends.source.inumber ≡ 1 → kind_of image there.inumber ≡ 2 → RefusesRename image p q is_dir
+    pub onto_directory : kind_of image ends.source.ino ≡ 1 → kind_of image there.ino ≡ 2 → RefusesRename image p q is_dir
     onto_directory is target_is tree stands = by_both tree stands 1 2 is target_is
 
-    counts : kind_of image there.inumber ≡ 2 → (tree : FileTree) → Stands image tree → is_empty_dir tree.now.nodes q ≡ (name_count image (root_of image there.inumber) (size_of image there.inumber) == 0)
-    counts target_is tree stands = ap (λ n. n == 0) (length-entries image tree stands q there.inumber has.inode target_is ∙ length-seen image there.inumber)
+    counts : kind_of image there.ino ≡ 2 → (tree : FileTree) → Stands image tree → is_empty_dir tree.now.nodes q ≡ (name_count image (root_of image there.ino) (size_of image there.ino) == 0)
+    counts target_is tree stands = ap (λ n. n == 0) (length-entries image tree stands q there.ino has.inode target_is ∙ length-seen image there.ino)
 
-    pub empty_goes : kind_of image ends.source.inumber ≡ 2 → kind_of image there.inumber ≡ 2 → name_count image (root_of image there.inumber) (size_of image there.inumber) ≡ 0 →
+    pub empty_goes : kind_of image ends.source.ino ≡ 2 → kind_of image there.ino ≡ 2 → name_count image (root_of image there.ino) (size_of image there.ino) ≡ 0 →
         (tree : FileTree) → Stands image tree → move_refusal tree.now.nodes p q ≡ None
     empty_goes is target_is none tree stands =
         by_both tree stands 2 2 is target_is
-        ∙ ap (by_kinds true true true (same_path p q)) (counts target_is tree stands ∙ eq-eqb (name_count image (root_of image there.inumber) (size_of image there.inumber)) 0 none)
+        ∙ ap (by_kinds true true true (same_path p q)) (counts target_is tree stands ∙ eq-eqb (name_count image (root_of image there.ino) (size_of image there.ino)) 0 none)
         ∙ kinds-empty (same_path p q)
 
-    pub not_empty_stops : p ≢ q → kind_of image ends.source.inumber ≡ 2 → kind_of image there.inumber ≡ 2 → name_count image (root_of image there.inumber) (size_of image there.inumber) ≢ 0 → RefusesRename image p q not_empty
+    pub not_empty_stops : p ≢ q → kind_of image ends.source.ino ≡ 2 → kind_of image there.ino ≡ 2 → name_count image (root_of image there.ino) (size_of image there.ino) ≢ 0 → RefusesRename image p q not_empty
     not_empty_stops other is target_is some tree stands =
         by_both tree stands 2 2 is target_is
-        ∙ ap₂ (by_kinds true true true) (other_path p q other) (counts target_is tree stands ∙ ne_eqb (name_count image (root_of image there.inumber) (size_of image there.inumber)) 0 some)
+        ∙ ap₂ (by_kinds true true true) (other_path p q other) (counts target_is tree stands ∙ ne_eqb (name_count image (root_of image there.ino) (size_of image there.ino)) 0 some)
 
   -- a path onto itself
   pub same_goes : p ≡ q → (tree : FileTree) → Stands image tree → move_refusal tree.now.nodes p q ≡ None
   same_goes same tree stands =
       past_all tree stands
       ∙ ap (λ r. by_kinds (is_dir_at tree.now.nodes p) (is_dir_at tree.now.nodes r) (is_some (get tree.now.nodes r)) (same_path p r) (is_empty_dir tree.now.nodes r)) (sym same)
-      ∙ ap₂ (λ o b. by_kinds (is_dir_at tree.now.nodes p) (is_dir_at tree.now.nodes p) (is_some o) b (is_empty_dir tree.now.nodes p)) (node_at image tree stands p ends.source.inumber are.source.inode) (same_path-self p)
+      ∙ ap₂ (λ o b. by_kinds (is_dir_at tree.now.nodes p) (is_dir_at tree.now.nodes p) (is_some o) b (is_empty_dir tree.now.nodes p)) (node_at image tree stands p ends.source.ino are.source.inode) (same_path-self p)
       ∙ kinds-same (is_dir_at tree.now.nodes p) (is_empty_dir tree.now.nodes p)
 
   -- the inode at the second path is that at the first, where both ends are one
-  same_inode : (there : FoundEntry) → ends.target.there ≡ Some there → are_same ends ≡ true → there.inumber ≡ ends.source.inumber
-  same_inode there at same = eqb-true there.inumber ends.source.inumber (sym (ap (is_inode ends.source.inumber) at) ∙ same)
+  same_inode : (there : FoundEntry) → ends.target.there ≡ Some there → are_same ends ≡ true → there.ino ≡ ends.source.ino
+  same_inode there at same = eqb-true there.ino ends.source.ino (sym (ap (is_inode ends.source.ino) at) ∙ same)
 
   -- a directory has one path, and two paths of a file may be renamed to each other
-  pub one_goes : IsWellFormed image → (there : FoundEntry) → ends.target.there ≡ Some there → there.inumber ≡ ends.source.inumber → (tree : FileTree) → Stands image tree → move_refusal tree.now.nodes p q ≡ None
-  one_goes wf there at one tree stands = go (cases_eq (kind_of image ends.source.inumber) 2)
+  pub one_goes : IsWellFormed image → (there : FoundEntry) → ends.target.there ≡ Some there → there.ino ≡ ends.source.ino → (tree : FileTree) → Stands image tree → move_refusal tree.now.nodes p q ≡ None
+  one_goes wf there at one tree stands = go (cases_eq (kind_of image ends.source.ino) 2)
     where
-      kinds : (1 ≤ kind_of image ends.source.inumber) × (kind_of image ends.source.inumber ≤ 2)
-      kinds = kind_at image wf p ends.source.inumber are.source.inode
+      kinds : (1 ≤ kind_of image ends.source.ino) × (kind_of image ends.source.ino ≤ 2)
+      kinds = kind_at image wf p ends.source.ino are.source.inode
 
-      go : (kind_of image ends.source.inumber ≡ 2) ⊎ (kind_of image ends.source.inumber ≡ 2 → ⊥) → move_refusal tree.now.nodes p q ≡ None
-      go (inl directory) = same_goes (path_once image wf p q ends.source.inumber are.source.inode ((are.target.there there at).inode ∙ ap Some one) directory) tree stands
+      go : (kind_of image ends.source.ino ≡ 2) ⊎ (kind_of image ends.source.ino ≡ 2 → ⊥) → move_refusal tree.now.nodes p q ≡ None
+      go (inl directory) = same_goes (path_once image wf p q ends.source.ino are.source.inode ((are.target.there there at).inode ∙ ap Some one) directory) tree stands
       go (inr other) =
-          let file : kind_of image ends.source.inumber ≡ 1 = omega (arith, kinds.0, kinds.1, other) in
+          let file : kind_of image ends.source.ino ≡ 1 = omega (arith, kinds.0, kinds.1, other) in
           files_go there at file (ap (kind_of image) one ∙ file) tree stands
 
-  one_path : IsWellFormed image → (there : FoundEntry) → ends.target.there ≡ Some there → there.inumber ≡ ends.source.inumber → (tree : FileTree) → Stands image tree → are_apart tree p q ≡ false
-  one_path wf there at one tree stands = go (cases_eq (kind_of image ends.source.inumber) 2)
+  one_path : IsWellFormed image → (there : FoundEntry) → ends.target.there ≡ Some there → there.ino ≡ ends.source.ino → (tree : FileTree) → Stands image tree → are_apart tree p q ≡ false
+  one_path wf there at one tree stands = go (cases_eq (kind_of image ends.source.ino) 2)
     where
-      kinds : (1 ≤ kind_of image ends.source.inumber) × (kind_of image ends.source.inumber ≤ 2)
-      kinds = kind_at image wf p ends.source.inumber are.source.inode
+      kinds : (1 ≤ kind_of image ends.source.ino) × (kind_of image ends.source.ino ≤ 2)
+      kinds = kind_at image wf p ends.source.ino are.source.inode
 
       with_false : (b : Bool) → (b && false) ≡ false
       with_false true = refl
       with_false false = refl
 
-      go : (kind_of image ends.source.inumber ≡ 2) ⊎ (kind_of image ends.source.inumber ≡ 2 → ⊥) → are_apart tree p q ≡ false
+      go : (kind_of image ends.source.ino ≡ 2) ⊎ (kind_of image ends.source.ino ≡ 2 → ⊥) → are_apart tree p q ≡ false
       go (inl directory) =
-          let same : p ≡ q = path_once image wf p q ends.source.inumber are.source.inode ((are.target.there there at).inode ∙ ap Some one) directory in
+          let same : p ≡ q = path_once image wf p q ends.source.ino are.source.inode ((are.target.there there at).inode ∙ ap Some one) directory in
           ap (λ r. not (same_path p r) && not (is_one tree.now.one p r)) (sym same) ∙ ap (λ b. not b && not (is_one tree.now.one p p)) (same_path-self p)
       go (inr other) =
-          let file : kind_of image ends.source.inumber ≡ 1 = omega (arith, kinds.0, kinds.1, other) in
-          let first : file_at image p ≡ Some ends.source.inumber = file_found image p ends.source.inumber are.source.inode file in
-          let second : file_at image q ≡ Some ends.source.inumber = file_found image q ends.source.inumber ((are.target.there there at).inode ∙ ap Some one) file in
-          let found : is_one tree.now.one p q ≡ true = stands.now.one p q ∙ ap₂ are_one first second ∙ eq-eqb ends.source.inumber ends.source.inumber refl in
+          let file : kind_of image ends.source.ino ≡ 1 = omega (arith, kinds.0, kinds.1, other) in
+          let first : file_at image p ≡ Some ends.source.ino = file_found image p ends.source.ino are.source.inode file in
+          let second : file_at image q ≡ Some ends.source.ino = file_found image q ends.source.ino ((are.target.there there at).inode ∙ ap Some one) file in
+          let found : is_one tree.now.one p q ≡ true = stands.now.one p q ∙ ap₂ are_one first second ∙ eq-eqb ends.source.ino ends.source.ino refl in
           ap (λ b. not (same_path p q) && not b) found ∙ with_false (not (same_path p q))
 
   pub other_ends : are_same ends ≡ false → p ≢ q
   other_ends other same = go ends.target.there refl other
     where
-      go : (o : Option FoundEntry) → ends.target.there ≡ o → is_inode ends.source.inumber o ≡ false → ⊥
+      go : (o : Option FoundEntry) → ends.target.there ≡ o → is_inode ends.source.ino o ≡ false → ⊥
       go None at e =
           let last : last_of p ≡ ends.target.name.now = ap last_of same ∙ are.target.last in
           let found : ◌≡◌ {A = Option ℕ} (Some ends.source.dir) (Some ends.target.dir) = sym are.source.parent ∙ ap (λ r. lookup image (parent_of r)) same ∙ are.target.parent in
@@ -223,9 +223,9 @@ module _ (image : Image) (p q : Path) (ends : Ends) (are : AreRenameEnds image p
           let clash : ◌≡◌ {A = Option ℕ} (Some ends.source.slot) None = sym are.source.slot ∙ ap₂ (slot_named image) directory last ∙ are.target.new at in
           absurd (cc)
       go (Some there) at e =
-          let found : ◌≡◌ {A = Option ℕ} (Some there.inumber) (Some ends.source.inumber) = sym (are.target.there there at).inode ∙ ap (lookup image) (sym same) ∙ are.source.inode in
-          let one : there.inumber ≡ ends.source.inumber = cc in
-          eqb-false there.inumber ends.source.inumber e one
+          let found : ◌≡◌ {A = Option ℕ} (Some there.ino) (Some ends.source.ino) = sym (are.target.there there at).inode ∙ ap (lookup image) (sym same) ∙ are.source.inode in
+          let one : there.ino ≡ ends.source.ino = cc in
+          eqb-false there.ino ends.source.ino e one
 
   -- and no file is at both
   other_files : are_same ends ≡ false → find_one image p q ≡ false
@@ -240,15 +240,15 @@ module _ (image : Image) (p q : Path) (ends : Ends) (are : AreRenameEnds image p
       with_none None = refl
       with_none (Some x) = refl
 
-      go : (o : Option FoundEntry) → ends.target.there ≡ o → is_inode ends.source.inumber o ≡ false → are_one (if_file image ends.source.inumber) (file_at image q) ≡ false
+      go : (o : Option FoundEntry) → ends.target.there ≡ o → is_inode ends.source.ino o ≡ false → are_one (if_file image ends.source.ino) (file_at image q) ≡ false
       go None at e =
           let nothing : lookup image q ≡ None =
           lookup-name image q are.target.below ends.target.dir are.target.parent are.target.directory ends.target.name.now are.target.last
-          ∙ ap (option_map (inumber_at image ends.target.dir)) (are.target.new at) in
-          ap (λ l. are_one (if_file image ends.source.inumber) (option_and_then (if_file image) l)) nothing ∙ with_none (if_file image ends.source.inumber)
+          ∙ ap (option_map (ino_at image ends.target.dir)) (are.target.new at) in
+          ap (λ l. are_one (if_file image ends.source.ino) (option_and_then (if_file image) l)) nothing ∙ with_none (if_file image ends.source.ino)
       go (Some there) at e =
-          ap (λ l. are_one (if_file image ends.source.inumber) (option_and_then (if_file image) l)) (are.target.there there at).inode
-          ∙ apart ends.source.inumber there.inumber (kind_of image ends.source.inumber == 1) (kind_of image there.inumber == 1) e
+          ap (λ l. are_one (if_file image ends.source.ino) (option_and_then (if_file image) l)) (are.target.there there at).inode
+          ∙ apart ends.source.ino there.ino (kind_of image ends.source.ino == 1) (kind_of image there.ino == 1) e
 
   pub two_paths : are_same ends ≡ false → (tree : FileTree) → Stands image tree → are_apart tree p q ≡ true
   two_paths other tree stands = ap₂ (λ a b. not a && not b) (other_path p q (other_ends other)) (stands.now.one p q ∙ other_files other)
@@ -291,7 +291,7 @@ module _ (image : Image) (from to : List ℕ) (ends : Ends) (found : FindsEnds i
   same_stays wf same tree stands = go ends.target.there refl
     where
       go : (o : Option FoundEntry) → ends.target.there ≡ o → (has_changed tree (rename from to) done ≡ false) × StepFor image tree (rename from to) done image
-      go None at = let nothing : false ≡ true = sym (ap (is_inode ends.source.inumber) at) ∙ same in absurd (true≢false (sym nothing))
+      go None at = let nothing : false ≡ true = sym (ap (is_inode ends.source.ino) at) ∙ same in absurd (true≢false (sym nothing))
       go (Some there) at =
           let one = same_inode image found.source_path found.target_path ends found.are there at same in
           answer_steps image tree (rename from to) done (found_goes (one_goes image found.source_path found.target_path ends found.are wf there at one) tree stands)
@@ -302,7 +302,7 @@ module _ (image : Image) (from to : List ℕ) (ends : Ends) (found : FindsEnds i
   changes_then other tree stands = changes_are tree ∙ two_paths image found.source_path found.target_path ends found.are other tree stands
 
   -- the entry that has the new name
-  pub target_entry : (entry : FoundEntry) → ends.target.there ≡ Some entry → FindsEntry image to ends.target.dir entry.slot entry.inumber
+  pub target_entry : (entry : FoundEntry) → ends.target.there ≡ Some entry → FindsEntry image to ends.target.dir entry.slot entry.ino
   target_entry entry at = record { path = found.target_path; parsed = found.target_parsed; entry = found.are.target.there entry at }
 
   -- a new name has nothing in its way

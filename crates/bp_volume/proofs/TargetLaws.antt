@@ -2,7 +2,7 @@
 use Rattle.std.proofs.Common.{◌≡◌, ◌≢◌, ◌==◌, ℕ, [], ◌∷◌, ◌++◌, Bool, true, false, Option, None, Some, refl, sym, ◌∙◌, ap, subst}
 use Rattle.std.specs.Prelude.{if◌then◌else◌}
 use Rattle.std.specs.Option.{option_map}
-use Rattle.bp_layout.specs.Directory.{empty_slot, inumber_at, lookup_in, slot_named}
+use Rattle.bp_layout.specs.Directory.{empty_slot, ino_at, lookup_in, slot_named}
 use Rattle.bp_layout.specs.Paths.{Name, Path, is_name}
 use Rattle.bp_layout.specs.Inode.{kind_of}
 use Rattle.bp_layout.specs.Lookup.{lookup}
@@ -29,12 +29,12 @@ use Rattle.bp_volume.proofs.WalkingLaws.{entry_ends, name_form, walk_ends}
 
 module _ (image : Image) (path : Path) (i : ℕ) (name : Name) (is : IsNameIn image path i name) (directory : kind_of image i ≡ 2) where
   -- by the slot of its name a path finds an entry
-  pub name_found : (s j : ℕ) → slot_named image i name ≡ Some s → inumber_at image i s ≡ j → IsEntryOn image path i s j
-  name_found s j slot inumber = record {
+  pub name_found : (s j : ℕ) → slot_named image i name ≡ Some s → ino_at image i s ≡ j → IsEntryOn image path i s j
+  name_found s j slot ino = record {
     below = is.below;
     parent = is.parent;
     slot = ap (slot_named image i) is.last ∙ slot;
-    inode = lookup-name image path is.below i is.parent directory name is.last ∙ ap (option_map (inumber_at image i)) slot ∙ ap Some inumber;
+    inode = lookup-name image path is.below i is.parent directory name is.last ∙ ap (option_map (ino_at image i)) slot ∙ ap Some ino;
   }
 
   -- and where no slot has it, the walk ends there
@@ -43,8 +43,8 @@ module _ (image : Image) (path : Path) (i : ℕ) (name : Name) (is : IsNameIn im
     where
       nowhere : lookup_in image i name ≡ None
       nowhere =
-          ap (λ b. if b then option_map (inumber_at image i) (slot_named image i name) else None) (ap (λ k. k == 2) directory)
-          ∙ ap (option_map (inumber_at image i)) none
+          ap (λ b. if b then option_map (ino_at image i) (slot_named image i name) else None) (ap (λ k. k == 2) directory)
+          ∙ ap (option_map (ino_at image i)) none
 
       ends : walk_from image 1 path ≡ missing
       ends =
@@ -90,23 +90,23 @@ directory_ends image path walked why below is reported root =
 module _ (image : Image) (path : Path) (target : Target) (below : path ≢ []) (parent : lookup image (parent_of path) ≡ Some target.dir) (directory : kind_of image target.dir ≡ 2)
     (last : target.name.now ≡ last_of path) (form : is_name target.name.now ≡ true) where
   -- an entry has the name
-  pub name_taken : (entry : FoundEntry) → target.there ≡ Some entry → slot_named image target.dir target.name.now ≡ Some entry.slot → inumber_at image target.dir entry.slot ≡ entry.inumber → IsTarget image path target
-  name_taken entry is slot inumber = record {
+  pub name_taken : (entry : FoundEntry) → target.there ≡ Some entry → slot_named image target.dir target.name.now ≡ Some entry.slot → ino_at image target.dir entry.slot ≡ entry.ino → IsTarget image path target
+  name_taken entry is slot ino = record {
     below = below;
     parent = parent;
     directory = directory;
     last = sym last;
     form = name_form target.name.now form;
     new = λ none. let clash : ◌≡◌ {A = Option FoundEntry} None (Some entry) = sym none ∙ is in absurd (cc);
-    there = λ other at. subst (λ (o : FoundEntry). IsEntryOn image path target.dir o.slot o.inumber) (same other at) is_entry;
+    there = λ other at. subst (λ (o : FoundEntry). IsEntryOn image path target.dir o.slot o.ino) (same other at) is_entry;
     empty = λ none. let clash : ◌≡◌ {A = Option FoundEntry} None (Some entry) = sym none ∙ is in absurd (cc);
   }
     where
       same : (other : FoundEntry) → target.there ≡ Some other → entry ≡ other
       same other at = let both : ◌≡◌ {A = Option FoundEntry} (Some entry) (Some other) = sym is ∙ at in cc
 
-      is_entry : IsEntryOn image path target.dir entry.slot entry.inumber
-      is_entry = name_found image path target.dir target.name.now (record { below = below; parent = parent; last = sym last }) directory entry.slot entry.inumber slot inumber
+      is_entry : IsEntryOn image path target.dir entry.slot entry.ino
+      is_entry = name_found image path target.dir target.name.now (record { below = below; parent = parent; last = sym last }) directory entry.slot entry.ino slot ino
 
   -- none has it
   pub name_free : target.there ≡ None → slot_named image target.dir target.name.now ≡ None → target.empty ≡ empty_slot image target.dir → IsTarget image path target

@@ -16,7 +16,7 @@ use Rattle.bp_changes.specs.Thawed.{AfterThaw, SameShape}
 use Rattle.bp_changes.proofs.ReachedOn.{names_on, reached_on}
 use Rattle.bp_changes.proofs.SameMeaning.{name-same, names-back, same-by_meaning, view-same, well_formed-same}
 use Rattle.bp_layout.specs.Paths.{rest_below, Name, Path}
-use Rattle.bp_layout.specs.Directory.{EntryNames, inumber_at, name_at}
+use Rattle.bp_layout.specs.Directory.{EntryNames, ino_at, name_at}
 use Rattle.bp_layout.specs.Lookup.{lookup}
 use Rattle.bp_layout.specs.Reached.{IsReached}
 use Rattle.bp_layout.specs.Reached.IsReached.{named, root_directory}
@@ -59,10 +59,10 @@ module _ (old middle : Image) (wf : IsWellFormed old) (same : SameMeaning old mi
   -- a name that may move may move there
   module _ (move : Move) (can : CanRename old move) where
     moved_same : moved_inode middle move ≡ moved_inode old move
-    moved_same = same.inumber move.from_dir move.from_slot can.source can.entry.directory can.entry.in_size
+    moved_same = same.ino move.from_dir move.from_slot can.source can.entry.directory can.entry.in_size
 
-    there_same : (r : ℕ) → move.to_slot ≡ Some r → inumber_at middle move.to_dir r ≡ inumber_at old move.to_dir r
-    there_same r has = same.inumber move.to_dir r can.target can.directory (replaced old move r can has).in_size
+    there_same : (r : ℕ) → move.to_slot ≡ Some r → ino_at middle move.to_dir r ≡ ino_at old move.to_dir r
+    there_same r has = same.ino move.to_dir r can.target can.directory (replaced old move r can has).in_size
 
     pub rename_on : CanRename middle move
     rename_on = record {
@@ -76,7 +76,7 @@ module _ (old middle : Image) (wf : IsWellFormed old) (same : SameMeaning old mi
       name = can.name;
       slot = slot_named_over old middle wf same move.to_dir move.name.now can.target can.directory ∙ can.slot;
       apart = λ r has one. can.apart r has (sym (there_same r has) ∙ one ∙ moved_same);
-      alone = λ r x l has n. can.alone r x l has (names-back old middle wf same (inumber_at old move.to_dir r) x l (named r can.target (replaced old move r can has))
+      alone = λ r x l has n. can.alone r x l has (names-back old middle wf same (ino_at old move.to_dir r) x l (named r can.target (replaced old move r can has))
           (subst (λ k. EntryNames middle k x l) (there_same r has) n));
     }
 
@@ -94,10 +94,10 @@ module _ (old new : Image) (wf : IsWellFormed old) where
       (shows_on old after.middle wf after.thawed.meaning map shows) (lookup_on old after.middle wf after.thawed.meaning from j file)
       (lookup_on old after.middle wf after.thawed.meaning here i directory)
 
-  pub removed_loses : (i s : ℕ) → CanUnlink old i s (inumber_at old i s) → AfterThaw (λ image later. RemovesEntry image later i s) old new → LosesName i s old new
+  pub removed_loses : (i s : ℕ) → CanUnlink old i s (ino_at old i s) → AfterThaw (λ image later. RemovesEntry image later i s) old new → LosesName i s old new
   removed_loses i s can after map here shows at =
-      subst (λ name. Shows new (with_nothing map (here ++ name ∷ []))) (name-same old after.middle wf after.thawed.meaning i s (inumber_at old i s) can.reached can.entry)
-      (unlink_shows after.middle new (well_formed-same old after.middle wf after.thawed.meaning) i s (inumber_at after.middle i s)
+      subst (λ name. Shows new (with_nothing map (here ++ name ∷ []))) (name-same old after.middle wf after.thawed.meaning i s (ino_at old i s) can.reached can.entry)
+      (unlink_shows after.middle new (well_formed-same old after.middle wf after.thawed.meaning) i s (ino_at after.middle i s)
       (leaving_on old after.middle wf after.thawed.meaning i s can) after.effect here (lookup_on old after.middle wf after.thawed.meaning here i at) map
       (shows_on old after.middle wf after.thawed.meaning map shows))
 

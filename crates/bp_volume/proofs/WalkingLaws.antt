@@ -78,7 +78,7 @@ walk_reported image path (Err fault) (Err error) is maps = walk_ends image path 
 
 -- ---- the entry at a path
 
-pub entry_found : (image : Image) (path : Path) (entry : FoundEntry) → path ≢ [] → IsEntryOf image path entry → lookup image path ≡ Some entry.inumber → IsEntryOn image path entry.dir entry.slot entry.inumber
+pub entry_found : (image : Image) (path : Path) (entry : FoundEntry) → path ≢ [] → IsEntryOf image path entry → lookup image path ≡ Some entry.ino → IsEntryOn image path entry.dir entry.slot entry.ino
 entry_found image path entry below is_entry found =
     let both = is_entry.below (parent_of path) (last_of path) (by_parent path below) in
     record { below = below; parent = both.0; slot = both.1; inode = found }

@@ -3,7 +3,7 @@ use Rattle.std.specs.Prelude.{◌≡◌, ◌≢◌, ◌==◌, ℕ, List, [], Boo
 use Rattle.bp_cache.specs.Changes.{NameMoves, NameReplaces}
 use Rattle.bp_cache.specs.declared.name_at.NameAt.{NameAt}
 use Rattle.bp_changes.specs.Effects.{CanUnlink}
-use Rattle.bp_layout.specs.Directory.{empty_slot, inumber_at, slot_named}
+use Rattle.bp_layout.specs.Directory.{empty_slot, ino_at, slot_named}
 use Rattle.bp_layout.specs.Paths.{IsName, Name, Path, parse}
 use Rattle.bp_layout.specs.Inode.{IsDirectory}
 use Rattle.bp_layout.specs.Lookup.{lookup}
@@ -36,12 +36,12 @@ pub record IsTarget (image : Image) (path : Path) (target : Target) : Type 0 whe
   pub form : IsName target.name.now
   pub new : target.there ≡ None → slot_named image target.dir target.name.now ≡ None
   pub there : (entry : FoundEntry) → target.there ≡ Some entry
-      → IsEntryOn image path target.dir entry.slot entry.inumber
+      → IsEntryOn image path target.dir entry.slot entry.ino
   pub empty : target.there ≡ None → target.empty ≡ empty_slot image target.dir
 
 -- The first path finds an entry, by its name. The second is a name in a directory, and does not lie below the first.
 pub record AreRenameEnds (image : Image) (p q : Path) (ends : Ends) : Type 0 where
-  pub source : IsEntryOn image p ends.source.dir ends.source.slot ends.source.inumber
+  pub source : IsEntryOn image p ends.source.dir ends.source.slot ends.source.ino
   pub named : slot_named image ends.source.dir ends.source.name.now ≡ Some ends.source.slot
   pub target : IsTarget image q ends.target
   pub outside : moves_below p q ≡ false
@@ -57,11 +57,11 @@ pub record FindsEnds (image : Image) (from to : List ℕ) (ends : Ends) : Type 0
 -- Whether there is an entry and it refers to inode `i`.
 abbrev pub is_inode : ℕ → Option FoundEntry → Bool
 is_inode i None = false
-is_inode i (Some entry) = entry.inumber == i
+is_inode i (Some entry) = entry.ino == i
 
 -- Whether both ends are one entry, or two entries that refer to one file.
 abbrev pub are_same : Ends → Bool
-are_same ends = is_inode ends.source.inumber ends.target.there
+are_same ends = is_inode ends.source.ino ends.target.there
 
 -- No tree that the image represents refuses the call.
 abbrev pub Allows : Image → Call → Type 0
@@ -70,7 +70,7 @@ Allows image call = (tree : FileTree) → Stands image tree → refusal tree cal
 -- The entry that has the new name may be removed.
 abbrev pub CanUnlinkThere : Image → Ends → FoundEntry → Type 0
 CanUnlinkThere image ends entry =
-    CanUnlink image ends.target.dir entry.slot (inumber_at image ends.target.dir entry.slot)
+    CanUnlink image ends.target.dir entry.slot (ino_at image ends.target.dir entry.slot)
 
 -- The ends are entries of two different inodes, or the second name is new. The entry that has the new name may be
 -- removed, and nothing refuses the rename.

@@ -90,13 +90,13 @@ fn file_for<'a, R: Region>(
     requires well_formed { IsWellFormed (words_in R.memory region.now) }
     requires right { IsCacheOf (words_in R.memory region.now) cache.old }
     requires last { IfSome last.old (λ last.
-        FindsFile (words_in R.memory region.now) last.path.now last.file.inumber last.file.size) }
-    ensures found { IfOk result (λ file. PathFinds (words_in R.memory region.now) path.now file.inumber) }
-    ensures kind { IfOk result (λ file. IsFile (words_in R.memory region.now) file.inumber) }
-    ensures size { IfOk result (λ file. file.size ≡ size_of (words_in R.memory region.now) file.inumber) }
+        FindsFile (words_in R.memory region.now) last.path.now last.file.ino last.file.size) }
+    ensures found { IfOk result (λ file. PathFinds (words_in R.memory region.now) path.now file.ino) }
+    ensures kind { IfOk result (λ file. IsFile (words_in R.memory region.now) file.ino) }
+    ensures size { IfOk result (λ file. file.size ≡ size_of (words_in R.memory region.now) file.ino) }
     ensures refused { IfErr result (λ e. StopsAtFile (words_in R.memory region.now) path.now (refusal_of e)) }
     ensures last { IfSome last.new (λ last.
-        FindsFile (words_in R.memory region.now) last.path.now last.file.inumber last.file.size) }
+        FindsFile (words_in R.memory region.now) last.path.now last.file.ino last.file.size) }
     ensures right { IsCacheOf (words_in R.memory region.now) cache.new }
 {
     match &*last {
@@ -122,14 +122,14 @@ fn patch_for<'a, R: Region>(
     requires lies { LiesIn text.now piece.now }
     requires path { is_none (parse (spanned text.now piece.now.path)) ≡ false }
     requires last { IfSome last.old (λ last.
-        FindsFile (words_in R.memory region.now) last.path.now last.file.inumber last.file.size) }
+        FindsFile (words_in R.memory region.now) last.path.now last.file.ino last.file.size) }
     ensures found { IfOk result (λ patch.
         PieceFinds (words_in R.memory region.now) (piece_in text.now piece.now) patch.inode) }
     ensures patch { IfOk result (λ patch. patch_seen patch ≡ patch_of (piece_in text.now piece.now) patch.inode) }
     ensures refused { IfErr result (λ e.
         RefusesPiece (words_in R.memory region.now) (piece_in text.now piece.now) (refusal_of e)) }
     ensures last { IfSome last.new (λ last.
-        FindsFile (words_in R.memory region.now) last.path.now last.file.inumber last.file.size) }
+        FindsFile (words_in R.memory region.now) last.path.now last.file.ino last.file.size) }
     ensures right { IsCacheOf (words_in R.memory region.now) cache.new }
 {
     let file = file_for(region, cache, part_of(text, piece.path), last)?;
@@ -138,7 +138,7 @@ fn patch_for<'a, R: Region>(
         return Err(FsError::PastEnd);
     }
     Ok(Patch {
-        inode: file.inumber,
+        inode: file.ino,
         offset: piece.offset,
         bytes,
     })

@@ -55,7 +55,7 @@ fn link_ends<'a, R: Region>(
     let file = file_at(region, cache, from)?;
     let name = new_on(region, cache, &path)?;
     Ok(LinkEnds {
-        inode: file.inumber,
+        inode: file.ino,
         name,
     })
 }

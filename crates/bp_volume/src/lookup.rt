@@ -3,7 +3,7 @@
 ghost use Rattle.std.specs.Prelude.{◌≡◌, ◌≢◌, ◌≤◌, IfErr, IfOk, IfSome, IsTrue, Some, [], length, unwrap_or};
 ghost use Rattle.bp_cache.specs.Cache.{IsCacheOf};
 ghost use Rattle.bp_read.specs.Spots.{FreeIs, found_slot, named_slot};
-ghost use Rattle.bp_layout.specs.Directory.{empty_slot, entry_count, inumber_at, slot_named};
+ghost use Rattle.bp_layout.specs.Directory.{empty_slot, entry_count, ino_at, slot_named};
 ghost use Rattle.bp_layout.specs.Inode.{IsDirectory, IsFile, size_of};
 ghost use Rattle.bp_layout.specs.Lookup.{lookup};
 ghost use Rattle.bp_layout.specs.Paths.{Path as PathNames, is_name};
@@ -24,7 +24,7 @@ use bp_layout::Kind;
 use bp_limits::ENTRY_SIZE;
 use bp_path::{BadPath, FoundEntry, Path, WalkFault, parse, walk_by, walk_parent_by};
 use bp_plain::FsError;
-use bp_read::directory::inumber;
+use bp_read::directory::entry_ino;
 use bp_read::inodes::{get, tree_of};
 use bp_read::{Both, Finder, Spot};
 use pm_region::Region;
@@ -87,7 +87,7 @@ impl<'a> Target<'a> {
 #[derive(Clone, Copy)]
 pub(crate) struct NamedEntry<'a> {
     /// The number of the inode that it refers to.
-    pub inumber: u32,
+    pub ino: u32,
     /// The directory's inode.
     pub dir: u32,
     /// The name.
@@ -115,7 +115,7 @@ impl<'a> NamedEntry<'a> {
 #[derive(Clone, Copy)]
 pub(crate) struct FoundFile {
     /// The number of its inode.
-    pub inumber: u32,
+    pub ino: u32,
     /// Its size in bytes.
     pub size: u64,
 }
@@ -150,7 +150,7 @@ pub(crate) fn inode_on<R: Region, F: Finder>(
     ensures right { F.right finder.new (words_in R.memory region.now) }
 {
     let entry = walk_by(region, path, finder).map_err(refused)?;
-    Ok(entry.inumber)
+    Ok(entry.ino)
 }
 
 /// Returns the inode at a path text.
@@ -177,9 +177,9 @@ pub(crate) fn file_on<R: Region, F: Finder>(
 ) -> Result<FoundFile, FsError>
     requires well_formed { IsWellFormed (words_in R.memory region.now) }
     requires right { F.right finder.old (words_in R.memory region.now) }
-    ensures found { IfOk result (λ file. lookup (words_in R.memory region.now) path.now ≡ Some file.inumber) }
-    ensures kind { IfOk result (λ file. IsFile (words_in R.memory region.now) file.inumber) }
-    ensures size { IfOk result (λ file. file.size ≡ size_of (words_in R.memory region.now) file.inumber) }
+    ensures found { IfOk result (λ file. lookup (words_in R.memory region.now) path.now ≡ Some file.ino) }
+    ensures kind { IfOk result (λ file. IsFile (words_in R.memory region.now) file.ino) }
+    ensures size { IfOk result (λ file. file.size ≡ size_of (words_in R.memory region.now) file.ino) }
     ensures refused { IfErr result (λ e. RefusesFileAt (words_in R.memory region.now) path.now (refusal_of e)) }
     ensures right { F.right finder.new (words_in R.memory region.now) }
 {
@@ -187,7 +187,7 @@ pub(crate) fn file_on<R: Region, F: Finder>(
     let inode = get(region, ino);
     match inode.kind {
         Kind::File => Ok(FoundFile {
-            inumber: ino,
+            ino: ino,
             size: inode.size,
         }),
         Kind::Dir => Err(FsError::IsDir),
@@ -202,9 +202,9 @@ pub(crate) fn file_at<R: Region, F: Finder>(
 ) -> Result<FoundFile, FsError>
     requires well_formed { IsWellFormed (words_in R.memory region.now) }
     requires right { F.right finder.old (words_in R.memory region.now) }
-    ensures found { IfOk result (λ file. PathFinds (words_in R.memory region.now) text.now file.inumber) }
-    ensures kind { IfOk result (λ file. IsFile (words_in R.memory region.now) file.inumber) }
-    ensures size { IfOk result (λ file. file.size ≡ size_of (words_in R.memory region.now) file.inumber) }
+    ensures found { IfOk result (λ file. PathFinds (words_in R.memory region.now) text.now file.ino) }
+    ensures kind { IfOk result (λ file. IsFile (words_in R.memory region.now) file.ino) }
+    ensures size { IfOk result (λ file. file.size ≡ size_of (words_in R.memory region.now) file.ino) }
     ensures refused { IfErr result (λ e. StopsAtFile (words_in R.memory region.now) text.now (refusal_of e)) }
     ensures right { F.right finder.new (words_in R.memory region.now) }
 {
@@ -222,7 +222,7 @@ pub(crate) fn entry_on<'a, R: Region>(
     requires below { path.now ≢ [] }
     requires right { IsCacheOf (words_in R.memory region.now) cache.old }
     ensures found { IfOk result
-        (λ entry. IsEntryOn (words_in R.memory region.now) path.now entry.dir entry.slot entry.inumber) }
+        (λ entry. IsEntryOn (words_in R.memory region.now) path.now entry.dir entry.slot entry.ino) }
     ensures named { IfOk result
         (λ entry. slot_named (words_in R.memory region.now) entry.dir entry.name.now ≡ Some entry.slot) }
     ensures refused { IfErr result
@@ -231,7 +231,7 @@ pub(crate) fn entry_on<'a, R: Region>(
 {
     let entry = walk_by(region, path, cache).map_err(refused)?;
     Ok(NamedEntry {
-        inumber: entry.inumber,
+        ino: entry.ino,
         dir: entry.dir,
         name: path.last(),
         slot: entry.slot,
@@ -249,7 +249,7 @@ pub(crate) fn entry_at<'a, R: Region>(
     requires well_formed { IsWellFormed (words_in R.memory region.now) }
     requires right { IsCacheOf (words_in R.memory region.now) cache.old }
     ensures found { IfOk result
-        (λ entry. FindsEntry (words_in R.memory region.now) text.now entry.dir entry.slot entry.inumber) }
+        (λ entry. FindsEntry (words_in R.memory region.now) text.now entry.dir entry.slot entry.ino) }
     ensures named { IfOk result
         (λ entry. slot_named (words_in R.memory region.now) entry.dir entry.name.now ≡ Some entry.slot) }
     ensures refused { IfErr result
@@ -336,7 +336,7 @@ pub(crate) fn target_in<'a, R: Region>(
     match spot {
         Spot::Named(slot) => {
             let entry = FoundEntry {
-                inumber: inumber(region, tree_of(region, dir), slot) as u32,
+                ino: entry_ino(region, tree_of(region, dir), slot) as u32,
                 dir,
                 slot,
             };
@@ -391,8 +391,8 @@ pub(crate) fn both_of<R: Region>(
     requires other { length other.now ≤ max_name }
     requires right { IsCacheOf (words_in R.memory region.now) cache.old }
     ensures slot { found_slot result.found ≡ slot_named (words_in R.memory region.now) dir one.now }
-    ensures inumber { IfSome result.found
-        (λ found. found.inumber ≡ inumber_at (words_in R.memory region.now) dir found.slot) }
+    ensures ino { IfSome result.found
+        (λ found. found.ino ≡ ino_at (words_in R.memory region.now) dir found.slot) }
     ensures named { named_slot result.spot ≡ slot_named (words_in R.memory region.now) dir other.now }
     ensures free { FreeIs result.spot (empty_slot (words_in R.memory region.now) dir) }
     ensures right { IsCacheOf (words_in R.memory region.now) cache.new }

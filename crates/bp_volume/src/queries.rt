@@ -48,7 +48,7 @@ pub(crate) fn do_links<R: Region>(
     ensures right { IsCacheOf (image_in R.memory parts.now) cache.new }
 {
     let file = file_at(&parts.region, cache, text)?;
-    Ok(links(parts, file.inumber))
+    Ok(links(parts, file.ino))
 }
 
 /// Returns the refusal of a call for which allocation failed.
@@ -109,5 +109,5 @@ pub(crate) fn do_read<R: Region, F: Finder>(
     ensures right { F.right finder.new (words_in R.memory region.now) }
 {
     let file = file_at(region, finder, text)?;
-    Ok(read(region, file.inumber, offset, into))
+    Ok(read(region, file.ino, offset, into))
 }

@@ -37,15 +37,15 @@ fn file_entry<'a, R: Region>(
     requires well_formed { IsWellFormed (words_in R.memory region.now) }
     requires right { IsCacheOf (words_in R.memory region.now) cache.old }
     ensures found { IfOk result
-        (λ entry. FindsEntry (words_in R.memory region.now) text.now entry.dir entry.slot entry.inumber) }
+        (λ entry. FindsEntry (words_in R.memory region.now) text.now entry.dir entry.slot entry.ino) }
     ensures named { IfOk result
         (λ entry. slot_named (words_in R.memory region.now) entry.dir entry.name.now ≡ Some entry.slot) }
-    ensures file { IfOk result (λ entry. IsFile (words_in R.memory region.now) entry.inumber) }
+    ensures file { IfOk result (λ entry. IsFile (words_in R.memory region.now) entry.ino) }
     ensures refused { IfErr result (λ e. Refuses (words_in R.memory region.now) (unlink text.now) (refusal_of e)) }
     ensures right { IsCacheOf (words_in R.memory region.now) cache.new }
 {
     let entry = entry_at(region, cache, text, FsError::IsDir)?;
-    match get(region, entry.inumber).kind {
+    match get(region, entry.ino).kind {
         Kind::File => Ok(entry),
         Kind::Dir => Err(FsError::IsDir),
     }
@@ -54,12 +54,12 @@ fn file_entry<'a, R: Region>(
 /// Refuses an entry that refers to a file, or to a directory that is not empty.
 fn without_names<R: Region>(region: &R, text: &[u8], entry: &NamedEntry<'_>) -> Result<(), FsError>
     requires well_formed { IsWellFormed (words_in R.memory region.now) }
-    requires at { FindsEntry (words_in R.memory region.now) text.now entry.now.dir entry.now.slot entry.now.inumber }
-    ensures directory { OnOk result (IsDirectory (words_in R.memory region.now) entry.now.inumber) }
-    ensures empty { OnOk result (HasNoName (words_in R.memory region.now) entry.now.inumber) }
+    requires at { FindsEntry (words_in R.memory region.now) text.now entry.now.dir entry.now.slot entry.now.ino }
+    ensures directory { OnOk result (IsDirectory (words_in R.memory region.now) entry.now.ino) }
+    ensures empty { OnOk result (HasNoName (words_in R.memory region.now) entry.now.ino) }
     ensures refused { IfErr result (λ e. Refuses (words_in R.memory region.now) (rmdir text.now) (refusal_of e)) }
 {
-    let inode = get(region, entry.inumber);
+    let inode = get(region, entry.ino);
     let tree = Tree::of(&inode);
     match inode.kind {
         Kind::File => Err(FsError::NotDir),
@@ -82,11 +82,11 @@ fn empty_entry<'a, R: Region>(
     requires well_formed { IsWellFormed (words_in R.memory region.now) }
     requires right { IsCacheOf (words_in R.memory region.now) cache.old }
     ensures found { IfOk result
-        (λ entry. FindsEntry (words_in R.memory region.now) text.now entry.dir entry.slot entry.inumber) }
+        (λ entry. FindsEntry (words_in R.memory region.now) text.now entry.dir entry.slot entry.ino) }
     ensures named { IfOk result
         (λ entry. slot_named (words_in R.memory region.now) entry.dir entry.name.now ≡ Some entry.slot) }
-    ensures directory { IfOk result (λ entry. IsDirectory (words_in R.memory region.now) entry.inumber) }
-    ensures empty { IfOk result (λ entry. HasNoName (words_in R.memory region.now) entry.inumber) }
+    ensures directory { IfOk result (λ entry. IsDirectory (words_in R.memory region.now) entry.ino) }
+    ensures empty { IfOk result (λ entry. HasNoName (words_in R.memory region.now) entry.ino) }
     ensures refused { IfErr result (λ e. Refuses (words_in R.memory region.now) (rmdir text.now) (refusal_of e)) }
     ensures right { IsCacheOf (words_in R.memory region.now) cache.new }
 {
@@ -132,6 +132,6 @@ pub(crate) fn do_rmdir<R: Region>(
     let empty = empty_entry(&parts.region, cache, text)?;
     remove(parts, empty.dir, empty.slot).map_err(no_space)?;
     cache.leave(empty.at());
-    cache.drop_directory(empty.inumber);
+    cache.drop_directory(empty.ino);
     Ok(())
 }

@@ -56,7 +56,7 @@ fn ends_beside<'a, R: Region>(
     requires beside { AreBeside from.now to.now }
     requires right { IsCacheOf (words_in R.memory region.now) cache.old }
     ensures source { IfOk result
-        (λ ends. IsEntryOn (words_in R.memory region.now) from.now ends.source.dir ends.source.slot ends.source.inumber) }
+        (λ ends. IsEntryOn (words_in R.memory region.now) from.now ends.source.dir ends.source.slot ends.source.ino) }
     ensures named { IfOk result
         (λ ends. slot_named (words_in R.memory region.now) ends.source.dir ends.source.name.now ≡ Some ends.source.slot) }
     ensures target { IfOk result (λ ends. IsTarget (words_in R.memory region.now) to.now ends.target) }
@@ -71,7 +71,7 @@ fn ends_beside<'a, R: Region>(
         None => Err(FsError::NotFound),
         Some(found) => {
             let source = NamedEntry {
-                inumber: found.inumber as u32,
+                ino: found.ino as u32,
                 dir,
                 name,
                 slot: found.slot,
@@ -96,7 +96,7 @@ fn found_ends<'a, R: Region>(
     requires below_too { to.now ≢ [] }
     requires right { IsCacheOf (words_in R.memory region.now) cache.old }
     ensures source { IfOk result
-        (λ ends. IsEntryOn (words_in R.memory region.now) from.now ends.source.dir ends.source.slot ends.source.inumber) }
+        (λ ends. IsEntryOn (words_in R.memory region.now) from.now ends.source.dir ends.source.slot ends.source.ino) }
     ensures named { IfOk result
         (λ ends. slot_named (words_in R.memory region.now) ends.source.dir ends.source.name.now ≡ Some ends.source.slot) }
     ensures target { IfOk result (λ ends. IsTarget (words_in R.memory region.now) to.now ends.target) }
@@ -175,8 +175,8 @@ fn may_replace<R: Region>(
     ensures refused { IfErr result
         (λ e. Refuses (words_in R.memory region.now) (rename from.now to.now) (refusal_of e)) }
 {
-    let source = get(region, ends.source.inumber);
-    let target = get(region, there.inumber);
+    let source = get(region, ends.source.ino);
+    let target = get(region, there.ino);
     match target.kind {
         Kind::File => match source.kind {
             Kind::File => Ok(()),
@@ -216,7 +216,7 @@ fn are_same(ends: &Ends<'_>) -> bool
     ensures { result ≡ are_same ends.now }
 {
     match ends.target.there {
-        Some(there) => there.inumber == ends.source.inumber,
+        Some(there) => there.ino == ends.source.ino,
         None => false,
     }
 }
@@ -276,7 +276,7 @@ fn report_move(
     match there {
         Some(entry) => {
             cache.replace(from, to);
-            cache.drop_directory(entry.inumber);
+            cache.drop_directory(entry.ino);
         }
         None => cache.rename(from, to),
     }

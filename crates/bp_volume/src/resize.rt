@@ -27,9 +27,9 @@ fn resize<R: Region>(
     size: u64,
 ) -> Result<(), FsError>
     requires ready { IsReady (R.memory parts.old.region) parts.old }
-    requires at { PathFinds (image_in R.memory parts.old) text.now file.inumber }
-    requires kind { IsFile (image_in R.memory parts.old) file.inumber }
-    requires size { file.size ≡ size_of (image_in R.memory parts.old) file.inumber }
+    requires at { PathFinds (image_in R.memory parts.old) text.now file.ino }
+    requires kind { IsFile (image_in R.memory parts.old) file.ino }
+    requires size { file.size ≡ size_of (image_in R.memory parts.old) file.ino }
     ensures called { CarriesOut (R.memory parts.old.region) (truncate text.now size) (unit_answer result)
         (R.memory parts.new.region) }
     ensures snapshot_blocks { parts.new.snapshot_blocks ≡ parts.old.snapshot_blocks }
@@ -42,7 +42,7 @@ fn resize<R: Region>(
     if size == file.size {
         return Ok(());
     }
-    bp_calls::truncate(parts, file.inumber, size).map_err(no_space)
+    bp_calls::truncate(parts, file.ino, size).map_err(no_space)
 }
 
 /// Carries out `truncate`, except for its end-of-call marker.

@@ -48,7 +48,7 @@ fn file_for<R: Region>(
         return Err(FsError::TooLong);
     }
     let file = file_on(region, cache, &path)?;
-    Ok(file.inumber)
+    Ok(file.ino)
 }
 
 /// Writes bytes into the file at a path text, which has inode `i`.

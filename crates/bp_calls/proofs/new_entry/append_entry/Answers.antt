@@ -48,9 +48,9 @@ tree_of-requires g c =
     let some = directory_inode (current_words (g.R.Region.memory c.args.parts.now.region)) c.args.dir c.requires.can.lacks.directory in
     record { well_formed = put_well_formed here; reached = put_reached here; some = omega (arith, some) }
 
-pub content_word-inumber-requires-clause-sound : goal.content_word-inumber-requires-clause-sound
-content_word-inumber-requires-clause-sound g c =
-    put_sound (puts g (goal.at.content_word-inumber-requires-clause-sound g c).After-stage_append) c.tree_of.result.root c.tree_of.ensures.root
+pub content_word-stored_ino-requires-clause-sound : goal.content_word-stored_ino-requires-clause-sound
+content_word-stored_ino-requires-clause-sound g c =
+    put_sound (puts g (goal.at.content_word-stored_ino-requires-clause-sound g c).After-stage_append) c.tree_of.result.root c.tree_of.ensures.root
 
 pub content_word-length-requires-clause-sound : goal.content_word-length-requires-clause-sound
 content_word-length-requires-clause-sound g c =
@@ -59,7 +59,7 @@ content_word-length-requires-clause-sound g c =
 pub prove_eq-unreachable-requires : goal.prove_eq-unreachable-requires
 prove_eq-unreachable-requires g c =
     let first : c.args.tree.size / 8 + 0 ≡ c.args.tree.size / 8 = omega arith in
-    let number = c.content_word-inumber in
+    let number = c.content_word-stored_ino in
     let length = c.content_word-length in
     let is = put_number (puts g (goal.at.prove_eq-unreachable-requires g c).After-stage_append) c.tree_of.ensures.root (rw first at number.ensures) length.ensures
     number.type_inv length.type_inv (omega (arith, c.ranges.ino)) in
@@ -68,7 +68,7 @@ prove_eq-unreachable-requires g c =
 pub prove_eq-unreachable-requires-2 : goal.prove_eq-unreachable-requires-2
 prove_eq-unreachable-requires-2 g c =
     let first : c.args.tree.size / 8 + 0 ≡ c.args.tree.size / 8 = omega arith in
-    let number = c.content_word-inumber in
+    let number = c.content_word-stored_ino in
     let length = c.content_word-length in
     c.if-prove_eq-2.true
     (put_count (puts g (goal.at.prove_eq-unreachable-requires-2 g c).After-stage_append) c.tree_of.ensures.root (rw first at number.ensures) length.ensures
@@ -77,7 +77,7 @@ prove_eq-unreachable-requires-2 g c =
 pub returns-clause-puts : goal.returns-clause-puts
 returns-clause-puts g c =
     let first : c.args.tree.size / 8 + 0 ≡ c.args.tree.size / 8 = omega arith in
-    let number = c.content_word-inumber in
+    let number = c.content_word-stored_ino in
     let length = c.content_word-length in
     put_done (puts g (goal.at.returns-clause-puts g c).After-stage_append) c.tree_of.ensures.root (rw first at number.ensures) length.ensures
     number.type_inv length.type_inv (omega (arith, c.ranges.ino))

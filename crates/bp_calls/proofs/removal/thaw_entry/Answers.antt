@@ -1,5 +1,5 @@
 use Rattle.std.proofs.Common.{sym, ◌∙◌, arith, rules}
-use Rattle.bp_layout.specs.Directory.{inumber_at}
+use Rattle.bp_layout.specs.Directory.{ino_at}
 use Rattle.bp_layout.specs.Need.Change.{leaves}
 use Rattle.pm_region.specs.Memory.{current_words}
 use Rattle.bp_calls.proofs.CommitResults.{by_one, ok_both, ok_one}
@@ -14,7 +14,7 @@ use Rattle.bp_calls.proofs.removal.thaw_entry.Goals as goal
 plan : (g : Over) (c : Start g) → IsPlanned g.R.Region.memory (leaves c.args.dir c.args.slot) 0 c.args.parts.now
 plan g c =
     let image = current_words (g.R.Region.memory c.args.parts.now.region) in
-    let named = inumber_at image c.args.dir c.args.slot in
+    let named = ino_at image c.args.dir c.args.slot in
     let can = c.requires.can in
     record {
       mounted = c.requires.mounted;

@@ -1,6 +1,6 @@
 use Rattle.std.proofs.Common.{◌≡◌, ◌≢◌, ℕ, ◌+◌, ◌-◌, ◌*◌, ◌<◌, ◌≤◌, List, min, length, slice_index, refl, sym, ◌∙◌, ap, subst, subst₂, arith}
 use Rattle.bp_layout.proofs.EntryWords.{entry_of}
-use Rattle.bp_layout.specs.Directory.{entry_count, inumber_at, inumber_in, name_at}
+use Rattle.bp_layout.specs.Directory.{entry_count, ino_at, ino_in, name_at}
 use Rattle.bp_layout.specs.Fields.{kind_word}
 use Rattle.bp_layout.specs.Inode.{kind_of, root_of}
 use Rattle.bp_layout.specs.Reached.{IsReached}
@@ -10,7 +10,7 @@ use Rattle.pm_region.specs.Memory.{current_words}
 use Rattle.bp_export.specs.Depth.{HasLongEntry, HasLongPath}
 use Rattle.bp_export.specs.Rows.{NamesReached}
 use Rattle.bp_export.proofs.DepthLaws.{below_long, entry_from_path, leaf_more, long_below, long_inside, long_name, none_empty, none_more, not_file, path_from_entry}
-use Rattle.bp_export.proofs.RowLaws.{IsInode, inode_file_sound, inode_reached, inumber_is, length_is, row_at, row_reached}
+use Rattle.bp_export.proofs.RowLaws.{IsInode, inode_file_sound, inode_reached, ino_is, length_is, row_at, row_reached}
 use Rattle.bp_export.proofs.depth.+depth.Goals as goal
 use Rattle.bp_export.proofs.depth.+depth.Goals.{has_long_path-in-Some+else-has_long_entry, has_long_path-in_default}
 
@@ -25,32 +25,32 @@ pub is_long-returns-then-left-taken : goal.is_long-returns-then-left-taken
 is_long-returns-then-left-taken g t c i slot has =
     let image : Image = current_words (g.R.Region.memory c.args.region.now) in
     let words = c.args.view.words.now in
-    let some : inumber_at image i slot ≢ 0 = λ none. c.if-inumber-eq0.false (c.inumber-inumber.ensures ∙ inumber_is image i slot words has ∙ none) in (
+    let some : ino_at image i slot ≢ 0 = λ none. c.if-ino-eq0.false (c.ino-ino.ensures ∙ ino_is image i slot words has ∙ none) in (
       λ yes. long_name image i slot c.args.left some (omega (arith, c.if-left-taken.true, c.name_len.ensures, length_is image i slot words has)),
       λ is. refl,
     )
 
-pub is_long-overflow_cast-inumber : goal.is_long-overflow_cast-inumber
-is_long-overflow_cast-inumber g t c =
-    omega (arith, (inode_here _ c.requires.well_formed c.args.view.words.now c.requires.entry c.inumber-inumber.result c.inumber-inumber.ensures c.if-inumber-eq0.false).few)
+pub is_long-overflow_cast-ino : goal.is_long-overflow_cast-ino
+is_long-overflow_cast-ino g t c =
+    omega (arith, (inode_here _ c.requires.well_formed c.args.view.words.now c.requires.entry c.ino-ino.result c.ino-ino.ensures c.if-ino-eq0.false).few)
 
 pub is_long-get-requires-clause-sound : goal.is_long-get-requires-clause-sound
 is_long-get-requires-clause-sound g t c = inode_file_sound _ c.requires.well_formed
 
 pub is_long-get-requires-clause-there : goal.is_long-get-requires-clause-there
 is_long-get-requires-clause-there g t c =
-    (inode_here _ c.requires.well_formed c.args.view.words.now c.requires.entry c.inumber-inumber.result c.inumber-inumber.ensures c.if-inumber-eq0.false).high
+    (inode_here _ c.requires.well_formed c.args.view.words.now c.requires.entry c.ino-ino.result c.ino-ino.ensures c.if-ino-eq0.false).high
 
-pub is_long-overflow_cast-inumber-in-Dir : goal.is_long-overflow_cast-inumber-in-Dir
-is_long-overflow_cast-inumber-in-Dir g t c =
-    omega (arith, (inode_here _ c.requires.well_formed c.args.view.words.now c.requires.entry c.inumber-inumber.result c.inumber-inumber.ensures c.if-inumber-eq0.false).few)
+pub is_long-overflow_cast-ino-in-Dir : goal.is_long-overflow_cast-ino-in-Dir
+is_long-overflow_cast-ino-in-Dir g t c =
+    omega (arith, (inode_here _ c.requires.well_formed c.args.view.words.now c.requires.entry c.ino-ino.result c.ino-ino.ensures c.if-ino-eq0.false).few)
 
 pub is_long-returns-in-File : goal.is_long-returns-in-File
 is_long-returns-in-File g t c i slot has =
     let image : Image = current_words (g.R.Region.memory c.args.region.now) in
     let words = c.args.view.words.now in
-    let same : c.inumber-inumber.result ≡ inumber_at image i slot = c.inumber-inumber.ensures ∙ inumber_is image i slot words has in
-    let file : kind_of image (inumber_at image i slot) ≡ 1 = ap (kind_of image) (sym same) ∙ sym c.get.ensures.kind ∙ ap kind_word c.in-File.is in
+    let same : c.ino-ino.result ≡ ino_at image i slot = c.ino-ino.ensures ∙ ino_is image i slot words has in
+    let file : kind_of image (ino_at image i slot) ≡ 1 = ap (kind_of image) (sym same) ∙ sym c.get.ensures.kind ∙ ap kind_word c.in-File.is in
     let short : length (name_at image i slot) + 1 ≤ c.args.left = omega (arith, c.if-left-taken.false, c.name_len.ensures, length_is image i slot words has) in
     (λ yes. absurd (cc), λ is. absurd (not_file image i slot c.args.left (λ dir. omega (arith, file, dir)) short is))
 
@@ -58,9 +58,9 @@ pub is_long-returns-in-Dir : goal.is_long-returns-in-Dir
 is_long-returns-in-Dir g t c i slot has =
     let image : Image = current_words (g.R.Region.memory c.args.region.now) in
     let words = c.args.view.words.now in
-    let same : c.inumber-inumber.result ≡ inumber_at image i slot = c.inumber-inumber.ensures ∙ inumber_is image i slot words has in
+    let same : c.ino-ino.result ≡ ino_at image i slot = c.ino-ino.ensures ∙ ino_is image i slot words has in
     let long : c.name_len.result ≡ length (name_at image i slot) = c.name_len.ensures ∙ length_is image i slot words has in
-    let some : inumber_at image i slot ≢ 0 = λ none. c.if-inumber-eq0.false (same ∙ none) in
+    let some : ino_at image i slot ≢ 0 = λ none. c.if-ino-eq0.false (same ∙ none) in
     let short : length (name_at image i slot) + 1 ≤ c.args.left = omega (arith, c.if-left-taken.false, long) in (
       λ yes. long_below image i slot c.args.left some short (subst₂ (λ j n. HasLongPath image j (c.args.left - (n + 1))) same long (c.has_long_path.ensures.0 yes)),
       λ is. c.has_long_path.ensures.1 (subst₂ (λ j n. HasLongPath image j (c.args.left - (n + 1))) (sym same) (sym long) (below_long image i slot c.args.left short is)),
@@ -140,7 +140,7 @@ has_long_path-loop-leaf-preserved g t c =
       | has_long_path-in_default w ↦
           leaf_more image i c.args.left leaf (entry_count image i) live c.loop-leaf.invariant
           (none_empty image i c.args.left (16 * leaf) (min 16 (entry_count image i - 16 * leaf))
-          (λ slot low high. ap (λ r. inumber_in image r slot) (sym c.tree_of-tree.ensures.root) ∙ w.in_default.ensures.none slot low (omega (arith, high))))
+          (λ slot low high. ap (λ r. ino_in image r slot) (sym c.tree_of-tree.ensures.root) ∙ w.in_default.ensures.none slot low (omega (arith, high))))
     ]
 
 pub has_long_path-returns : goal.has_long_path-returns

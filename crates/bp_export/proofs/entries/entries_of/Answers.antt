@@ -1,5 +1,5 @@
 use Rattle.std.proofs.Common.{◌≡◌, ℕ, ◌*◌, ◌-◌, ◌<◌, ◌++◌, min, sym, ◌∙◌, ap, arith}
-use Rattle.bp_layout.specs.Directory.{entry_count, inumber_in}
+use Rattle.bp_layout.specs.Directory.{entry_count, ino_in}
 use Rattle.bp_layout.specs.Words.{Image}
 use Rattle.pm_region.specs.Memory.{current_words}
 use Rattle.bp_export.specs.Entries.{entries_named}
@@ -29,7 +29,7 @@ loop-leaf-preserved g c =
           ∙ leaf_more image i leaf (entry_count image i) live
       | in_default w ↦
           w.entries-is ∙ c.loop-leaf.invariant
-          ∙ null_more image i leaf (entry_count image i) live (λ slot low high. ap (λ r. inumber_in image r slot) (sym c.tree_of-tree.ensures.root) ∙ w.in_default.ensures.none slot low high)
+          ∙ null_more image i leaf (entry_count image i) live (λ slot low high. ap (λ r. ino_in image r slot) (sym c.tree_of-tree.ensures.root) ∙ w.in_default.ensures.none slot low high)
     ]
 
 pub returns : goal.returns

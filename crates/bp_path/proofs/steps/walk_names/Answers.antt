@@ -32,8 +32,8 @@ loop-rest-preserved g c =
     let found = c.in_ok-entry.ensures in
     record {
       come = come_on image c.args.text.now c.loop-rest.rest.now c.split_first.result.1.now name c.loop-rest.entry c.in_ok-entry.entry c.loop-rest.invariant.come
-          c.split_first.ensures.split c.split_first.ensures.rest found.kind found.dir found.slot found.inumber
-          (not_inode_file image c.loop-rest.entry.inumber c.in_ok-entry.entry.inumber c.in_ok-entry.entry.slot name found.slot found.inumber);
+          c.split_first.ensures.split c.split_first.ensures.rest found.kind found.dir found.slot found.ino
+          (not_inode_file image c.loop-rest.entry.ino c.in_ok-entry.entry.ino c.in_ok-entry.entry.slot name found.slot found.ino);
       right = c.in_ok-entry.ensures.right;
       references = g.met.F.Finder.same_references_transitive _ _ _ c.loop-rest.invariant.references c.in_ok-entry.ensures.references;
     }

@@ -7,10 +7,10 @@ pub get-requires-clause-sound : goal.get-requires-clause-sound
 get-requires-clause-sound g c = c.requires.well.sound 0 inode_file
 
 pub get-requires-clause-there : goal.get-requires-clause-there
-get-requires-clause-there g c = there (current_words (g.R.Region.memory c.args.region.now)) c.in_ok-dir.field-0.inumber c.requires.well c.in_ok-dir.ensures.reached
+get-requires-clause-there g c = there (current_words (g.R.Region.memory c.args.region.now)) c.in_ok-dir.field-0.ino c.requires.well c.in_ok-dir.ensures.reached
 
 pub get-requires-clause-least : goal.get-requires-clause-least
-get-requires-clause-least g c = (right_kind (current_words (g.R.Region.memory c.args.region.now)) c.in_ok-dir.field-0.inumber c.requires.well c.in_ok-dir.ensures.reached c.in_ok-dir.ensures.some).0
+get-requires-clause-least g c = (right_kind (current_words (g.R.Region.memory c.args.region.now)) c.in_ok-dir.field-0.ino c.requires.well c.in_ok-dir.ensures.reached c.in_ok-dir.ensures.some).0
 
 pub get-requires-clause-most : goal.get-requires-clause-most
-get-requires-clause-most g c = (right_kind (current_words (g.R.Region.memory c.args.region.now)) c.in_ok-dir.field-0.inumber c.requires.well c.in_ok-dir.ensures.reached c.in_ok-dir.ensures.some).1
+get-requires-clause-most g c = (right_kind (current_words (g.R.Region.memory c.args.region.now)) c.in_ok-dir.field-0.ino c.requires.well c.in_ok-dir.ensures.reached c.in_ok-dir.ensures.some).1

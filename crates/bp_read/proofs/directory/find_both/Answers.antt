@@ -1,9 +1,9 @@
 use Rattle.std.proofs.Common.{◌≡◌, ◌-◌, ◌*◌, ◌/◌, ◌<◌, ◌+◌, ◌==◌, find, sym, ◌∙◌, arith}
 use Rattle.std.specs.List.{range_with_len}
-use Rattle.bp_layout.specs.Directory.{inumber_in, is_named_in}
+use Rattle.bp_layout.specs.Directory.{ino_in, is_named_in}
 use Rattle.pm_region.specs.Memory.{current_words}
 use Rattle.bp_read.specs.Spots.{found_slot}
-use Rattle.bp_read.proofs.DirectoryLeaves.{first_goes_on, first_of_all, found_goes_on, found_is_first, if_none, in_leaf, inumber_kept}
+use Rattle.bp_read.proofs.DirectoryLeaves.{first_goes_on, first_of_all, found_goes_on, found_is_first, if_none, in_leaf, ino_kept}
 use Rattle.bp_read.proofs.directory.find_both.Goals as goal
 use Rattle.bp_read.proofs.directory.find_both.Goals.{else-loop-number-test, then-loop-number-test+then-is_some+then-is_some-2}
 
@@ -19,12 +19,12 @@ loop-number-preserved g c =
           c.loop-number.found c.find_after-found.result c.loop-number.invariant.found c.find_after-found.ensures.some c.find_after-found.ensures.slot;
       named = found_goes_on (λ root. is_named_in image root c.args.other.now) tree c.leaf_from-leaf.result number inside leaf.tree leaf.first leaf.count
           c.loop-number.named c.find_after-named.result c.loop-number.invariant.named c.find_after-named.ensures.some c.find_after-named.ensures.slot;
-      free = first_goes_on (λ slot. inumber_in image tree.root slot == 0) number (tree.size / 256) inside c.loop-number.free c.first_empty_after-free.result c.loop-number.invariant.free
+      free = first_goes_on (λ slot. ino_in image tree.root slot == 0) number (tree.size / 256) inside c.loop-number.free c.first_empty_after-free.result c.loop-number.invariant.free
           c.first_empty_after-free.ensures.some
           (if_none c.loop-number.free c.first_empty_after-free.result _ _ c.first_empty_after-free.ensures.none
-          (in_leaf (λ root first count. find (λ slot. inumber_in image root slot == 0) (range_with_len first count)) tree c.leaf_from-leaf.result number leaf.tree leaf.first leaf.count));
-      inumber = inumber_kept (inumber_in image tree.root) c.loop-number.found c.find_after-found.result c.loop-number.invariant.inumber c.find_after-found.ensures.some
-          (rw (← leaf.tree) c.find_after-found.ensures.inumber);
+          (in_leaf (λ root first count. find (λ slot. ino_in image root slot == 0) (range_with_len first count)) tree c.leaf_from-leaf.result number leaf.tree leaf.first leaf.count));
+      ino = ino_kept (ino_in image tree.root) c.loop-number.found c.find_after-found.result c.loop-number.invariant.ino c.find_after-found.ensures.some
+          (rw (← leaf.tree) c.find_after-found.ensures.ino);
     }
 
 pub returns-clause-slot : goal.returns-clause-slot

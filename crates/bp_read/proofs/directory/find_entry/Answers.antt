@@ -1,6 +1,6 @@
 use Rattle.std.proofs.Common.{◌*◌, ◌/◌, ◌<◌, find, sym, ◌∙◌, ap}
 use Rattle.std.specs.List.{range_with_len}
-use Rattle.bp_layout.specs.Directory.{inumber_in, is_named_in}
+use Rattle.bp_layout.specs.Directory.{ino_in, is_named_in}
 use Rattle.pm_region.specs.Memory.{current_words}
 use Rattle.bp_read.specs.Spots.{found_slot}
 use Rattle.bp_read.proofs.DirectoryLeaves.{in_leaf, leaf-early, leaf-late}
@@ -18,10 +18,10 @@ returns-in-Some-clause-slot g c =
     ∙ leaf-early (is_named_in image tree.root name) number (tree.size / 256) inside c.in-Some.found.slot
     (sym (in_leaf (λ root first count. find (is_named_in image root name) (range_with_len first count)) tree c.leaf_from-leaf.result number leaf.tree leaf.first leaf.count) ∙ sym c.find.ensures.slot ∙ ap found_slot c.in-Some.is))
 
-pub returns-in-Some-clause-inumber : goal.returns-in-Some-clause-inumber
-returns-in-Some-clause-inumber g c =
+pub returns-in-Some-clause-ino : goal.returns-in-Some-clause-ino
+returns-in-Some-clause-ino g c =
     let image = current_words (g.R.Region.memory c.args.region.now) in
-    c.in-Some.ensures.inumber ∙ ap (λ t. inumber_in image t.root c.in-Some.found.slot) c.leaf_from-leaf.ensures.tree
+    c.in-Some.ensures.ino ∙ ap (λ t. ino_in image t.root c.in-Some.found.slot) c.leaf_from-leaf.ensures.tree
 
 pub loop-number-preserved : goal.loop-number-preserved
 loop-number-preserved g c =

@@ -1,7 +1,7 @@
 use Rattle.std.proofs.Common.{◌≡◌, ◌*◌, ◌-◌, ◌/◌, ◌==◌, find}
 use Rattle.std.specs.List.{range_with_len}
 use Rattle.std.specs.Prelude.{IfSome, IfNone}
-use Rattle.bp_layout.specs.Directory.{inumber_in, is_named_in, empty_slot_in, slot_named_in}
+use Rattle.bp_layout.specs.Directory.{ino_in, is_named_in, empty_slot_in, slot_named_in}
 use Rattle.pm_region.specs.Memory.{current_words}
 use Rattle.bp_read.proofs.directory.find_or_free.Given as goal
 
@@ -11,5 +11,5 @@ invariant-loop-number g l = record {
       find (is_named_in (current_words (g.R.Region.memory l.region)) l.tree.root l.name) (range_with_len (16 * l.number) (l.tree.size / 256 - 16 * l.number));
   some : IfSome l.empty (λ slot. l.empty ≡ empty_slot_in (current_words (g.R.Region.memory l.region)) l.tree.root l.tree.size);
   none : IfNone l.empty (empty_slot_in (current_words (g.R.Region.memory l.region)) l.tree.root l.tree.size ≡
-      find (λ slot. inumber_in (current_words (g.R.Region.memory l.region)) l.tree.root slot == 0) (range_with_len (16 * l.number) (l.tree.size / 256 - 16 * l.number)));
+      find (λ slot. ino_in (current_words (g.R.Region.memory l.region)) l.tree.root slot == 0) (range_with_len (16 * l.number) (l.tree.size / 256 - 16 * l.number)));
 }

@@ -1,10 +1,10 @@
 use Rattle.std.proofs.Common.{◌≡◌, ◌*◌, ◌-◌, ◌/◌, ◌==◌, find}
 use Rattle.std.specs.List.{range_with_len}
-use Rattle.bp_layout.specs.Directory.{inumber_in, empty_slot_in}
+use Rattle.bp_layout.specs.Directory.{ino_in, empty_slot_in}
 use Rattle.pm_region.specs.Memory.{current_words}
 use Rattle.bp_read.proofs.directory.free_slot.Given as goal
 
 abbrev pub invariant-loop-number : goal.invariant-loop-number
 invariant-loop-number g l =
     empty_slot_in (current_words (g.R.Region.memory l.region)) l.tree.root l.tree.size ≡
-    find (λ slot. inumber_in (current_words (g.R.Region.memory l.region)) l.tree.root slot == 0) (range_with_len (16 * l.number) (l.tree.size / 256 - 16 * l.number))
+    find (λ slot. ino_in (current_words (g.R.Region.memory l.region)) l.tree.root slot == 0) (range_with_len (16 * l.number) (l.tree.size / 256 - 16 * l.number))

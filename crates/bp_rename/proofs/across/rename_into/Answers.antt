@@ -14,7 +14,7 @@ use Rattle.bp_rename.proofs.across.rename_into.Given.{Over}
 use Rattle.bp_rename.proofs.across.rename_into.Goals.{After-touched_two-touched}
 use Rattle.bp_rename.proofs.across.rename_into.Goals as goal
 
--- the inumbers of the empty entry and of the entry that moves are touched
+-- the inode numbers of the empty entry and of the entry that moves are touched
 touches : (g : Over) (c : After-touched_two-touched g)
     → TouchesInto (current_words (g.R.Region.memory c.args.parts.now.region)) c.args.to_move.now c.args.slot c.touched_two-touched.result
 touches g c =

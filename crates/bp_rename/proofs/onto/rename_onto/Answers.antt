@@ -14,7 +14,7 @@ use Rattle.bp_rename.proofs.onto.rename_onto.Given.{Over}
 use Rattle.bp_rename.proofs.onto.rename_onto.Goals.{After-touched_two-touched}
 use Rattle.bp_rename.proofs.onto.rename_onto.Goals as goal
 
--- the inumbers of the entry that moves and of the one that has the new name are touched
+-- the inode numbers of the entry that moves and of the one that has the new name are touched
 touches : (g : Over) (c : After-touched_two-touched g)
     → TouchesOnto (current_words (g.R.Region.memory c.args.parts.now.region)) c.args.to_move.now c.args.slot c.touched_two-touched.result
 touches g c =

@@ -1,6 +1,6 @@
 use Rattle.std.proofs.Common.{◌≡◌, length, refl, sym, ◌∙◌, ap, subst, arith}
 use Rattle.bp_free.specs.Set.{Set, has, members}
-use Rattle.bp_layout.specs.Directory.{inumber_in}
+use Rattle.bp_layout.specs.Directory.{ino_in}
 use Rattle.bp_changes.specs.Sets.{in_snapshot_of}
 use Rattle.pm_region.specs.Memory.{Memory, current_words}
 use Rattle.bp_cow.specs.Commit.{CanCommitIn, CommitsTouched}
@@ -12,15 +12,15 @@ use Rattle.bp_rename.proofs.KeptCounts.{exact_kept}
 use Rattle.bp_rename.proofs.RenameTargets.{end_loose}
 use Rattle.bp_rename.proofs.past_end.move_past_end.Goals as goal
 
-pub inumber-ino-requires-clause-live : goal.inumber-ino-requires-clause-live
-inumber-ino-requires-clause-live g c = rw c.tree_of-source.ensures.size c.requires.can.entry.in_size
+pub entry_ino-ino-requires-clause-live : goal.entry_ino-ino-requires-clause-live
+entry_ino-ino-requires-clause-live g c = rw c.tree_of-source.ensures.size c.requires.can.entry.in_size
 
 pub overflow_cast-ino : goal.overflow_cast-ino
 overflow_cast-ino g c =
     let old : Memory = g.R.Region.memory c.args.parts.now.region in
     let move = c.args.to_move.now in
-    let named : c.inumber-ino.result ≡ moved_inode (current_words old) move =
-    c.inumber-ino.ensures ∙ ap (λ root. inumber_in (current_words old) root move.from_slot) c.tree_of-source.ensures.root in
+    let named : c.entry_ino-ino.result ≡ moved_inode (current_words old) move =
+    c.entry_ino-ino.ensures ∙ ap (λ root. ino_in (current_words old) root move.from_slot) c.tree_of-source.ensures.root in
     let few = moved_few (current_words old) move c.requires.can in
     omega (arith, named, few)
 
@@ -37,8 +37,8 @@ commit_at-requires g c κs inside =
     let old : Memory = g.R.Region.memory c.args.parts.now.region in
     let mid : Memory = g.R.Region.memory c.append_entry.new.parts.region in
     let move = c.args.to_move.now in
-    let named : c.inumber-ino.result ≡ moved_inode (current_words old) move =
-    c.inumber-ino.ensures ∙ ap (λ root. inumber_in (current_words old) root move.from_slot) c.tree_of-source.ensures.root in
+    let named : c.entry_ino-ino.result ≡ moved_inode (current_words old) move =
+    c.entry_ino-ino.ensures ∙ ap (λ root. ino_in (current_words old) root move.from_slot) c.tree_of-source.ensures.root in
     let puts = subst (λ x. PutsPastEnd (in_snapshot_of c.args.parts.now) old mid (members c.args.parts.now.free_blocks) (members c.append_entry.new.parts.free_blocks) move.to_dir x move.name.now) named c.append_entry.ensures.puts in
     let formed = past_end_formed old mid move c.args.parts.now.free_blocks c.args.parts.now.free_inodes c.append_entry.new.parts.free_blocks c.requires.can c.requires.new c.requires.other c.requires.none c.requires.exact.sets c.requires.thawed.room puts c.append_entry.ensures.keeps.block_room
     c.args.touched.now touches in
@@ -70,8 +70,8 @@ returns g c =
     let old : Memory = g.R.Region.memory c.args.parts.now.region in
     let mid : Memory = g.R.Region.memory c.append_entry.new.parts.region in
     let move = c.args.to_move.now in
-    let named : c.inumber-ino.result ≡ moved_inode (current_words old) move =
-    c.inumber-ino.ensures ∙ ap (λ root. inumber_in (current_words old) root move.from_slot) c.tree_of-source.ensures.root in
+    let named : c.entry_ino-ino.result ≡ moved_inode (current_words old) move =
+    c.entry_ino-ino.ensures ∙ ap (λ root. ino_in (current_words old) root move.from_slot) c.tree_of-source.ensures.root in
     let puts = subst (λ x. PutsPastEnd (in_snapshot_of c.args.parts.now) old mid (members c.args.parts.now.free_blocks) (members c.append_entry.new.parts.free_blocks) move.to_dir x move.name.now) named c.append_entry.ensures.puts in
     let commits = subst (λ (snapshot_blocks : Set). CommitsTouched (sizes_with (current_words mid) c.args.touched.now) (has snapshot_blocks) c.args.touched.now mid (g.R.Region.memory c.commit_at.new.parts.region) c.append_entry.new.parts.free_blocks c.commit_at.new.parts.free_blocks)
     c.append_entry.ensures.keeps.snapshot_blocks c.commit_at.ensures.commits in

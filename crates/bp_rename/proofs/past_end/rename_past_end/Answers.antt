@@ -15,7 +15,7 @@ use Rattle.bp_rename.proofs.past_end.rename_past_end.Given.{Over}
 use Rattle.bp_rename.proofs.past_end.rename_past_end.Goals.{After-touched_two-touched}
 use Rattle.bp_rename.proofs.past_end.rename_past_end.Goals as goal
 
--- the size of the new directory and the inumber of the entry that moves are touched
+-- the size of the new directory and the inode number of the entry that moves are touched
 touches : (g : Over) (c : After-touched_two-touched g)
     → TouchesPastEnd (current_words (g.R.Region.memory c.args.parts.now.region)) c.args.to_move.now c.touched_two-touched.result
 touches g c =

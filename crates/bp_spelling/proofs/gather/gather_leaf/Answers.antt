@@ -1,13 +1,13 @@
 use Rattle.std.proofs.Common.{◌≡◌, ◌≢◌, ℕ, ◌+◌, ◌*◌, ◌/◌, ◌<◌, ◌≤◌, length, sym, ◌∙◌, ap, subst, arith, true≢false, slice_index}
 use Rattle.pm_region.specs.Memory.{current_words}
 use Rattle.bp_layout.specs.Words.{word}
-use Rattle.bp_layout.specs.Directory.{inumber_in, name_in}
+use Rattle.bp_layout.specs.Directory.{ino_in, name_in}
 use Rattle.bp_layout.specs.Paths.{IsName}
 use Rattle.bp_spelling.specs.Gathered.{IsGathered}
 use Rattle.bp_spelling.specs.Hashes.{place_of, name_hash}
 use Rattle.bp_spelling.specs.Names.{entry_place_in, in_32_bits}
 use Rattle.bp_spelling.specs.Places.{name_there}
-use Rattle.bp_spelling.proofs.EntryPlaces.{place-is, inumber-there, form-there, form-in, place-some, row_place, place_fits}
+use Rattle.bp_spelling.proofs.EntryPlaces.{place-is, ino-there, form-there, form-in, place-some, row_place, place_fits}
 use Rattle.bp_spelling.proofs.Forms.{name-short}
 use Rattle.bp_spelling.proofs.Numbers.{numbers_more}
 use Rattle.bp_spelling.proofs.SlotSteps.{gathered_empty, gathered_more}
@@ -24,8 +24,8 @@ returns-then-not-is_name-clause-err g c =
     let live : slot < size / 256 = omega (arith, c.loop-k-test.true) in
     let row : k < 16 = omega (arith, c.loop-k-test.true) in
     let there : c.entry_place-row.result + 32 * k ≡ entry_place_in image root slot = omega (arith, c.entry_place-row.ensures.place, row_place image root c.args.first k c.requires.starts row) in
-    let read : slice_index c.named_in_row-named.result k ≡ inumber_in image root slot =
-    c.named_in_row-named.ensures k c.loop-k-test.true ∙ ap (word image) there ∙ sym (inumber-there image root size slot c.requires.full live) in
+    let read : slice_index c.named_in_row-named.result k ≡ ino_in image root slot =
+    c.named_in_row-named.ensures k c.loop-k-test.true ∙ ap (word image) there ∙ sym (ino-there image root size slot c.requires.full live) in
     record {
       slot = slot;
       used = record { live = live; some = λ none. c.if-named-k-ne0.true (read ∙ none) };
@@ -69,8 +69,8 @@ loop-k-preserved g c =
     let live : slot < size / 256 = omega (arith, c.loop-k-test.true) in
     let row : k < 16 = omega (arith, c.loop-k-test.true) in
     let there : c.entry_place-row.result + 32 * k ≡ entry_place_in image root slot = omega (arith, c.entry_place-row.ensures.place, row_place image root c.args.first k c.requires.starts row) in
-    let read : slice_index c.named_in_row-named.result k ≡ inumber_in image root slot =
-    c.named_in_row-named.ensures k c.loop-k-test.true ∙ ap (word image) there ∙ sym (inumber-there image root size slot c.requires.full live) in
+    let read : slice_index c.named_in_row-named.result k ≡ ino_in image root slot =
+    c.named_in_row-named.ensures k c.loop-k-test.true ∙ ap (word image) there ∙ sym (ino-there image root size slot c.requires.full live) in
     let next : slot + 1 ≡ c.args.first + (k + 1) = omega arith in
     record {
       so_far = subst (λ (n : ℕ). IsGathered image root (size / 256) n c.if-named-k-ne0.entries c.if-named-k-ne0.count) next (elim c.if-named-k-ne0.branch [
@@ -100,6 +100,6 @@ returns-clause-numbers g c =
     let live : slot < size / 256 = omega (arith, c.min-slots.ensures, low) in
     let row : k < 16 = omega (arith, c.min-slots.ensures, low) in
     let there : c.entry_place-row.result + 32 * k ≡ entry_place_in image root slot = omega (arith, c.entry_place-row.ensures.place, row_place image root c.args.first k c.requires.starts row) in
-    let read : slice_index c.named_in_row-named.result k ≡ inumber_in image root slot =
-    c.named_in_row-named.ensures k low ∙ ap (word image) there ∙ sym (inumber-there image root size slot c.requires.full live) in
+    let read : slice_index c.named_in_row-named.result k ≡ ino_in image root slot =
+    c.named_in_row-named.ensures k low ∙ ap (word image) there ∙ sym (ino-there image root size slot c.requires.full live) in
     c.keep_numbers.ensures.kept k low ∙ ap in_32_bits read)

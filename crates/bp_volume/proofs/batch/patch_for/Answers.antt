@@ -20,10 +20,10 @@ pub returns-then-file-piece-clause-refused : goal.returns-then-file-piece-clause
 returns-then-file-piece-clause-refused g c =
     let image = current_words (g.R.Region.memory c.args.region.now) in
     let count : length c.part_of-bytes.result.now ≡ length (spanned c.args.text.now c.args.piece.now.bytes) = ap (λ (xs : List ℕ). length xs) c.part_of-bytes.ensures in
-    let past : size_of image c.in_ok-file.file.inumber < c.args.piece.now.offset + length (spanned c.args.text.now c.args.piece.now.bytes) =
+    let past : size_of image c.in_ok-file.file.ino < c.args.piece.now.offset + length (spanned c.args.text.now c.args.piece.now.bytes) =
     elim c.then-file-piece.branch [
       | then-file-piece-via-then-file-piece w ↦ omega (arith, w.if-file-piece.true, c.in_ok-file.ensures.size)
       | then-file-piece-via-else-file-piece+then-file-piece-2 w ↦ omega (arith, w.if-file-piece-2.true, c.in_ok-file.ensures.size, count)
     ] in
-    piece_past image (piece_in c.args.text.now c.args.piece.now) c.in_ok-file.file.inumber
-    (subst (λ (text : List ℕ). PathFinds image text c.in_ok-file.file.inumber) c.part_of.ensures c.in_ok-file.ensures.found) c.in_ok-file.ensures.kind past
+    piece_past image (piece_in c.args.text.now c.args.piece.now) c.in_ok-file.file.ino
+    (subst (λ (text : List ℕ). PathFinds image text c.in_ok-file.file.ino) c.part_of.ensures c.in_ok-file.ensures.found) c.in_ok-file.ensures.kind past

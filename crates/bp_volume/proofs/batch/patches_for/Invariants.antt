@@ -22,6 +22,6 @@ invariant-loop-piece g l = record {
   left : (tree : FileTree) → Stands (current_words (g.R.Region.memory l.region)) tree →
       first (map (piece_refusal tree.now.nodes) (map (piece_in l.text) (drop l.piece-index l.pieces))) ≡ first (map (piece_refusal tree.now.nodes) (map (piece_in l.text) l.pieces));
   paths : list_any (λ piece. is_none (parse piece.path)) (map (piece_in l.text) (drop l.piece-index l.pieces)) ≡ false;
-  last : IfSome l.last (λ last. FindsFile (current_words (g.R.Region.memory l.region)) last.path.now last.file.inumber last.file.size);
+  last : IfSome l.last (λ last. FindsFile (current_words (g.R.Region.memory l.region)) last.path.now last.file.ino last.file.size);
   right : IsCacheOf (current_words (g.R.Region.memory l.region)) l.cache;
 }

@@ -7,7 +7,7 @@ pub read-requires-clause-reached : goal.read-requires-clause-reached
 read-requires-clause-reached g c = at_reached _ c.requires.well_formed c.args.text.now _ c.in_ok-file.ensures.found
 
 pub returns-clause-reported : goal.returns-clause-reported
-returns-clause-reported g c = read_reports (current_words (g.R.Region.memory c.args.region.now)) c.args.text.now c.in_ok-file.file.inumber c.in_ok-file.ensures.found c.args.offset _ _ c.in_ok-file.ensures.kind c.read.ensures.bytes
+returns-clause-reported g c = read_reports (current_words (g.R.Region.memory c.args.region.now)) c.args.text.now c.in_ok-file.file.ino c.in_ok-file.ensures.found c.args.offset _ _ c.in_ok-file.ensures.kind c.read.ensures.bytes
 
 pub returns-in_err-file-clause-reported : goal.returns-in_err-file-clause-reported
 returns-in_err-file-clause-reported g c =

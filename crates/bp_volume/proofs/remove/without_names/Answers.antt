@@ -23,7 +23,7 @@ get-inode-requires-clause-most g c = (inode_found _ c.requires.well_formed c.req
 
 pub is_empty-requires : goal.is_empty-requires
 is_empty-requires g c =
-    rw (c.of-tree.ensures.root ∙ c.get-inode.ensures.root, c.of-tree.ensures.size ∙ c.get-inode.ensures.size) (c.requires.well_formed.sound c.args.entry.now.inumber (reached_at _ c.requires.well_formed c.requires.at.path _ c.requires.at.entry.inode))
+    rw (c.of-tree.ensures.root ∙ c.get-inode.ensures.root, c.of-tree.ensures.size ∙ c.get-inode.ensures.size) (c.requires.well_formed.sound c.args.entry.now.ino (reached_at _ c.requires.well_formed c.requires.at.path _ c.requires.at.entry.inode))
 
 pub returns-in-File-clause-refused : goal.returns-in-File-clause-refused
 returns-in-File-clause-refused g c = rmdir_file _ c.args.text.now _ _ _ c.requires.at (sym c.get-inode.ensures.kind ∙ ap kind_word c.in-File.is)

@@ -4,7 +4,7 @@ use Rattle.pm_region.specs.Memory.{current_words}
 use Rattle.std.specs.Prelude.{IfSome}
 use Rattle.bp_read.specs.Spots.{found_slot}
 use Rattle.bp_read.specs.declared.spot.Found.{Found}
-use Rattle.bp_layout.specs.Directory.{inumber_at, slot_named}
+use Rattle.bp_layout.specs.Directory.{ino_at, slot_named}
 use Rattle.bp_layout.specs.Lookup.{lookup}
 use Rattle.bp_path.proofs.WalkLaws.{there, low_number, named_reached}
 use Rattle.bp_plain.specs.Calls.Refusal.{is_root}
@@ -20,13 +20,13 @@ pub overflow_cast-source : goal.overflow_cast-source
 overflow_cast-source g c =
     let image = current_words (g.R.Region.memory c.args.region.now) in
     let at : slot_named image c.in_ok-dir.dir c.last-name.result.now ≡ Some c.in-Some.found.slot = sym c.both_of-both.ensures.slot ∙ ap found_slot c.in-Some.is in
-    let P : Option Found → Type 0 = λ o. IfSome o (λ it. it.inumber ≡ inumber_at image c.in_ok-dir.dir it.slot) in
-    let is : c.in-Some.found.inumber ≡ inumber_at image c.in_ok-dir.dir c.in-Some.found.slot = subst P c.in-Some.is c.both_of-both.ensures.inumber in
+    let P : Option Found → Type 0 = λ o. IfSome o (λ it. it.ino ≡ ino_at image c.in_ok-dir.dir it.slot) in
+    let is : c.in-Some.found.ino ≡ ino_at image c.in_ok-dir.dir c.in-Some.found.slot = subst P c.in-Some.is c.both_of-both.ensures.ino in
     omega (
       arith,
-      low_number image c.in-Some.found.inumber c.requires.well_formed
-          (there image c.in-Some.found.inumber c.requires.well_formed
-          (named_reached image c.in_ok-dir.dir c.in-Some.found.inumber c.in-Some.found.slot c.last-name.result.now
+      low_number image c.in-Some.found.ino c.requires.well_formed
+          (there image c.in-Some.found.ino c.requires.well_formed
+          (named_reached image c.in_ok-dir.dir c.in-Some.found.ino c.in-Some.found.slot c.last-name.result.now
           (ok_was _ c.walk_parent_by.result _ c.in_ok-dir.ensures.cases c.walk_parent_by.ensures.reached) (ok_was _ c.walk_parent_by.result _ c.in_ok-dir.ensures.cases c.walk_parent_by.ensures.kind) at (sym is))),
     )
 
@@ -34,15 +34,15 @@ pub returns-in-Some-clause-source : goal.returns-in-Some-clause-source
 returns-in-Some-clause-source g c =
     let image = current_words (g.R.Region.memory c.args.region.now) in
     let split = by_parent c.args.from.now c.requires.below in
-    let P : Option Found → Type 0 = λ o. IfSome o (λ it. it.inumber ≡ inumber_at image c.in_ok-dir.dir it.slot) in
-    let is : c.in-Some.found.inumber ≡ inumber_at image c.in_ok-dir.dir c.in-Some.found.slot = subst P c.in-Some.is c.both_of-both.ensures.inumber in
+    let P : Option Found → Type 0 = λ o. IfSome o (λ it. it.ino ≡ ino_at image c.in_ok-dir.dir it.slot) in
+    let is : c.in-Some.found.ino ≡ ino_at image c.in_ok-dir.dir c.in-Some.found.slot = subst P c.in-Some.is c.both_of-both.ensures.ino in
     name_found image c.args.from.now c.in_ok-dir.dir c.last-name.result.now
     (record {
       below = c.requires.below;
       parent = ok_was _ c.walk_parent_by.result _ c.in_ok-dir.ensures.cases (c.walk_parent_by.ensures.lookup (parent_of c.args.from.now) (last_of c.args.from.now) split);
       last = sym (c.last-name.ensures.last (parent_of c.args.from.now) (last_of c.args.from.now) split);
     })
-    (ok_was _ c.walk_parent_by.result _ c.in_ok-dir.ensures.cases c.walk_parent_by.ensures.kind) c.in-Some.found.slot c.in-Some.found.inumber
+    (ok_was _ c.walk_parent_by.result _ c.in_ok-dir.ensures.cases c.walk_parent_by.ensures.kind) c.in-Some.found.slot c.in-Some.found.ino
     (sym c.both_of-both.ensures.slot ∙ ap found_slot c.in-Some.is) (sym is)
 
 pub returns-in-Some-clause-named : goal.returns-in-Some-clause-named

@@ -38,7 +38,7 @@ pub get-target-requires-clause-most : goal.get-target-requires-clause-most
 get-target-requires-clause-most g c = (inode_found _ c.requires.well_formed c.requires.found.target_path _ (c.requires.found.are.target.there c.args.there c.requires.there).inode).most
 
 pub is_empty-requires : goal.is_empty-requires
-is_empty-requires g c = rw (c.of-tree.ensures.root ∙ c.get-target.ensures.root, c.of-tree.ensures.size ∙ c.get-target.ensures.size) (c.requires.well_formed.sound c.args.there.inumber (reached_at _ c.requires.well_formed c.requires.found.target_path _ (c.requires.found.are.target.there c.args.there c.requires.there).inode))
+is_empty-requires g c = rw (c.of-tree.ensures.root ∙ c.get-target.ensures.root, c.of-tree.ensures.size ∙ c.get-target.ensures.size) (c.requires.well_formed.sound c.args.there.ino (reached_at _ c.requires.well_formed c.requires.found.target_path _ (c.requires.found.are.target.there c.args.there c.requires.there).inode))
 
 pub returns-in-File-kind-clause-leaves : goal.returns-in-File-kind-clause-leaves
 returns-in-File-kind-clause-leaves g c = file_leaves _ c.args.to.now _ _ _ (target_entry _ c.args.from.now c.args.to.now c.args.ends.now c.requires.found c.args.there c.requires.there) (sym c.get-target.ensures.kind ∙ ap kind_word c.in-File.is)

@@ -8,10 +8,10 @@ returns-then-slot-tree-clause-slot g c =
     none_below (current_words (g.R.Region.memory c.args.region.now)) c.args.tree.root c.args.tree.size c.loop-slot.self c.loop-slot.invariant
     c.in-Some.slot c.in-Some.ensures.0 c.if-slot-tree.true
 
-pub returns-then-inumber-eq0-clause-slot : goal.returns-then-inumber-eq0-clause-slot
-returns-then-inumber-eq0-clause-slot g c =
+pub returns-then-entry_ino-eq0-clause-slot : goal.returns-then-entry_ino-eq0-clause-slot
+returns-then-entry_ino-eq0-clause-slot g c =
     first_empty (current_words (g.R.Region.memory c.args.region.now)) c.args.tree.root c.args.tree.size c.loop-slot.self c.loop-slot.invariant
-    c.in-Some.slot c.in-Some.ensures.0 c.if-slot-tree.false (sym c.inumber.ensures ∙ c.if-inumber-eq0.true)
+    c.in-Some.slot c.in-Some.ensures.0 c.if-slot-tree.false (sym c.entry_ino.ensures ∙ c.if-entry_ino-eq0.true)
 
 pub loop-slot-smaller : goal.loop-slot-smaller
 loop-slot-smaller g c = fewer_left c.loop-slot.self.empties c.take.new.self c.in-Some.slot c.in-Some.ensures.0 c.in-Some.ensures.1
@@ -19,7 +19,7 @@ loop-slot-smaller g c = fewer_left c.loop-slot.self.empties c.take.new.self c.in
 pub loop-slot-preserved : goal.loop-slot-preserved
 loop-slot-preserved g c =
     right_without (current_words (g.R.Region.memory c.args.region.now)) c.args.tree.root c.args.tree.size c.loop-slot.self c.loop-slot.invariant
-    c.in-Some.slot c.in-Some.ensures.0 (λ live none. c.if-inumber-eq0.false (c.inumber.ensures ∙ none)) c.take.new.self c.in-Some.ensures.1
+    c.in-Some.slot c.in-Some.ensures.0 (λ live none. c.if-entry_ino-eq0.false (c.entry_ino.ensures ∙ none)) c.take.new.self c.in-Some.ensures.1
 
 pub returns-clause-slot : goal.returns-clause-slot
 returns-clause-slot g c =

@@ -18,9 +18,9 @@ pub returns-then-name_len-name : goal.returns-then-name_len-name
 returns-then-name_len-name c =
     λ image root slot is. is_named-other image root slot c.args.name.now (λ same. c.if-name_len-name.true (c.name_len.ensures ∙ is.each 1 (omega arith) ∙ same))
 
-pub returns-then-inumber-eq0 : goal.returns-then-inumber-eq0
-returns-then-inumber-eq0 c =
-    λ image root slot is. is_named-empty image root slot c.args.name.now (sym (is.each 0 (omega arith)) ∙ sym c.inumber.ensures ∙ c.if-inumber-eq0.true)
+pub returns-then-ino-eq0 : goal.returns-then-ino-eq0
+returns-then-ino-eq0 c =
+    λ image root slot is. is_named-empty image root slot c.args.name.now (sym (is.each 0 (omega arith)) ∙ sym c.ino.ensures ∙ c.if-ino-eq0.true)
 
 pub returns-then-name_part-whole_word : goal.returns-then-name_part-whole_word
 returns-then-name_part-whole_word c =
@@ -60,5 +60,5 @@ returns c =
     ∙ c.requires.last ∙ ap (part_word name) (sym c.last_part-whole.ensures))
     (λ o below within. c.loop-part.invariant image root slot is o (omega (arith, below, c.loop-part-test.false)) within) in
     is_named-bytes image root slot name true
-    (λ none. c.if-inumber-eq0.false (c.inumber.ensures ∙ is.each 0 (omega arith) ∙ none)) (sym (is.each 1 (omega arith)) ∙ sym c.name_len.ensures ∙ c.if-name_len-name.false)
+    (λ none. c.if-ino-eq0.false (c.ino.ensures ∙ is.each 0 (omega arith) ∙ none)) (sym (is.each 1 (omega arith)) ∙ sym c.name_len.ensures ∙ c.if-name_len-name.false)
     (λ yes. spelled_out image root slot name (λ o below within. to_end o (omega (arith, below, c.last_part-whole.ensures)) within), λ same. refl)

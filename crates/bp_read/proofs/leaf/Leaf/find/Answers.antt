@@ -4,7 +4,7 @@ use Rattle.bp_layout.specs.Directory.{is_named_in}
 use Rattle.bp_layout.proofs.Finding.{find-first, find-nothing}
 use Rattle.pm_region.specs.Memory.{current_words}
 use Rattle.bp_read.proofs.DirectoryLeaves.{from-first}
-use Rattle.bp_layout.proofs.EntryWords.{entry_of, inumber_of}
+use Rattle.bp_layout.proofs.EntryWords.{entry_of, ino_of}
 use Rattle.bp_read.proofs.EntryWords.{null_leaf}
 use Rattle.bp_layout.proofs.PartLaws.{is_named-empty}
 use Rattle.bp_read.proofs.leaf.Leaf.find.Goals as goal
@@ -31,11 +31,11 @@ returns-then-is_named-clause-slot g c =
     (sym (c.is_named.ensures image leaf.tree.root (leaf.first + index) (rw c.in_row-entry.ensures entry)) ∙ c.if-is_named.true)
     (λ slot low high. from-first test leaf.first slot index low high c.loop-index.invariant))
 
-pub returns-then-is_named-clause-inumber : goal.returns-then-is_named-clause-inumber
-returns-then-is_named-clause-inumber g c =
+pub returns-then-is_named-clause-ino : goal.returns-then-is_named-clause-ino
+returns-then-is_named-clause-ino g c =
     let leaf = c.args.self.now in
-    c.inumber.ensures ∙ ap (λ ws. slice_index ws 0) c.in_row-entry.ensures
-    ∙ inumber_of (current_words (g.R.Region.memory c.args.region.now)) leaf.tree.root leaf.first leaf.count c.loop-index.index c.words-words.result.now c.words-words.ensures c.loop-index-test.true
+    c.ino.ensures ∙ ap (λ ws. slice_index ws 0) c.in_row-entry.ensures
+    ∙ ino_of (current_words (g.R.Region.memory c.args.region.now)) leaf.tree.root leaf.first leaf.count c.loop-index.index c.words-words.result.now c.words-words.ensures c.loop-index-test.true
 
 pub loop-index-preserved : goal.loop-index-preserved
 loop-index-preserved g c =

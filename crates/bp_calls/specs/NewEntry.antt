@@ -7,6 +7,7 @@ use Rattle.bp_calls.specs.Growth.{stores_after_growth}
 use Rattle.bp_calls.specs.Steps.{HasLooseWord, name_need}
 use Rattle.bp_changes.specs.Performs.{PerformsThawed, PerformsWithin}
 use Rattle.bp_free.specs.Set.{Set, without}
+use Rattle.bp_free.specs.declared.parts.Parts.{Parts}
 use Rattle.bp_layout.specs.Paths.{Name}
 use Rattle.bp_layout.specs.Free.{IsLeastFree}
 use Rattle.bp_layout.specs.Need.{Entrant}
@@ -15,7 +16,7 @@ use Rattle.bp_layout.specs.Need.Entrant.{linked, taken}
 use Rattle.bp_layout.specs.Words.{Image}
 use Rattle.bp_layout.specs.declared.fields.Kind.{Kind}
 use Rattle.bp_limits.specs.Limits.{entry_words, inode_words}
-use Rattle.bp_changes.specs.Sets.{AreExact}
+use Rattle.bp_changes.specs.Sets.{AreExact, in_snapshot_of}
 use Rattle.pm_region.specs.Memory.{Memory, current_words}
 
 -- The new entry of directory `i` is made in as many blocks as a name for an existing inode takes, with 5 barriers and
@@ -67,3 +68,17 @@ KeepsFree old new = (in_snapshot : ℕ → Bool) (blocks : Set) → KeepsFreeIno
 
 abbrev pub TakesOnlyInode : Memory → Memory → ℕ → Type 0
 TakesOnlyInode old new j = (in_snapshot : ℕ → Bool) (blocks : Set) → TakesFreeInode in_snapshot old new blocks blocks j
+
+-- ---- the same of the parts of a file system
+
+abbrev pub PerformsEntryIn : {R : Type 0} → (R → Memory) → Parts R → Parts R → ℕ → Entrant → (Image → Image → Type 0) → Type 0
+PerformsEntryIn memory old new i entrant Effect =
+    PerformsEntry (in_snapshot_of old) (memory old.region) (memory new.region) i entrant Effect
+
+abbrev pub KeepsFreeInodesIn : {R : Type 0} → (R → Memory) → Parts R → Parts R → Type 0
+KeepsFreeInodesIn memory old new =
+    KeepsFreeInodes (in_snapshot_of old) (memory old.region) (memory new.region) old.free_blocks new.free_blocks
+
+abbrev pub TakesFreeInodeIn : {R : Type 0} → (R → Memory) → Parts R → Parts R → ℕ → Type 0
+TakesFreeInodeIn memory old new j =
+    TakesFreeInode (in_snapshot_of old) (memory old.region) (memory new.region) old.free_blocks new.free_blocks j

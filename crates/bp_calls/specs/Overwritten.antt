@@ -11,8 +11,9 @@ use Rattle.bp_layout.specs.Thaw.{thawed}
 use Rattle.bp_layout.specs.WellFormed.{IsWellFormed}
 use Rattle.bp_layout.specs.Words.{Image}
 use Rattle.bp_changes.specs.Overwrites.{Patch}
-use Rattle.bp_changes.specs.Sets.{AreExact}
+use Rattle.bp_changes.specs.Sets.{AreExact, in_snapshot_of}
 use Rattle.bp_free.specs.Set.{Set}
+use Rattle.bp_free.specs.declared.parts.Parts.{Parts}
 use Rattle.bp_cow.specs.declared.touched.Run.{Run}
 use Rattle.bp_calls.specs.declared.batches.Patch.{Patch as GivenPatch}
 use Rattle.bp_calls.specs.Space.{HasRoomThawed}
@@ -63,6 +64,11 @@ pub record CanOverwriteThawed (in_snapshot : ℕ → Bool) (memory : Memory) (bl
   pub can : CanOverwrite (current_words memory) patches
   pub clear : thawed (current_words memory) in_snapshot (overwrites (stretches_of patches)) ≡ []
   pub room : HasRoomThawed memory blocks (overwrites (stretches_of patches))
+
+-- The same of the parts of a file system.
+abbrev pub CanOverwriteThawedIn : {R : Type 0} → (R → Memory) → Parts R → List Patch → Type 0
+CanOverwriteThawedIn memory parts patches =
+    CanOverwriteThawed (in_snapshot_of parts) (memory parts.region) parts.free_blocks parts.free_inodes patches
 
 -- The runs of those patches that have bytes, in their order.
 pub data AreRuns (image : Image) : List Patch → List Run → Type 0 where

@@ -3,7 +3,7 @@
 ghost use Rattle.std.specs.Prelude.{◌≡◌, ◌+◌, ◌≤◌, [], ◌∷◌, length, IfErr, OnErr, OnOk};
 ghost use Rattle.bp_calls.specs.Commits.{CommitsOrLacksBlocks, CommitsOrLacksSpace};
 ghost use Rattle.bp_calls.specs.Mounted.{image_in, IsExactIn, IsMountedIn};
-ghost use Rattle.bp_calls.specs.Overwritten.{AreRuns, CanOverwrite, CanOverwriteThawed, IsPatchIn, batch_change, patch_seen, patches_seen};
+ghost use Rattle.bp_calls.specs.Overwritten.{AreRuns, CanOverwrite, CanOverwriteThawedIn, IsPatchIn, batch_change, patch_seen, patches_seen};
 ghost use Rattle.bp_calls.specs.Space.{HasRoomWhereFree, LacksSpace};
 ghost use Rattle.bp_calls.specs.ThawsFor.{ThawsBefore};
 ghost use Rattle.bp_calls.specs.TouchedBelow.{IsRunFor};
@@ -87,8 +87,7 @@ fn covering<R: Region>(region: &R, touched: &Touched<'_>) -> Targets
 ///
 /// - `NoSpace`: fewer blocks are free than the call copies.
 fn overlay<R: Region>(parts: &mut Parts<R>, patches: &[Patch<'_>]) -> Result<(), NoSpace>
-    requires can { CanOverwriteThawed (in_snapshot_of parts.old) (R.memory parts.old.region) parts.old.free_blocks parts.old.free_inodes
-        (patches_seen patches.now) }
+    requires can { CanOverwriteThawedIn R.memory parts.old (patches_seen patches.now) }
     requires exact { IsExactIn R.memory parts.old }
     ensures { CommitsOrLacksBlocks R.memory parts.old parts.new result (batch_change patches.now)
         (OverwritesFiles (patches_seen patches.now)) }

@@ -5,7 +5,7 @@ ghost use Rattle.bp_free.specs.Parts.{KeepsSets};
 ghost use Rattle.bp_calls.specs.Commits.{CommitsChange, CommitsOrLacksSpace};
 ghost use Rattle.bp_calls.specs.Created.{CountsMore, LinksEntry};
 ghost use Rattle.bp_calls.specs.Mounted.{image_in, IsExactIn, IsMountedIn};
-ghost use Rattle.bp_calls.specs.NewEntry.{KeepsFree, KeepsFreeInodes, LinksInSlot, PerformsEntry};
+ghost use Rattle.bp_calls.specs.NewEntry.{KeepsFree, KeepsFreeInodesIn, LinksInSlot, PerformsEntryIn};
 ghost use Rattle.bp_calls.specs.Space.{HasRoomWhereFree, LacksSpace};
 ghost use Rattle.bp_calls.specs.Steps.{CanLink, CanLinkPastEnd, CanShare, entering_room, name_need};
 ghost use Rattle.bp_calls.specs.ThawedFor.{AreThawedFor};
@@ -49,10 +49,8 @@ fn link_slot<R: Region>(region: &mut R, dir: u32, slot: u64, ino: u32, name: &[u
 /// Enters a name for an existing file in an entry after the last one of a directory, whose size then includes it.
 fn link_past_end<R: Region>(parts: &mut Parts<R>, dir: u32, ino: u32, name: &[u8])
     requires can { CanLinkPastEnd (in_snapshot_of parts.old) (R.memory parts.old.region) parts.old.free_blocks dir ino name.now }
-    ensures performs { PerformsEntry (in_snapshot_of parts.old) (R.memory parts.old.region) (R.memory parts.new.region) dir linked
-        (LinksEntry dir name.now ino) }
-    ensures exact { KeepsFreeInodes (in_snapshot_of parts.old) (R.memory parts.old.region) (R.memory parts.new.region) parts.old.free_blocks
-        parts.new.free_blocks }
+    ensures performs { PerformsEntryIn R.memory parts.old parts.new dir linked (LinksEntry dir name.now ino) }
+    ensures exact { KeepsFreeInodesIn R.memory parts.old parts.new }
     ensures counts { CountsMore (image_in R.memory parts.old) (image_in R.memory parts.new) ino }
     ensures keeps { KeepsSets parts.old parts.new }
 {

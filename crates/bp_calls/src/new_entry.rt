@@ -5,7 +5,7 @@ ghost use Rattle.bp_free.specs.Parts.{KeepsSets};
 ghost use Rattle.bp_changes.specs.Sets.{in_snapshot_of};
 ghost use Rattle.bp_calls.specs.Created.{CountsName, EntersName};
 ghost use Rattle.bp_calls.specs.Entries.{AreEntryBytes, PutsEntry, entry_byte};
-ghost use Rattle.bp_calls.specs.NewEntry.{EntersInSlot, PerformsEntry, TakesFreeInode, TakesOnlyInode};
+ghost use Rattle.bp_calls.specs.NewEntry.{EntersInSlot, PerformsEntryIn, TakesFreeInodeIn, TakesOnlyInode};
 ghost use Rattle.bp_calls.specs.Steps.{CanEnterPastEnd, CanName, CanPutPastEnd, entering_room, name_need};
 ghost use Rattle.bp_calls.specs.Mounted.{image_in};
 ghost use Rattle.bp_layout.specs.Directory.{empty_slot};
@@ -138,10 +138,8 @@ pub(crate) fn enter_past_end<R: Region>(
     kind: Kind,
 )
     requires can { CanEnterPastEnd (in_snapshot_of parts.old) (R.memory parts.old.region) parts.old.free_blocks dir ino name.now }
-    ensures performs { PerformsEntry (in_snapshot_of parts.old) (R.memory parts.old.region) (R.memory parts.new.region) dir (taken ino)
-        (EntersName dir name.now kind) }
-    ensures exact { TakesFreeInode (in_snapshot_of parts.old) (R.memory parts.old.region) (R.memory parts.new.region) parts.old.free_blocks
-        parts.new.free_blocks ino }
+    ensures performs { PerformsEntryIn R.memory parts.old parts.new dir (taken ino) (EntersName dir name.now kind) }
+    ensures exact { TakesFreeInodeIn R.memory parts.old parts.new ino }
     ensures counts { CountsName (image_in R.memory parts.old) (image_in R.memory parts.new) ino }
     ensures keeps { KeepsSets parts.old parts.new }
 {

@@ -1,17 +1,12 @@
 -- Where the words and bytes of an entry stand.
-use Rattle.std.proofs.Common.{◌≡◌, ◌≢◌, ℕ, ◌+◌, ◌*◌, ◌/◌, ◌%◌, ◌<◌, ◌≤◌, List, take, drop, length, slice_index, slice_range, refl, sym, ◌∙◌, ap, ap₂, arith}
-use Rattle.std.proofs.lemmas.List.{get_or-drop}
-use Rattle.std.proofs.lemmas.List.FromFn.{take-map-range_with_len}
-use Rattle.bp_layout.specs.Words.{Image, block_count, height_of, slot_word, word, byte_of}
-use Rattle.bp_layout.specs.Tree.{node, byte, content_word, IsSound, IsLivePointer}
-use Rattle.bp_layout.specs.Directory.{word_in, name_in}
-use Rattle.bp_layout.specs.Fields.{name_byte, name_of}
-use Rattle.bp_layout.proofs.Finding.{map-same}
-use Rattle.bp_layout.specs.EntryWords.{HasWords, IsRow}
+use Rattle.std.proofs.Common.{◌≡◌, ◌≢◌, ℕ, ◌+◌, ◌*◌, ◌/◌, ◌%◌, ◌<◌, ◌≤◌, List, length, slice_range, sym, ◌∙◌, ap, ap₂, arith}
+use Rattle.bp_layout.specs.Words.{Image, block_count, height_of, slot_word, word}
+use Rattle.bp_layout.specs.Tree.{node, IsSound, IsLivePointer}
+use Rattle.bp_layout.specs.Directory.{word_in}
+use Rattle.bp_layout.specs.EntryWords.{IsRow}
 use Rattle.bp_read.specs.EntryWords.{IsLeaf}
 use Rattle.bp_read.specs.declared.leaf.Leaf.{Leaf}
 use Rattle.bp_layout.proofs.TreeLaws.{slot_word-at, tree_word-suc}
-use Rattle.bp_layout.specs.Bytes.{stored_byte, stored_bytes}
 use Rattle.bp_layout.proofs.LoadedWords.{length-loaded, loaded_word}
 
 pub word_in-at : (image : Image) (root slot f : ℕ) → f < 32 →

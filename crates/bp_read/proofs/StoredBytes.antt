@@ -1,16 +1,11 @@
 -- The bytes of words and of leaves, in the order of their places.
-use Rattle.std.proofs.Common.{◌≡◌, ◌≢◌, ℕ, ◌+◌, ◌*◌, ◌/◌, ◌%◌, ◌<◌, ◌≤◌, replicate, slice_range, refl, sym, ◌∙◌, ap, ap₂, arith}
-use Rattle.std.specs.Int.{w64, to_le_bytes}
-use Rattle.std.specs.List.{between}
+use Rattle.std.proofs.Common.{◌≡◌, ◌≢◌, ℕ, ◌+◌, ◌*◌, ◌/◌, ◌%◌, ◌<◌, ◌≤◌, replicate, sym, ◌∙◌, ap, ap₂, arith}
 use Rattle.std.proofs.lemmas.List.{get_or-replicate, length-replicate}
-use Rattle.std.proofs.lemmas.List.Edits.{length-between, get_or-between}
 use Rattle.bp_layout.specs.Words.{Image, word, height_of, slot_word, byte_of}
 use Rattle.bp_layout.specs.Tree.{node, byte, content_word}
 use Rattle.bp_layout.proofs.TreeLaws.{tree_word-suc, slot_word-at}
-use Rattle.bp_layout.proofs.WordBytes.{to_le-byte}
 use Rattle.bp_layout.specs.Bytes.{stored_byte, stored_bytes}
 use Rattle.bp_read.specs.Bytes.{content_part}
-use Rattle.bp_layout.proofs.LoadedWords.{loaded_word}
 use Rattle.bp_layout.proofs.Ranges.{from_elements, same_values}
 
 -- a byte of a tree, by the leaf that it stands in

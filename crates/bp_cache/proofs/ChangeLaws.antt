@@ -10,7 +10,7 @@ use Rattle.bp_layout.specs.Paths.{Name}
 use Rattle.bp_cache.specs.declared.index.Index.{Index}
 use Rattle.bp_cache.specs.Entries.{HasName, KeepsName, KeepsNames}
 use Rattle.bp_cache.specs.Hashes.{hash_of}
-use Rattle.bp_cache.specs.Index.{EntersSlot, IsIndexed, IsIndexOf, KeepsIndexed, LeavesSlot}
+use Rattle.bp_cache.specs.Index.{EntersSlot, IsIndexed, IsIndexOf, KeepsIndexed, Leads, LeavesSlot}
 
 -- ---- one entry
 
@@ -28,7 +28,7 @@ pub indexed_kept : (old : Image) (old_root : ℕ) (new : Image) (new_root slot :
     IsIndexed old old_root slot index → IsIndexed new new_root slot index
 indexed_kept old old_root new new_root slot index keeps is = record {
   room = is.room;
-  named = λ live. ap (λ n. get nat_eq index.slots (hash_of n)) (keeps.name live) ∙ is.named (keeps.live live);
+  named = λ live. subst (λ n. Leads index (hash_of n) slot) (sym (keeps.name live)) (is.named (keeps.live live));
   empty = λ none. is.empty (keeps.empty none);
 }
 
@@ -42,7 +42,7 @@ module _ (image : Image) (root : ℕ) (before after : Index) (name : Name) (slot
   pub indexed_entered : EntersSlot before after name slot → HasName image root slot name → IsIndexed image root slot after
   indexed_entered enters has_name = record {
     room = omega (arith, enters.room, enters.empties.room);
-    named = λ live. ap (λ n. get nat_eq after.slots (hash_of n)) has_name.spelled ∙ enters.slots.1;
+    named = λ live. subst (λ n. Leads after (hash_of n) slot) (sym has_name.spelled) enters.names.leads;
     empty = λ none. absurd (has_name.live none);
   }
 
@@ -56,30 +56,16 @@ module _ (image : Image) (root : ℕ) (before after : Index) (name : Name) (slot
   pub others_entered : EntersSlot before after name slot → KeepsIndexed image root slot before after
   others_entered enters other apart is = record {
     room = omega (arith, is.room, enters.empties.room);
-    named = λ live. same_hash live (cases_eq (hash_of name) (hash_of (name_in image root other)));
+    named = λ live. enters.names.kept _ other (is.named live);
     empty = λ none. enters.empties.others other apart ∙ is.empty none;
   }
-    where
-      same_hash : ino_in image root other ≢ 0 → (hash_of name ≡ hash_of (name_in image root other)) ⊎ (hash_of name ≡ hash_of (name_in image root other) → ⊥) →
-          get nat_eq after.slots (hash_of (name_in image root other)) ≡ Some other
-      same_hash live (inl meets) =
-          let taken : None ≡ Some other = sym enters.free ∙ ap (get nat_eq before.slots) meets ∙ is.named live in absurd (cc)
-      same_hash live (inr differs) = enters.slots.2 _ (ne_eqb _ _ differs) ∙ is.named live
 
-  pub others_left : LeavesSlot before after name slot → get nat_eq before.slots (hash_of name) ≡ Some slot → slot < length before.empties → KeepsIndexed image root slot before after
+  pub others_left : LeavesSlot before after name slot → Leads before (hash_of name) slot → slot < length before.empties → KeepsIndexed image root slot before after
   others_left leaves led room other apart is = record {
     room = omega (arith, is.room, leaves.room);
-    named = λ live. same_hash live (cases_eq (hash_of name) (hash_of (name_in image root other)));
+    named = λ live. leaves.names.kept led _ other (λ _. apart) (is.named live);
     empty = λ none. (leaves.empties room).others other apart ∙ is.empty none;
   }
-    where
-      same_hash : ino_in image root other ≢ 0 → (hash_of name ≡ hash_of (name_in image root other)) ⊎ (hash_of name ≡ hash_of (name_in image root other) → ⊥) →
-          get nat_eq after.slots (hash_of (name_in image root other)) ≡ Some other
-      same_hash live (inl meets) =
-          let both : Some slot ≡ Some other = sym led ∙ ap (get nat_eq before.slots) meets ∙ is.named live in
-          let here : slot ≡ other = cc in
-          absurd (apart (sym here))
-      same_hash live (inr differs) = leaves.slots.2 _ (ne_eqb _ _ differs) ∙ is.named live
 
 -- ---- a directory
 
@@ -102,9 +88,9 @@ module _ (old : Image) (old_root old_size : ℕ) (new : Image) (new_root new_siz
             others_entered new new_root before after name slot enters other apart
             (indexed_kept old old_root new new_root other before (keeps.keeps other live apart) (right.each other (keeps.live other live apart)))
 
-    -- what the index describes a slot with a name
-    reported : slot < old_size / 256 → HasName old old_root slot name → get nat_eq before.slots (hash_of name) ≡ Some slot
-    reported live has_name = ap (λ n. get nat_eq before.slots (hash_of n)) (sym has_name.spelled) ∙ (right.each slot live).named has_name.live
+    -- what the index records of a slot with a name
+    reported : slot < old_size / 256 → HasName old old_root slot name → Leads before (hash_of name) slot
+    reported live has_name = subst (λ n. Leads before (hash_of n) slot) has_name.spelled ((right.each slot live).named has_name.live)
 
     -- the other entries are reported still when a name leaves
     others_reported : slot < old_size / 256 → HasName old old_root slot name → LeavesSlot before after name slot →

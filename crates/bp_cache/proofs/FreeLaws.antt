@@ -37,7 +37,7 @@ module _ (image : Image) (root size : ℕ) (index : Index) (right : IsIndexOf im
     right_without taken empties is = record {
       each = λ other live. record {
         room = omega (arith, (right.each other live).room, ap length is, length-set index.empties slot false);
-        named = (right.each other live).named;
+        named = λ some. let led = (right.each other live).named some in record { first = led.first; table = led.table; here = led.here };
         empty = λ none. ap (λ s. has s other) is ∙ still other live none (cases_eq other slot);
       };
     }

@@ -8,7 +8,7 @@ use Rattle.bp_layout.specs.Inode.{IsDirectory, root_of}
 use Rattle.bp_layout.specs.Reached.{IsReached}
 use Rattle.bp_cache.specs.declared.index.Index.{Index}
 use Rattle.bp_cache.specs.Hashes.{hash_of}
-use Rattle.bp_cache.specs.Index.{EntersSlot, IsIndexed, LeavesSlot}
+use Rattle.bp_cache.specs.Index.{EntersSlot, IsIndexed, Leads, LeavesSlot}
 use Rattle.bp_cache.proofs.ChangeLaws.{indexed_kept, indexed_entered, indexed_left, others_entered, others_left}
 use Rattle.bp_cache.specs.declared.name_at.NameAt.{NameAt}
 use Rattle.bp_cache.specs.Cache.{IsIndexIn}
@@ -52,8 +52,7 @@ module _ (old new : Image) where
       others_reported : KeepsBut old new at.dir at.slot → (slot : ℕ) → IsReached new at.dir → IsDirectory new at.dir → slot < entry_count new at.dir →
           slot ≢ at.slot → IsIndexed new (root_of new at.dir) slot after
       others_reported keeps slot reached directory live apart =
-          let reported : get nat_eq before.slots (hash_of at.name.now) ≡ Some at.slot =
-          ap (λ name. get nat_eq before.slots (hash_of name)) (sym stood.named.spelled) ∙ entry_reported.named stood.named.live in
+          let reported : Leads before (hash_of at.name.now) at.slot = subst (λ name. Leads before (hash_of name) at.slot) stood.named.spelled (entry_reported.named stood.named.live) in
           others_left new (root_of new at.dir) before after at.name.now at.slot leaves reported entry_reported.room slot apart
           (indexed_still at.dir slot before right (keeps slot reached directory live apart))
 

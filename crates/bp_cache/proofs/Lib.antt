@@ -1,6 +1,8 @@
 pub mod Pairs
 pub mod Maps
 pub mod PutLaws
+pub mod CollisionLaws
+pub mod LeadLaws
 pub mod FindLaws
 pub mod FreeLaws
 pub mod ChangeLaws

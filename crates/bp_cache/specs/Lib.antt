@@ -3,6 +3,7 @@ pub mod Same
 pub mod Forgets
 pub mod Entries
 pub mod Hashes
+pub mod Collisions
 pub mod Index
 pub mod Slots
 pub mod Held

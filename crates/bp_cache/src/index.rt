@@ -1,10 +1,12 @@
 //! The index of a directory.
 
-ghost use Rattle.std.specs.Prelude.{◌≡◌, ℕ, ◌/◌, ◌<◌, ◌≤◌, true, length, IfOk, IfSome};
+ghost use Rattle.std.specs.Prelude.{◌≡◌, ℕ, ◌/◌, ◌<◌, ◌≤◌, max, min, nat_eq, true, length, vec_capacity, IfOk, IfSome, IsSome, Some};
 ghost use Rattle.std.specs.Bool.{OnTrue};
+ghost use Rattle.std.specs.HashMap.{get, hash_map_len, spare, Updates};
 ghost use Rattle.bp_layout.specs.EntryWords.{HasWords};
 ghost use Rattle.bp_read.specs.Spots.{FreeIs, found_slot, named_slot};
-ghost use Rattle.bp_cache.specs.Index.{CanEnter, EntersEntry, EntersSlot, IsEmptyIndex, IsIndexOf, IsIndexed, KeepsIndexed, LeavesSlot};
+ghost use Rattle.bp_cache.specs.Collisions.{AddsCollision};
+ghost use Rattle.bp_cache.specs.Index.{CanEnter, EntersEntry, EntersSlot, GainsSlot, IsEmptyIndex, IsIndexOf, IsIndexed, KeepsIndexed, LeavesSlot, LosesSlot};
 ghost use Rattle.bp_layout.specs.Directory.{empty_slot_in, ino_in, slot_named_in};
 ghost use Rattle.bp_layout.specs.Tree.{IsSound};
 ghost use Rattle.bp_layout.specs.Words.{Image};
@@ -12,6 +14,7 @@ ghost use Rattle.bp_limits.specs.Limits.{entry_size};
 ghost use Rattle.bp_limits.specs.CallLimits.{max_name};
 ghost use Rattle.pm_region.specs.Memory.{words_in};
 
+use crate::collisions::Collisions;
 use crate::entry::{find_at, live_entry};
 use crate::hash::hash_of;
 use crate::slots::{SlotNumbers, put_in, take_out};
@@ -35,8 +38,11 @@ const SPARE_SLOTS: u32 = 1024;
 /// is looked at before it is returned.
 #[derive(Drop)]
 pub struct Index {
-    // from the hash of a name to its slot
+    // from the hash of a name to its slot, the least one if several names have the hash
     slots: HashMap<u64, u32>,
+    // The greater slots of hashes that several names have. A name has one place, here or in `slots`, and gives it up
+    // when it leaves. So the number of places changes only with the number of names, and memory does not grow otherwise.
+    collisions: Collisions,
     // the slots that may be empty, below a bound
     empties: Numbers<SlotNumbers>,
 }
@@ -49,12 +55,13 @@ impl Index {
         let room = slots.saturating_mul(2).saturating_add(SPARE_SLOTS);
         Ok(Index {
             slots: HashMap::with_capacity(alloc, slots as usize)?,
+            collisions: Collisions::new(alloc),
             empties: Numbers::<SlotNumbers>::new(alloc, room)?,
         })
     }
 
-    /// Adds an entry that refers to an inode. Returns false if its name cannot be added: if it is too long, if another
-    /// name has its hash, or if allocation fails.
+    /// Adds an entry that refers to an inode. Returns false if its name cannot be added: if it is too long, or if
+    /// allocation fails.
     fn take_in(&mut self, entry: &EntryView<'_>, slot: u32) -> bool
         requires { slot < length self.old.empties }
         ensures { (image : Image) (root : ℕ) → HasWords image root slot entry.now.words.now → result ≡ true →
@@ -86,8 +93,8 @@ impl Index {
         }
     }
 
-    /// Makes the index of a directory, by one pass over its entries. Returns `None` if allocation fails, if two names
-    /// have one hash, if a name is longer than allowed, or if the number of slots exceeds 32 bits.
+    /// Makes the index of a directory, by one pass over its entries. Returns `None` if allocation fails, if a name is
+    /// longer than allowed, or if the number of slots exceeds 32 bits.
     pub fn of<R: Region>(alloc: Global, region: &R, tree: Tree) -> Option<Index>
         requires { IsSound (words_in R.memory region.now) tree.root tree.size }
         ensures { IfSome result (IsIndexOf (words_in R.memory region.now) tree.root tree.size) }
@@ -108,7 +115,8 @@ impl Index {
         Some(index)
     }
 
-    /// Returns what [`bp_read::directory::find_entry`] returns, after a look at one entry at most.
+    /// Returns what [`bp_read::directory::find_entry`] returns, after a look at each entry with the hash of the name at
+    /// most. If the first of them has another name, it also compares all the hashes that are in `collisions`.
     pub fn find_entry<R: Region>(&self, region: &R, tree: Tree, name: &[u8]) -> Option<Found>
         requires sound { IsSound (words_in R.memory region.now) tree.root tree.size }
         requires short { length name.now ≤ max_name }
@@ -117,9 +125,13 @@ impl Index {
         ensures ino { IfSome result
             (λ found. found.ino ≡ ino_in (words_in R.memory region.now) tree.root found.slot) }
     {
-        match self.slots.get(&hash_of(name)) {
-            Some(slot) => find_at(region, tree, *slot as u64, name),
-            None => None,
+        let hash = hash_of(name);
+        let Some(first) = self.slots.get(&hash) else {
+            return None;
+        };
+        match find_at(region, tree, *first as u64, name) {
+            Some(found) => Some(found),
+            None => self.collisions.find(region, tree, hash, name),
         }
     }
 
@@ -158,8 +170,38 @@ impl Index {
         }
     }
 
+    /// Makes a hash lead to the lesser one of two slots by the table, and to the greater one as a collision. Returns
+    /// false if allocation fails.
+    #[inline(never)]
+    fn collide(&mut self, hash: u64, first: u32, slot: u32) -> bool
+        ensures table { OnTrue result (Updates nat_eq self.old.slots self.new.slots hash (Some (min first slot))) }
+        ensures collision { OnTrue result (AddsCollision self.old.collisions self.new.collisions hash (max first slot)) }
+        ensures succeeds { IsSome (get nat_eq self.old.slots hash) →
+            length self.old.collisions.slots.items < vec_capacity self.old.collisions.slots → result ≡ true }
+        ensures count { IsSome (get nat_eq self.old.slots hash) → hash_map_len self.new.slots ≡ hash_map_len self.old.slots }
+        ensures empties { self.new.empties ≡ self.old.empties }
+    {
+        self.slots.insert(hash, first.min(slot)).is_ok()
+            && self.collisions.add(hash, first.max(slot))
+    }
+
+    /// Makes a hash lead to a slot, too. Returns false if allocation fails.
+    fn lead(&mut self, hash: u64, slot: u32) -> bool
+        ensures gains { OnTrue result (GainsSlot self.old self.new hash slot) }
+        ensures succeeds { 0 < spare self.old.slots →
+            (IsSome (get nat_eq self.old.slots hash) → length self.old.collisions.slots.items < vec_capacity self.old.collisions.slots) →
+            result ≡ true }
+        ensures empties { self.new.empties ≡ self.old.empties }
+    {
+        match self.slots.insert(hash, slot) {
+            Ok(None) => true,
+            Ok(Some(first)) => first == slot || self.collide(hash, first, slot),
+            Err(_) => false,
+        }
+    }
+
     /// Updates the index after a name was added in a slot. If it returns false, the index is no longer correct and has
-    /// to be dropped: allocation failed, the slot is past those for which there is room, or another name has the hash.
+    /// to be dropped: allocation failed, or the slot is past those for which there is room. Names may share a hash.
     pub fn enter(&mut self, name: &[u8], slot: u64) -> bool
         ensures enters { OnTrue result (EntersSlot self.old self.new name.now slot) }
         ensures succeeds { CanEnter self.old name.now slot → result ≡ true }
@@ -168,18 +210,58 @@ impl Index {
             return false;
         }
         let slot = slot as u32;
-        let Ok(None) = self.slots.insert(hash_of(name), slot) else {
+        if !self.lead(hash_of(name), slot) {
             return false;
-        };
+        }
         take_out(&mut self.empties, slot);
         true
+    }
+
+    /// Makes a hash not lead to the slot that the table has for it. The least of the others takes its place.
+    fn lose_first(&mut self, hash: u64)
+        ensures loses { (slot : ℕ) → get nat_eq self.old.slots hash ≡ Some slot → LosesSlot self.old self.new hash slot }
+        ensures empties { self.new.empties ≡ self.old.empties }
+    {
+        match self.collisions.least(hash) {
+            Some(next) => {
+                let _first = self.slots.insert(hash, next);
+                self.collisions.remove(hash, next as u64);
+            }
+            None => {
+                let _first = self.slots.remove(&hash);
+            }
+        }
+    }
+
+    /// Makes a hash not lead to a slot, if there are collisions.
+    #[inline(never)]
+    fn lose_among(&mut self, hash: u64, slot: u64)
+        ensures loses { LosesSlot self.old self.new hash slot }
+        ensures empties { self.new.empties ≡ self.old.empties }
+    {
+        match self.slots.get(&hash) {
+            Some(first) if *first as u64 == slot => self.lose_first(hash),
+            _ => self.collisions.remove(hash, slot),
+        }
+    }
+
+    /// Makes a hash not lead to a slot.
+    fn lose(&mut self, hash: u64, slot: u64)
+        ensures loses { LosesSlot self.old self.new hash slot }
+        ensures empties { self.new.empties ≡ self.old.empties }
+    {
+        if !self.collisions.is_empty() {
+            self.lose_among(hash, slot);
+            return;
+        }
+        let _first = self.slots.remove(&hash);
     }
 
     /// Updates the index after a name was removed from its slot.
     pub fn leave(&mut self, name: &[u8], slot: u64)
         ensures { LeavesSlot self.old self.new name.now slot }
     {
-        let _slot = self.slots.remove(&hash_of(name));
+        self.lose(hash_of(name), slot);
         if slot < self.empties.room() as u64 {
             put_in(&mut self.empties, slot as u32);
         }

@@ -4,6 +4,7 @@
 #![tactic(auto)]
 
 mod cache;
+mod collisions;
 mod entry;
 mod hash;
 mod held;

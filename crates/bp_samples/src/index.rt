@@ -10,7 +10,7 @@ use std::test::Fail;
 fn names_are_found_by_an_index(rt: HostRuntime) -> Result<(), Fail> {
     let region = sample(rt.alloc(), (2, 0x6261), (1, 0x7863))?;
     let made = Index::of(rt.alloc(), &region, TREE);
-    let mut index = made.expect(&rt, "each name has a hash of its own");
+    let mut index = made.expect(&rt, "there is memory");
     let first = Found { slot: 0, ino: 2 };
     assert_eq!(rt; index.find_entry(&region, TREE, b"ab"), Some(first));
     assert_eq!(rt; index.find_entry(&region, TREE, b"a"), None);
@@ -19,14 +19,13 @@ fn names_are_found_by_an_index(rt: HostRuntime) -> Result<(), Fail> {
     Ok(())
 }
 
-/// A name gets a slot once, and again after it left the slot; there is no room for slot 5,000.
+/// A name gets a slot, and another one after it left the slot; there is no room for slot 5,000.
 #[test]
 fn names_come_and_leave(rt: HostRuntime) -> Result<(), Fail> {
     let region = sample(rt.alloc(), (2, 0x6261), (1, 0x7863))?;
     let made = Index::of(rt.alloc(), &region, TREE);
-    let mut index = made.expect(&rt, "each name has a hash of its own");
+    let mut index = made.expect(&rt, "there is memory");
     assert!(rt; index.enter(b"d", 2));
-    assert!(rt; !index.enter(b"d", 3));
     index.leave(b"d", 2);
     assert!(rt; index.enter(b"d", 3));
     assert!(rt; !index.enter(b"e", 5000));

@@ -13,7 +13,7 @@ use bp_cache::Names;
 use bp_free::{Blocks, Counts, Inodes};
 use bp_layout::{Hints, NoHints};
 use bp_path::{FoundEntry, WalkFault, parse, walk, walk_parent_with, walk_with};
-use bp_scan::{Pending, scan};
+use bp_scan::{Pending, scan_whole};
 use pm_region::ListRegion;
 use std::alloc::Global;
 use std::process::Abort;
@@ -68,7 +68,16 @@ fn deep(rt: &impl Abort, alloc: Global) -> ListRegion
     let mut inodes = Inodes::new(alloc, 512).expect(rt, "there is memory");
     let mut pending = Pending::new(alloc, 512).expect(rt, "there is memory");
     let mut counts = Counts::new(alloc, 512).expect(rt, "there is memory");
-    let scanned = scan(&region, &mut blocks, &mut inodes, &mut pending, &mut counts);
+    let mut snapshot_blocks = Blocks::new(alloc, 8).expect(rt, "there is memory");
+    let scanned = scan_whole(
+        alloc,
+        &region,
+        &mut blocks,
+        &mut inodes,
+        &mut snapshot_blocks,
+        &mut pending,
+        &mut counts,
+    );
     scanned.expect(rt, "it is well formed");
     region
 }

@@ -131,6 +131,7 @@ fn scanned(rt: &impl Abort, alloc: Global, words: Vec<u64>) -> Found
     counts.set(1, 7);
     let mut pending = Pending::new(alloc, INODES).expect(rt, "there is memory");
     let answer = scan_whole(
+        alloc,
         &region,
         &mut blocks,
         &mut inodes,

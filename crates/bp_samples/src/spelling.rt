@@ -37,8 +37,7 @@ fn checked(
 ) -> Result<Result<(), NameFault>, AllocError> {
     let region = sample(alloc, first, second)?;
     let mut entries = [Spelled::default(); 160];
-    let mut numbers = [0; 2];
-    Ok(check_names(&region, TREE, &mut entries, &mut numbers))
+    Ok(check_names(&region, TREE, &mut entries))
 }
 
 /// Checks the names without memory for a table.
@@ -49,8 +48,7 @@ fn checked_by_order(
 ) -> Result<Result<(), NameFault>, AllocError> {
     let region = sample(alloc, first, second)?;
     let mut entries = [Spelled::default(); 2];
-    let mut numbers = [0; 2];
-    Ok(check_names(&region, TREE, &mut entries, &mut numbers))
+    Ok(check_names(&region, TREE, &mut entries))
 }
 
 /// "ab" and "ac", with any unused bytes; "..." is a name.

@@ -1,5 +1,5 @@
 -- A directory is taken up, and is done.
-use Rattle.std.proofs.Common.{◌≡◌, ℕ, zero, suc, ◌+◌, ◌*◌, ◌/◌, ◌<◌, ◌≤◌, true, length, sym, ◌∙◌, ap, subst, arith}
+use Rattle.std.proofs.Common.{◌≡◌, ℕ, zero, suc, ◌+◌, ◌*◌, ◌/◌, ◌<◌, ◌≤◌, Bool, true, length, sym, ◌∙◌, ap, subst, arith}
 use Rattle.bp_free.specs.Set.{Set, has, members, without, IsLeast}
 use Rattle.bp_free.proofs.Members.{count_without}
 use Rattle.bp_layout.specs.Words.{Image, block_count}
@@ -8,12 +8,17 @@ use Rattle.bp_layout.specs.Inode.{kind_of, root_of, size_of}
 use Rattle.bp_layout.specs.Checks.{Fails}
 use Rattle.bp_layout.specs.declared.check.Check.{Check}
 use Rattle.bp_walk.proofs.TakenLaws.{length_without, has_without}
+use Rattle.bp_layout.specs.WellFormed.{IsWellFormed}
+use Rattle.bp_spelling.specs.Names.{AreNames}
 use Rattle.bp_scan.specs.Misspelled.{FailsNames}
+use Rattle.bp_scan.specs.Walked.{IsWalkFault}
+use Rattle.bp_scan.specs.declared.name_check.WalkFault.{WalkFault}
+use Rattle.bp_scan.specs.declared.name_check.WalkFault.TheVariants.{Check as Checked, Memory}
 use Rattle.bp_scan.specs.Reading.{IsReading, IsAtHand, IsInside, steps}
 use Rattle.bp_scan.specs.declared.directories.Directory.{Directory}
 use Rattle.bp_scan.specs.declared.work.Scan.{Scan}
 use Rattle.bp_scan.proofs.ProgressLaws.{begin, begin_counts, finish, finish_counts}
-use Rattle.bp_scan.proofs.Inside.{here_sound, here_full, here_few, names_fail}
+use Rattle.bp_scan.proofs.Inside.{here_sound, here_full, names_fail, names_known}
 use Rattle.bp_scan.proofs.EntryLaws.{along}
 
 pub not_file : (image : Image) (i : ℕ) → kind_of image i ≡ 2 → 1 ≤ i
@@ -22,14 +27,14 @@ not_file image (suc i) kind = omega arith
 
 -- the work with other directories to do
 abbrev pub to_do : Scan → Set → Scan
-to_do work todo = record { blocks = work.blocks; inodes = work.inodes; todo = todo; counts = work.counts; entries = work.entries; numbers = work.numbers; totals = work.totals }
+to_do work todo = record { blocks = work.blocks; inodes = work.inodes; todo = todo; counts = work.counts; totals = work.totals }
 
 -- a directory that was to do is at hand
 taken_up : (image : Image) (work : Scan) (current : ℕ) → current < length work.todo → has work.todo current ≡ true → IsReading image work 0 0 → IsAtHand image (to_do work (without work.todo current)) current 0
 taken_up image work current low there reading = record {
   reading = record {
     ready = reading.ready;
-    room = record { blocks = reading.room.blocks; inodes = reading.room.inodes; todo = length_without work.todo current ∙ reading.room.todo; counts = reading.room.counts; entries = reading.room.entries; numbers = reading.room.numbers };
+    room = record { blocks = reading.room.blocks; inodes = reading.room.inodes; todo = length_without work.todo current ∙ reading.room.todo; counts = reading.room.counts };
     range = reading.range;
     root_kind = reading.root_kind;
     midway = record {
@@ -56,12 +61,16 @@ module _ (image : Image) (work : Scan) (directory : Directory) (at : IsAtHand im
   pub begun_full : IsFull image directory.tree.root directory.tree.size
   begun_full = along (IsFull image) _ _ _ _ (sym root) (sym size) (here_full image work directory.inode 0 at.reading at.entered at.kind)
 
-  pub begun_few : directory.tree.size / 256 ≤ 16 * block_count image
-  begun_few = subst (λ (x : ℕ). x / 256 ≤ 16 * block_count image) (sym size) (here_few image work directory.inode 0 at.reading at.entered at.kind)
+  pub begun_known : IsWellFormed image → AreNames image directory.tree.root directory.tree.size
+  begun_known wf = along (AreNames image) _ _ _ _ (sym root) (sym size) (names_known image work directory.inode 0 at.reading at.entered at.kind wf)
 
-  pub begun_names_fail : (c : Check) (p : ℕ) → FailsNames image directory.tree.root directory.tree.size c p → Fails image c p
+  begun_names_fail : (c : Check) (p : ℕ) → FailsNames image directory.tree.root directory.tree.size c p → Fails image c p
   begun_names_fail c p fails =
       names_fail image work directory.inode 0 at.reading at.entered at.kind c p (along (λ x y. FailsNames image x y c p) _ _ _ _ root size fails)
+
+  pub begun_walk_fault : (known : Bool) (fault : WalkFault) → IsWalkFault (FailsNames image directory.tree.root directory.tree.size) known fault → IsWalkFault (Fails image) known fault
+  begun_walk_fault known (Checked fault) fails = begun_names_fail fault.check fault.place fails
+  begun_walk_fault known Memory unknown = unknown
 
 -- its last slot is past
 pub finished : (image : Image) (work : Scan) (directory : Directory) → IsInside image work directory (directory.tree.size / 256) → IsReading image work 0 0

@@ -1,5 +1,5 @@
 -- The entry at hand.
-use Rattle.std.proofs.Common.{◌≡◌, ◌≢◌, ◌⊎◌, ℕ, ◌+◌, ◌*◌, ◌/◌, ◌%◌, ◌<◌, ◌≤◌, List, true, false, length, set, vec_len, sym, ◌∙◌, ap, subst, arith, inl, inr}
+use Rattle.std.proofs.Common.{◌≡◌, ◌≢◌, ◌⊎◌, ℕ, ◌+◌, ◌*◌, ◌/◌, ◌%◌, ◌^◌, ◌<◌, ◌≤◌, List, true, false, length, set, sym, ◌∙◌, ap, subst, arith, inl, inr}
 use Rattle.std.proofs.lemmas.Bool.{cases_eq}
 use Rattle.std.proofs.lemmas.List.{length-set}
 use Rattle.std.specs.List.{slice_index}
@@ -12,7 +12,7 @@ use Rattle.bp_layout.specs.Directory.{EntryNames, ino_at, ino_in}
 use Rattle.bp_layout.specs.Checks.{Fails, entry_place}
 use Rattle.bp_layout.specs.declared.check.Check.{Check}
 use Rattle.bp_layout.specs.declared.check.Check.TheVariants.{InodeTwice, InodeNumber}
-use Rattle.bp_spelling.specs.Names.{AreNames, AreNumbers, IsUsed, in_32_bits}
+use Rattle.bp_spelling.specs.Names.{AreNames, IsUsed}
 use Rattle.bp_walk.proofs.TakenLaws.{known, clash, has_less}
 use Rattle.bp_scan.specs.Counted.{HasCounted, IsCountable}
 use Rattle.bp_scan.specs.Named.{CountsAmong}
@@ -34,7 +34,7 @@ along P a b x y e f h = subst (λ (v : ℕ). P x v) f (subst (λ (u : ℕ). P u 
 
 -- the work with other counts
 abbrev pub counting : Scan → List ℕ → Scan
-counting work counts = record { blocks = work.blocks; inodes = work.inodes; todo = work.todo; counts = counts; entries = work.entries; numbers = work.numbers; totals = work.totals }
+counting work counts = record { blocks = work.blocks; inodes = work.inodes; todo = work.todo; counts = counts; totals = work.totals }
 
 module _ (image : Image) (work : Scan) (directory : Directory) (slot : ℕ) (inside : IsInside image work directory slot) where
   abbrev d : ℕ
@@ -90,15 +90,13 @@ module _ (image : Image) (work : Scan) (directory : Directory) (slot : ℕ) (ins
       root = inside.root;
       size = inside.size;
       names = inside.names;
-      numbers = inside.numbers;
-      few = inside.few;
     }
 
-    -- what is written down of it where that is a number below the count of inodes
-    pub number_is : (number : ℕ) → number ≡ in_32_bits j → number < inode_count image → number ≡ j
-    number_is number is low =
+    -- the number of an inode fits 32 bits
+    pub number_fits : j < inode_count image → j < 2 ^ 32
+    number_fits low =
         let few : inode_count image + 64 ≤ 64 * block_count image = inodes_fewer image work d slot reading in
-        omega (arith, is, low, few, reading.ready.formatted.sized.at_most)
+        omega (arith, low, few, reading.ready.formatted.sized.at_most)
 
     module _ (some : j ≢ 0) where
       pub fails_high : (p : ℕ) → p ≡ 512 * node image directory.tree.root (height_of directory.tree.root) ((32 * slot + 0) / 512) + (32 * slot + 0) % 512 → inode_count image ≤ j → Fails image InodeNumber p
@@ -139,8 +137,6 @@ module _ (image : Image) (work : Scan) (directory : Directory) (slot : ℕ) (ins
                 inodes = reading.room.inodes;
                 todo = reading.room.todo;
                 counts = ap (λ (ns : List ℕ). length ns) later_is ∙ length-set work.counts j (slice_index work.counts j + 1) ∙ reading.room.counts;
-                entries = reading.room.entries;
-                numbers = reading.room.numbers;
               };
               range = reading.range;
               root_kind = reading.root_kind;
@@ -162,8 +158,6 @@ module _ (image : Image) (work : Scan) (directory : Directory) (slot : ℕ) (ins
           root = inside.root;
           size = inside.size;
           names = inside.names;
-          numbers = inside.numbers;
-          few = inside.few;
         }
           where
             no_root : j ≢ 1
@@ -180,7 +174,7 @@ module _ (image : Image) (work : Scan) (directory : Directory) (slot : ℕ) (ins
             inode_fails image work d slot reading j c p (omega (arith, some)) (here_found image work d slot reading inside.at.entered inside.at.kind slot j (entry_names some) low) new fails
 
         module _ (new : has work.inodes j ≡ true) (rest : Set) (claimed : rest ≡ without work.inodes j) (marked : List ℕ) (first_name : marked ≡ set work.counts j 1) (after : Scan) (room : HasScanMemory image after)
-            (enters : EntersInode image j (record { blocks = work.blocks; inodes = rest; todo = work.todo; counts = marked; entries = work.entries; numbers = work.numbers; totals = work.totals }) after) where
+            (enters : EntersInode image j (record { blocks = work.blocks; inodes = rest; todo = work.todo; counts = marked; totals = work.totals }) after) where
           now_is : after.inodes ≡ without work.inodes j
           now_is = enters.inodes ∙ claimed
 
@@ -257,8 +251,6 @@ module _ (image : Image) (work : Scan) (directory : Directory) (slot : ℕ) (ins
             root = inside.root;
             size = inside.size;
             names = inside.names;
-            numbers = subst (λ ns. AreNumbers image directory.tree.root (directory.tree.size / 256) ns.items) (sym enters.numbers) inside.numbers;
-            few = subst (λ ns. directory.tree.size / 256 ≤ vec_len ns) (sym enters.numbers) inside.few;
           }
 
           -- one inode less, and one directory more at most

@@ -5,11 +5,13 @@ use Rattle.bp_layout.specs.Words.{Image, block_count}
 use Rattle.bp_layout.specs.Tree.{IsSound, IsFull}
 use Rattle.bp_layout.specs.Inode.{kind_of, root_of, size_of, inode_count}
 use Rattle.bp_layout.specs.Directory.{EntryNames, ino_at}
+use Rattle.bp_layout.specs.Reached.{IsReached}
+use Rattle.bp_layout.specs.WellFormed.{IsWellFormed}
 use Rattle.bp_layout.specs.Checks.{IsFound, IsEntry, Fails, entry_place}
 use Rattle.bp_layout.specs.Checks.Fails.{ino, root_named, name_form, name_twice}
 use Rattle.bp_layout.specs.declared.check.Check.{Check}
 use Rattle.bp_layout.specs.declared.check.Check.TheVariants.{InodeTwice, InodeNumber}
-use Rattle.bp_spelling.specs.Names.{IsUsed, AreWrong}
+use Rattle.bp_spelling.specs.Names.{IsUsed, AreNames, AreWrong}
 use Rattle.bp_spelling.specs.Names.AreWrong.{form, twice}
 use Rattle.bp_spelling.specs.declared.fault.NameFault.{NameFault}
 use Rattle.bp_walk.proofs.TakenLaws.{known, clash}
@@ -20,7 +22,8 @@ use Rattle.bp_scan.specs.Misspelled.{FailsNames, check_of, fault_place}
 use Rattle.bp_scan.specs.Reading.{IsReading}
 use Rattle.bp_scan.specs.declared.work.Scan.{Scan}
 use Rattle.bp_scan.proofs.Readable.{is_sound, is_full, entry_seen, inode_found, one_entry, named_before}
-use Rattle.bp_layout.proofs.FewLeaves.{fewer_inodes, few_entries}
+use Rattle.bp_layout.proofs.ChecksLaws.{found_reached}
+use Rattle.bp_layout.proofs.FewLeaves.{fewer_inodes}
 use Rattle.bp_scan.proofs.InodeFaults.{fails_inode}
 
 module _ (image : Image) (work : Scan) (current slot : ℕ) (reading : IsReading image work current slot) where
@@ -75,9 +78,6 @@ module _ (image : Image) (work : Scan) (current slot : ℕ) (reading : IsReading
     pub here_full : IsFull image (root_of image current) (size_of image current)
     here_full = is_full image E D reading.midway.all work.blocks reading.ready.some_inodes first scanned current entered (inr kind)
 
-    pub here_few : size_of image current / 256 ≤ 16 * block_count image
-    here_few = few_entries image (root_of image current) (size_of image current) here_sound here_full (omega (arith, reading.ready.formatted.sized.at_least))
-
     pub here_found : (r j : ℕ) → EntryNames image current r j → j < inode_count image → IsFound image j
     here_found r j names low = inode_found image E D reading.midway.all work.blocks reading.ready.some_inodes first scanned current r j entered names low
 
@@ -105,6 +105,15 @@ module _ (image : Image) (work : Scan) (current slot : ℕ) (reading : IsReading
 
     used_names : (r : ℕ) → IsUsed image (root_of image current) (size_of image current) r → EntryNames image current r (ino_at image current r)
     used_names r used = record { directory = kind; in_size = used.live; ino = refl; not_empty = used.some }
+
+    -- in a tree that is well formed, the names of each directory that was entered are right
+    pub names_known : IsWellFormed image → AreNames image (root_of image current) (size_of image current)
+    names_known wf =
+        let reached : IsReached image current = found_reached image current (scanned.found current entered) in
+        record {
+          forms = λ r used. wf.names current r _ reached (used_names r used);
+          differ = λ r q used also same. wf.names_once current r q _ _ reached (used_names r used) (used_names q also) same;
+        }
 
     fault_fails : (fault : NameFault) → AreWrong image (root_of image current) (size_of image current) fault → Fails image (check_of fault) (fault_place fault)
     fault_fails _ (form {slot = r} used bad) = name_form (here_entry r _ _ (used_names r used) refl) bad

@@ -1,5 +1,5 @@
 -- Why an image is not a file system, and why its first tree is not well formed.
-use Rattle.std.specs.Prelude.{◌≡◌, ◌≢◌, ℕ, ◌-◌, ◌*◌, ◌^◌, min}
+use Rattle.std.specs.Prelude.{◌≡◌, ◌≢◌, ◌⊎◌, ℕ, ◌-◌, ◌*◌, ◌^◌, Bool, false, min}
 use Rattle.bp_layout.specs.Checks.{Fails}
 use Rattle.bp_layout.specs.Whole.{FailsWhole, second_place}
 use Rattle.bp_limits.specs.Limits.{block_size, magic, super_blocks, super_magic}
@@ -30,6 +30,10 @@ IsTreeFault image = IsFaultBy (Fails image) image
 -- The fault applies, by the checks of both trees.
 abbrev pub IsFault : Image → MountFault → Type 0
 IsFault image = IsFaultBy (FailsWhole image) image
+
+-- The fault applies, or allocation failed. The second is possible only if the names of the image are not known.
+abbrev pub IsScanFault : Bool → (MountFault → Type 0) → MountFault → Type 0
+IsScanFault known Applies fault = ((fault ≡ Memory) × (known ≡ false)) ⊎ Applies fault
 
 -- The fault of an image whose second tree has this fault when it is read as the first one. The place is converted.
 abbrev pub of_second : MountFault → MountFault

@@ -46,7 +46,6 @@ pub record EntersInode (image : Image) (i : ℕ) (old new : Scan) : Type 0 where
   pub tree : TakesTree image (root_place image i) (root_of image i) (size_of image i) holes old.blocks new.blocks
   pub inodes : new.inodes ≡ old.inodes
   pub counts : new.counts ≡ old.counts
-  pub numbers : new.numbers ≡ old.numbers
   pub totals : CountsOne (kind_of image i) (size_of image i) old.totals new.totals
   pub directory : IsDirectory image i → new.todo ≡ with old.todo i
   pub file : kind_of image i ≢ directory_kind → new.todo ≡ old.todo

@@ -10,3 +10,4 @@ pub mod Counted
 pub mod Reading
 pub mod Inodes
 pub mod Misspelled
+pub mod Walked

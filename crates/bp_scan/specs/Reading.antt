@@ -1,11 +1,11 @@
 -- Properties that hold while the trees of an image are read.
-use Rattle.std.specs.Prelude.{length, replicate, true, false, ◌≡◌, ◌⊎◌, ℕ, ◌+◌, ◌*◌, ◌/◌, ◌%◌, ◌<◌, ◌≤◌, vec_len}
+use Rattle.std.specs.Prelude.{length, replicate, true, false, ◌≡◌, ◌⊎◌, ℕ, ◌+◌, ◌*◌, ◌/◌, ◌%◌, ◌<◌, ◌≤◌}
 use Rattle.bp_free.specs.Set.{Set, has, members, empty}
 use Rattle.bp_limits.specs.Limits.{block_size, block_inodes, entry_size, root_ino}
 use Rattle.bp_layout.specs.Words.{Image, block_count}
 use Rattle.bp_layout.specs.Inode.{IsDirectory, inode_count, root_of, size_of}
 use Rattle.bp_layout.specs.Formatted.{IsFormatted}
-use Rattle.bp_spelling.specs.Names.{AreNames, AreNumbers}
+use Rattle.bp_spelling.specs.Names.{AreNames}
 use Rattle.bp_scan.specs.Scanned.{IsScanned}
 use Rattle.bp_scan.specs.Progress.{IsDone, IsEntered, IsMidway}
 use Rattle.bp_scan.specs.Named.{CountsAmong}
@@ -50,14 +50,12 @@ pub record IsAtHand (image : Image) (work : Scan) (current slot : ℕ) : Type 0 
   pub kind : IsDirectory image current
   pub out : has work.todo current ≡ false
 
--- A scan that reads a directory whose names are right. The inode numbers of its entries are recorded.
+-- A scan that reads a directory whose names are right.
 pub record IsInside (image : Image) (work : Scan) (directory : Directory) (slot : ℕ) : Type 0 where
   pub at : IsAtHand image work directory.inode slot
   pub root : root_of image directory.inode ≡ directory.tree.root
   pub size : size_of image directory.inode ≡ directory.tree.size
   pub names : AreNames image directory.tree.root directory.tree.size
-  pub numbers : AreNumbers image directory.tree.root (directory.tree.size / entry_size) work.numbers.items
-  pub few : directory.tree.size / entry_size ≤ vec_len work.numbers
 
 -- An upper bound on the remaining steps: each takes an inode out of the free ones, or a directory out of those to be
 -- read.

@@ -1,26 +1,29 @@
 //! The directories of an image, one after the other.
 
-ghost use Rattle.std.specs.Prelude.{◌≡◌, ◌≢◌, false, ◌+◌, ◌*◌, ◌/◌, ◌<◌, ◌≤◌, length, vec_capacity, vec_len, OnOk, IfErr};
+ghost use Rattle.std.specs.Prelude.{◌≡◌, ◌≢◌, true, false, ◌+◌, ◌/◌, ◌%◌, ◌<◌, ◌≤◌, OnOk, IfErr};
 ghost use Rattle.bp_free.specs.Set.{has};
 ghost use Rattle.bp_layout.specs.Checks.{Fails};
 ghost use Rattle.bp_layout.specs.Inode.{inode_count};
 ghost use Rattle.bp_layout.specs.Directory.{ino_in};
 ghost use Rattle.bp_layout.specs.Tree.{IsFull, IsSound};
-ghost use Rattle.bp_limits.specs.Limits.{block_words, entry_size, max_blocks};
+ghost use Rattle.bp_limits.specs.Limits.{block_entries, entry_size};
+ghost use Rattle.bp_layout.specs.WellFormed.{IsWellFormed};
 ghost use Rattle.bp_scan.specs.Reading.{IsReading, IsAtHand, IsInside, steps};
 ghost use Rattle.bp_scan.specs.Room.{HasScanMemory};
-ghost use Rattle.bp_scan.specs.Misspelled.{FailsNames};
-ghost use Rattle.bp_spelling.specs.Names.{AreNames, AreNumbers, entry_place_in};
+ghost use Rattle.bp_scan.specs.Walked.{IsWalkFault};
+ghost use Rattle.bp_spelling.specs.Gathered.{leaf_end};
+ghost use Rattle.bp_spelling.specs.Names.{entry_place_in};
 ghost use Rattle.pm_region.specs.Memory.{words_in};
 
+use crate::name_check::{NameCheck, WalkFault};
 use crate::trees::enter;
-use crate::work::{Scan, make_numbers, make_room};
+use crate::work::Scan;
 use bp_layout::{Check, INO_WORD, Kind};
-use bp_limits::{ENTRY_SIZE, INODE_SIZE};
+use bp_limits::{BLOCK_ENTRIES, ENTRY_SIZE, INODE_SIZE};
 use bp_read::Tree;
 use bp_read::directory::entry_place;
 use bp_read::inodes::{get, inode_file};
-use bp_spelling::{NameFault, Spelled, check_names};
+use bp_spelling::named_in_row;
 use bp_walk::CheckFault;
 use pm_region::Region;
 
@@ -109,28 +112,59 @@ fn read_named<R: Region>(
     enter(region, slot.named, work)
 }
 
-/// Reads the entry in a slot of a directory, by its recorded inode number.
+/// Reads the entry in a slot of a directory, given its inode number.
 fn read_entry<R: Region>(
     region: &R,
     directory: Directory,
     number: u64,
+    named: u64,
     work: &mut Scan,
 ) -> Result<(), CheckFault>
     requires inside { IsInside (words_in R.memory region.now) work.old directory number }
     requires live { number < directory.tree.size / entry_size }
+    requires named { named ≡ ino_in (words_in R.memory region.now) directory.tree.root number }
     ensures inside { OnOk result (IsInside (words_in R.memory region.now) work.new directory (number + 1)) }
     ensures steps { OnOk result (steps work.new ≤ steps work.old) }
     ensures fault { IfErr result (λ f. Fails (words_in R.memory region.now) f.check f.place) }
     ensures room { HasScanMemory (words_in R.memory region.now) work.new }
 {
-    let named = work.numbers[number as usize];
     if named == 0 {
         return Ok(());
     }
-    if u64::from(named) >= inode_file(region).size / INODE_SIZE {
+    if named >= inode_file(region).size / INODE_SIZE {
         return Err(entry_fault(region, directory, number, Check::InodeNumber));
     }
-    read_named(region, directory, Slot { number, named }, work)
+    let slot = Slot {
+        number,
+        named: named as u32,
+    };
+    read_named(region, directory, slot, work)
+}
+
+/// Reads the entries of a leaf of a directory, from slot `first` on. Their inode numbers are loaded together.
+fn read_leaf<R: Region>(
+    region: &R,
+    directory: Directory,
+    first: u64,
+    work: &mut Scan,
+) -> Result<(), CheckFault>
+    requires inside { IsInside (words_in R.memory region.now) work.old directory first }
+    requires starts { first % block_entries ≡ 0 }
+    requires live { first < directory.tree.size / entry_size }
+    ensures inside { let words = words_in R.memory region.now in
+        OnOk result (IsInside words work.new directory (leaf_end directory.tree.size first)) }
+    ensures steps { OnOk result (steps work.new ≤ steps work.old) }
+    ensures fault { IfErr result (λ f. Fails (words_in R.memory region.now) f.check f.place) }
+    ensures room { HasScanMemory (words_in R.memory region.now) work.new }
+{
+    let _words = region.words();
+    let row = entry_place(region, directory.tree, first, INO_WORD);
+    let slots = (directory.tree.size / ENTRY_SIZE - first).min(BLOCK_ENTRIES) as u32;
+    let named = named_in_row(region, row, slots);
+    for k in 0..slots {
+        read_entry(region, directory, first + k as u64, named[k as usize], work)?;
+    }
+    Ok(())
 }
 
 /// Reads the entries of a directory whose names are right.
@@ -146,63 +180,29 @@ fn read_entries<R: Region>(
     ensures fault { IfErr result (λ f. Fails (words_in R.memory region.now) f.check f.place) }
     ensures room { HasScanMemory (words_in R.memory region.now) work.new }
 {
-    for slot in 0..directory.tree.size / ENTRY_SIZE {
-        read_entry(region, directory, slot, work)?;
+    for leaf in 0..(directory.tree.size / ENTRY_SIZE).div_ceil(BLOCK_ENTRIES) {
+        read_leaf(region, directory, BLOCK_ENTRIES * leaf, work)?;
     }
     Ok(())
 }
 
-/// Checks the names of a directory, and records the inode number of each entry in `numbers`. Both vectors have memory
-/// reserved for as many entries as the directory has.
-fn read_names<R: Region>(
-    region: &R,
-    tree: Tree,
-    entries: &mut Vec<Spelled>,
-    numbers: &mut Vec<u32>,
-) -> Result<(), CheckFault>
-    requires sound { IsSound (words_in R.memory region.now) tree.root tree.size }
-    requires full { IsFull (words_in R.memory region.now) tree.root tree.size }
-    requires most { length (words_in R.memory region.now) ≤ block_words * max_blocks }
-    requires room { tree.size / entry_size ≤ vec_capacity entries.old }
-    requires number_room { tree.size / entry_size ≤ vec_capacity numbers.old }
-    ensures ok { OnOk result (AreNames (words_in R.memory region.now) tree.root tree.size) }
-    ensures err { let words = words_in R.memory region.now in
-        IfErr result (λ f. FailsNames words tree.root tree.size f.check f.place) }
-    ensures numbers { let words = words_in R.memory region.now in
-        OnOk result (AreNumbers words tree.root (tree.size / entry_size) numbers.new.items) }
-    ensures few { OnOk result (tree.size / entry_size ≤ vec_len numbers.new) }
-    ensures room { vec_capacity entries.old ≤ vec_capacity entries.new }
-    ensures number_room { vec_capacity numbers.old ≤ vec_capacity numbers.new }
-{
-    make_room(entries, (tree.size / ENTRY_SIZE) as usize);
-    make_numbers(numbers, (tree.size / ENTRY_SIZE) as usize);
-    match check_names(region, tree, &mut entries[..], &mut numbers[..]) {
-        Ok(()) => Ok(()),
-        Err(NameFault::Form { place }) => Err(CheckFault {
-            check: Check::NameForm,
-            place,
-        }),
-        Err(NameFault::Twice { place }) => Err(CheckFault {
-            check: Check::NameTwice,
-            place,
-        }),
-    }
-}
-
 /// Reads the current directory.
-pub(crate) fn read_directory<R: Region>(
+pub(crate) fn read_directory<R: Region, N: NameCheck>(
     region: &R,
     ino: u32,
+    names: &mut N,
     work: &mut Scan,
-) -> Result<(), CheckFault>
-    requires { IsAtHand (words_in R.memory region.now) work.old ino 0 }
+) -> Result<(), WalkFault>
+    requires at_hand { IsAtHand (words_in R.memory region.now) work.old ino 0 }
+    requires known { N.known ≡ true → IsWellFormed (words_in R.memory region.now) }
     ensures done { OnOk result (IsReading (words_in R.memory region.now) work.new 0 0) }
     ensures steps { OnOk result (steps work.new ≤ steps work.old) }
-    ensures fault { IfErr result (λ f. Fails (words_in R.memory region.now) f.check f.place) }
+    ensures fault { IfErr result (IsWalkFault (Fails (words_in R.memory region.now)) N.known) }
     ensures room { HasScanMemory (words_in R.memory region.now) work.new }
 {
     let words = get(region, ino);
     let tree = Tree::of(&words);
-    read_names(region, tree, &mut work.entries, &mut work.numbers)?;
-    read_entries(region, Directory { inode: ino, tree }, work)
+    names.check(region, tree)?;
+    read_entries(region, Directory { inode: ino, tree }, work)?;
+    Ok(())
 }

@@ -1,6 +1,6 @@
 //! The scan of the first tree of an image.
 
-ghost use Rattle.std.specs.Prelude.{◌≡◌, ◌*◌, ◌≤◌, ◌↔◌, length, replicate, IsOk, OnOk, OnErr, IfOk, IfErr};
+ghost use Rattle.std.specs.Prelude.{◌≡◌, ◌*◌, ◌≤◌, true, length, replicate, OnOk, OnErr, IfOk, IfErr};
 ghost use Rattle.bp_free.specs.Set.{has, empty};
 ghost use Rattle.bp_layout.specs.Formatted.{IsFormatted, IsSized};
 ghost use Rattle.bp_layout.specs.Free.{AreFreeBlocks, AreFreeInodes};
@@ -8,14 +8,16 @@ ghost use Rattle.bp_layout.specs.Names.{AreCounts};
 ghost use Rattle.bp_layout.specs.WellFormed.{IsWellFormed};
 ghost use Rattle.bp_layout.specs.Words.{block_count, word};
 ghost use Rattle.bp_limits.specs.Limits.{block_inodes, block_words, super_blocks, super_magic, super_root, super_size};
-ghost use Rattle.bp_scan.specs.Faults.{IsTreeFault};
+ghost use Rattle.bp_scan.specs.Faults.{IsScanFault, IsTreeFault};
 ghost use Rattle.bp_scan.specs.Room.{HasScanMemory};
 ghost use Rattle.bp_scan.specs.Scanned.{AreOthersLive};
 ghost use Rattle.bp_scan.specs.Totals.{HasTreeTotals};
+ghost use Rattle.bp_scan.specs.Walked.{fault_of_walk};
 ghost use Rattle.pm_region.specs.Memory.{words_in};
 ghost use Rattle.bp_layout.specs.Thaw.{none_in_snapshot};
 
 use crate::fault::MountFault;
+use crate::name_check::{NameCheck, WalkFault};
 use crate::pending::Pending;
 use crate::totals::Totals;
 use crate::tree_walk::read_trees;
@@ -72,16 +74,21 @@ fn check_superblock<R: Region>(region: &R) -> Result<(), MountFault>
 }
 
 /// Does what [`scan`] does, with the two sets and the counts in the work.
-fn scan_with<R: Region>(region: &R, work: &mut Scan) -> Result<Totals, MountFault>
+fn scan_with<R: Region, N: NameCheck>(
+    region: &R,
+    names: &mut N,
+    work: &mut Scan,
+) -> Result<Totals, MountFault>
     requires sized { IsSized (words_in R.memory region.now) }
     requires room { HasScanMemory (words_in R.memory region.now) work.old }
-    ensures well_formed { IsOk result ↔ IsWellFormed (words_in R.memory region.now) }
+    requires known { N.known ≡ true → IsWellFormed (words_in R.memory region.now) }
+    ensures well_formed { OnOk result (IsWellFormed (words_in R.memory region.now)) }
     ensures blocks { OnOk result (AreFreeBlocks (words_in R.memory region.now) none_in_snapshot (has work.new.blocks)) }
     ensures others { OnOk result (AreOthersLive (words_in R.memory region.now) (has work.new.blocks)) }
     ensures inodes { OnOk result (AreFreeInodes (words_in R.memory region.now) (has work.new.inodes)) }
     ensures counts { OnOk result (AreCounts (words_in R.memory region.now) work.new.counts) }
     ensures totals { IfOk result (HasTreeTotals (words_in R.memory region.now)) }
-    ensures fault { IfErr result (IsTreeFault (words_in R.memory region.now)) }
+    ensures fault { IfErr result (IsScanFault N.known (IsTreeFault (words_in R.memory region.now))) }
     ensures no_blocks { OnErr result (work.new.blocks ≡ empty (length work.old.blocks)) }
     ensures no_inodes { OnErr result (work.new.inodes ≡ empty (length work.old.inodes)) }
     ensures no_counts { OnErr result (work.new.counts ≡ replicate (length work.old.counts) 0) }
@@ -89,15 +96,25 @@ fn scan_with<R: Region>(region: &R, work: &mut Scan) -> Result<Totals, MountFaul
 {
     work.clear();
     check_superblock(region)?;
-    match read_trees(region, work) {
+    match read_trees(region, names, work) {
         Ok(totals) => Ok(totals),
         Err(fault) => {
             work.clear();
-            Err(MountFault::Damaged {
-                check: fault.check,
-                place: fault.place,
-            })
+            Err(mount_fault(fault))
         }
+    }
+}
+
+/// Converts the fault of a walk over the trees of a formatted image.
+fn mount_fault(fault: WalkFault) -> MountFault
+    ensures { result ≡ fault_of_walk fault }
+{
+    match fault {
+        WalkFault::Check(fault) => MountFault::Damaged {
+            check: fault.check,
+            place: fault.place,
+        },
+        WalkFault::Memory => MountFault::Memory,
     }
 }
 
@@ -106,18 +123,20 @@ fn scan_with<R: Region>(region: &R, work: &mut Scan) -> Result<Totals, MountFaul
 /// whatever they had.
 ///
 /// Its time is linear in the words that are in use and in the room of sets and counts, except for a directory in which
-/// hashes of names collide: its names are sorted. [`scan_whole`](crate::scan_whole) reads a second tree too.
+/// hashes of names collide: its names are sorted. Names that are known take no time and no memory.
 ///
 /// # Errors
 ///
-/// The sets are empty and each count is 0 then. Each error is returned in exactly the stated case, and `Memory` never.
+/// The sets are empty and each count is 0 then.
 ///
 /// - `NotFormatted`: word 0 is the magic number of no version.
 /// - `BadSize`: word 0 is right, and word 1 is not the number of blocks.
 /// - `Damaged`: both are right, and a check of the format fails for that tree. The error has one check that fails, and
 ///   its place.
-pub fn scan<R: Region>(
+/// - `Memory`: allocation failed. It is not returned if the names are known.
+pub(crate) fn scan<R: Region, N: NameCheck>(
     region: &R,
+    names: &mut N,
     blocks: &mut Blocks,
     inodes: &mut Inodes,
     pending: &mut Pending,
@@ -128,13 +147,14 @@ pub fn scan<R: Region>(
     requires inodes { length inodes.old ≡ block_inodes * block_count (words_in R.memory region.now) }
     requires pending { pending.old ≡ block_inodes * block_count (words_in R.memory region.now) }
     requires counts { length counts.old ≡ block_inodes * block_count (words_in R.memory region.now) }
-    ensures well_formed { IsOk result ↔ IsWellFormed (words_in R.memory region.now) }
+    requires known { N.known ≡ true → IsWellFormed (words_in R.memory region.now) }
+    ensures well_formed { OnOk result (IsWellFormed (words_in R.memory region.now)) }
     ensures blocks { OnOk result (AreFreeBlocks (words_in R.memory region.now) none_in_snapshot (has blocks.new)) }
     ensures others { OnOk result (AreOthersLive (words_in R.memory region.now) (has blocks.new)) }
     ensures inodes { OnOk result (AreFreeInodes (words_in R.memory region.now) (has inodes.new)) }
     ensures counts { OnOk result (AreCounts (words_in R.memory region.now) counts.new) }
     ensures totals { IfOk result (HasTreeTotals (words_in R.memory region.now)) }
-    ensures fault { IfErr result (IsTreeFault (words_in R.memory region.now)) }
+    ensures fault { IfErr result (IsScanFault N.known (IsTreeFault (words_in R.memory region.now))) }
     ensures no_blocks { OnErr result (blocks.new ≡ empty (length blocks.old)) }
     ensures no_inodes { OnErr result (inodes.new ≡ empty (length inodes.old)) }
     ensures no_counts { OnErr result (counts.new ≡ replicate (length counts.old) 0) }
@@ -148,7 +168,7 @@ pub fn scan<R: Region>(
     mem::swap(blocks, &mut pending.work.blocks);
     mem::swap(inodes, &mut pending.work.inodes);
     mem::swap(counts, &mut pending.work.counts);
-    let reported = scan_with(region, &mut pending.work);
+    let reported = scan_with(region, names, &mut pending.work);
     mem::swap(blocks, &mut pending.work.blocks);
     mem::swap(inodes, &mut pending.work.inodes);
     mem::swap(counts, &mut pending.work.counts);

@@ -16,6 +16,7 @@ mod first_tree;
 mod inode_count;
 pub mod laws;
 mod length;
+mod name_check;
 mod pending;
 mod totals;
 mod tree_walk;
@@ -25,8 +26,7 @@ mod work;
 
 pub use bp_layout::Check;
 pub use fault::MountFault;
-pub use first_tree::scan;
 pub use length::image_length;
 pub use pending::Pending;
 pub use totals::Totals;
-pub use whole::{fill_others, has_second, scan_whole};
+pub use whole::{fill_others, has_second, scan_known, scan_whole};

@@ -3,13 +3,13 @@
 ghost use Rattle.std.specs.Prelude.{◌≡◌, ◌≤◌, ◌^◌, IfOk};
 
 use crate::totals::Totals;
-use crate::work::{SPARE, Scan};
+use crate::work::Scan;
 use bp_free::{Blocks, Counts, Inodes};
 use std::alloc::{AllocError, Global};
 use std::marker::Model;
 
-/// The working memory of scans: the directories that are still to be read, and the entries of the current one.
-/// Contracts describe it by the number of inodes for which it was made.
+/// The working memory of scans: the directories that are still to be read. Contracts describe it by the number of inodes
+/// for which it was made.
 #[derive(Drop)]
 pub struct Pending {
     /// The memory of a scan. Its sets of blocks and inodes and its counts are empty between scans: a scan borrows
@@ -44,8 +44,6 @@ impl Pending {
             inodes: Inodes::new(alloc, 0)?,
             todo: Inodes::new(alloc, inodes)?,
             counts: Counts::new(alloc, 0)?,
-            entries: Vec::with_capacity(alloc, 3 * (inodes / 4) + SPARE)?,
-            numbers: Vec::with_capacity(alloc, inodes / 4)?,
             totals: Totals::none(),
         };
         Ok(Pending { work, inodes })

@@ -30,7 +30,7 @@ pub(crate) struct Scanned {
 }
 
 /// Scans both trees of an image, in the memory of `sets`.
-fn scan_with(region: &RawRegion, sets: &mut Sets) -> Result<Totals, Stop>
+fn scan_with(alloc: Global, region: &RawRegion, sets: &mut Sets) -> Result<Totals, Stop>
     requires fresh { region.now.events ≡ [] }
     requires sized { IsSized region.now.base }
     requires blocks { length sets.old.free_blocks ≡ block_count region.now.base }
@@ -52,6 +52,7 @@ fn scan_with(region: &RawRegion, sets: &mut Sets) -> Result<Totals, Stop>
         pending,
     } = sets;
     match scan_whole(
+        alloc,
         region,
         free_blocks,
         free_inodes,
@@ -83,7 +84,7 @@ pub(crate) fn scan_image(alloc: Global, region: &RawRegion) -> Result<Scanned, S
         Ok(sets) => sets,
         Err(_) => return Err(Stop::Memory),
     };
-    match scan_with(region, &mut sets) {
+    match scan_with(alloc, region, &mut sets) {
         Ok(totals) => Ok(Scanned { sets, totals }),
         Err(stop) => Err(stop),
     }

@@ -6,7 +6,6 @@ pub mod HashLaws
 pub mod HashOrder
 pub mod KeyNames
 pub mod NameOrder
-pub mod Numbers
 pub mod PastEnd
 pub mod SlotSteps
 pub mod UsedPlaces

@@ -1,5 +1,5 @@
 -- When the names of a directory's entries are right.
-use Rattle.std.specs.Prelude.{◌≡◌, ◌≢◌, ℕ, ◌+◌, ◌-◌, ◌*◌, ◌/◌, ◌%◌, ◌^◌, ◌<◌, min, List, slice_index}
+use Rattle.std.specs.Prelude.{◌≡◌, ◌≢◌, ℕ, ◌+◌, ◌*◌, ◌/◌, ◌%◌, ◌<◌}
 use Rattle.bp_limits.specs.Limits.{block_words, entry_size, entry_words}
 use Rattle.bp_layout.specs.Words.{Image, height_of}
 use Rattle.bp_layout.specs.Tree.{node}
@@ -18,14 +18,6 @@ abbrev pub entry_place_in : Image → ℕ → ℕ → ℕ
 entry_place_in image root slot =
     block_words * node image root (height_of root) ((entry_words * slot + 0) / block_words)
     + (entry_words * slot + 0) % block_words
-
--- The number of an inode in 32 bits; the greatest value represents all numbers that do not fit.
-abbrev pub in_32_bits : ℕ → ℕ
-in_32_bits number = min number (2 ^ 32 - 1)
-
--- The list has the inode numbers of the entries before slot `to`, in 32 bits.
-abbrev pub AreNumbers : Image → ℕ → ℕ → List ℕ → Type 0
-AreNumbers image root to numbers = (slot : ℕ) → slot < to → slice_index numbers slot ≡ in_32_bits (ino_in image root slot)
 
 -- Each name is a valid name, and no two are equal.
 pub record AreNames (image : Image) (root size : ℕ) : Type 0 where

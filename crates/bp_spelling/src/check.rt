@@ -4,7 +4,7 @@ ghost use Rattle.std.specs.Prelude.{◌≡◌, ◌*◌, ◌/◌, ◌≤◌, leng
 ghost use Rattle.bp_layout.specs.Tree.{IsSound, IsFull};
 ghost use Rattle.bp_limits.specs.Limits.{block_words, entry_size, max_blocks};
 ghost use Rattle.bp_spelling.specs.Hashes.{IsSpelled, places_of};
-ghost use Rattle.bp_spelling.specs.Names.{AreNames, AreNumbers, AreWrong};
+ghost use Rattle.bp_spelling.specs.Names.{AreNames, AreWrong};
 ghost use Rattle.bp_spelling.specs.Places.{HaveOwnNames};
 ghost use Rattle.bp_spelling.specs.Tables.{IsPresent, IsTableError};
 ghost use Rattle.pm_region.specs.Memory.{words_in};
@@ -37,12 +37,11 @@ fn try_table<R: Region>(region: &R, entries: &mut [Spelled], count: usize) -> Re
     check_by_table(region, found, &mut table[..2 * count + REACH + 1])
 }
 
-/// Checks the names of a directory's entries that refer to an inode, and puts the number of that inode into `numbers`,
-/// at the entry's slot. The number is 0 for an empty entry, and `u32::MAX` if it does not fit below that.
+/// Checks the names of a directory's entries that refer to an inode.
 ///
-/// The region has at most 67,108,864 blocks of 512 words. `entries` and `numbers` have room for as many entries as the
-/// directory has. The time is linear in them if `entries` has room for three times as many and some more, and few
-/// hashes collide; else the entries are sorted.
+/// The region has at most 67,108,864 blocks of 512 words. `entries` has room for as many entries as the directory has.
+/// The time is linear in them if it has the room that [`make_room`](crate::make_room) makes, and few hashes collide; else
+/// the entries are sorted.
 ///
 /// # Errors
 ///
@@ -54,21 +53,16 @@ pub fn check_names<R: Region>(
     region: &R,
     tree: Tree,
     entries: &mut [Spelled],
-    numbers: &mut [u32],
 ) -> Result<(), NameFault>
     requires sound { IsSound (words_in R.memory region.now) tree.root tree.size }
     requires full { IsFull (words_in R.memory region.now) tree.root tree.size }
     requires most { length (words_in R.memory region.now) ≤ block_words * max_blocks }
     requires room { tree.size / entry_size ≤ length entries.old }
-    requires number_room { tree.size / entry_size ≤ length numbers.old }
     ensures ok { OnOk result (AreNames (words_in R.memory region.now) tree.root tree.size) }
-    ensures numbers { let words = words_in R.memory region.now in
-        OnOk result (AreNumbers words tree.root (tree.size / entry_size) numbers.new) }
     ensures err { IfErr result (AreWrong (words_in R.memory region.now) tree.root tree.size) }
     ensures room { length entries.new ≡ length entries.old }
-    ensures number_room { length numbers.new ≡ length numbers.old }
 {
-    let count = match gather(region, tree, entries, numbers) {
+    let count = match gather(region, tree, entries) {
         Ok(count) => count,
         Err(place) => return Err(NameFault::Form { place }),
     };

@@ -4,9 +4,8 @@ ghost use Rattle.std.specs.Prelude.{◌≡◌, ◌*◌, ◌/◌, ◌%◌, ◌<�
 ghost use Rattle.bp_layout.specs.Directory.{slots};
 ghost use Rattle.bp_layout.specs.Tree.{IsSound, IsFull};
 ghost use Rattle.bp_limits.specs.Limits.{block_entries, block_words, entry_size, max_blocks};
-ghost use Rattle.bp_spelling.specs.Gathered.{IsGathered, IsLeafGathered, leaf_end};
+ghost use Rattle.bp_spelling.specs.Gathered.{IsGathered, IsLeafGathered};
 ghost use Rattle.bp_spelling.specs.Hashes.{IsSpelled, places_of};
-ghost use Rattle.bp_spelling.specs.Names.{AreNumbers};
 ghost use Rattle.bp_spelling.specs.Places.{used_places, HaveForms, IsMisspelled};
 ghost use Rattle.bp_spelling.specs.Tables.{IsPresent};
 ghost use Rattle.pm_region.specs.Memory.{words_in};
@@ -14,15 +13,15 @@ ghost use Rattle.pm_region.specs.Memory.{words_in};
 use crate::entry::Spelled;
 use crate::form::is_name;
 use crate::hash::hash_name;
-use crate::rows::{keep_numbers, named_in_row};
+use crate::rows::named_in_row;
+use bp_layout::{INO_WORD, LENGTH_WORD};
 use bp_limits::{BLOCK_ENTRIES, ENTRY_SIZE, ENTRY_WORDS};
 use bp_read::Tree;
 use bp_read::directory::entry_place;
 use pm_region::Region;
 
 /// Records the entries of a leaf, from slot `first` on, after the `before` entries that were recorded before, and
-/// returns how many there are then. The inode numbers of the leaf's entries are recorded after those of the slots
-/// before.
+/// returns how many there are then.
 ///
 /// # Errors
 ///
@@ -33,7 +32,6 @@ fn gather_leaf<R: Region>(
     first: u64,
     entries: &mut [Spelled],
     before: usize,
-    numbers: &mut [u32],
 ) -> Result<usize, u64>
     requires sound { IsSound (words_in R.memory region.now) tree.root tree.size }
     requires full { IsFull (words_in R.memory region.now) tree.root tree.size }
@@ -41,29 +39,23 @@ fn gather_leaf<R: Region>(
     requires starts { first % block_entries ≡ 0 }
     requires live { first < tree.size / entry_size }
     requires room { tree.size / entry_size ≤ length entries.old }
-    requires number_room { tree.size / entry_size ≤ length numbers.old }
-    requires numbers { AreNumbers (words_in R.memory region.now) tree.root first numbers.old }
     requires before { let words = words_in R.memory region.now in
         IsGathered words tree.root (tree.size / entry_size) first entries.old before }
     ensures gathered { IfOk result
         (IsLeafGathered (words_in R.memory region.now) tree.root tree.size first entries.new) }
-    ensures numbers { let words = words_in R.memory region.now in
-        OnOk result (AreNumbers words tree.root (leaf_end tree.size first) numbers.new) }
     ensures err { IfErr result (IsMisspelled (words_in R.memory region.now) tree.root tree.size) }
     ensures room { length entries.new ≡ length entries.old }
-    ensures number_room { length numbers.new ≡ length numbers.old }
 {
     let _words = region.words();
-    let row = entry_place(region, tree, first, 0);
+    let row = entry_place(region, tree, first, INO_WORD);
     let slots = (tree.size / ENTRY_SIZE - first).min(BLOCK_ENTRIES) as u32;
     let named = named_in_row(region, row, slots);
-    keep_numbers(&named, slots as usize, numbers, first as usize);
     let mut count = before;
     for k in 0..slots {
         let place = row + ENTRY_WORDS * k as u64;
         if named[k as usize] != 0 {
             if !is_name(region, place) {
-                return Err(place + 1);
+                return Err(place + LENGTH_WORD);
             }
             entries[count] = Spelled::at(hash_name(region, place), place);
             count += 1;
@@ -72,8 +64,7 @@ fn gather_leaf<R: Region>(
     Ok(count)
 }
 
-/// Records the entries that refer to an inode, with the hashes of their names, and returns their number. It also
-/// records the inode number of the entry in each slot.
+/// Records the entries that refer to an inode, with the hashes of their names, and returns their number.
 ///
 /// # Errors
 ///
@@ -82,13 +73,11 @@ pub(crate) fn gather<R: Region>(
     region: &R,
     tree: Tree,
     entries: &mut [Spelled],
-    numbers: &mut [u32],
 ) -> Result<usize, u64>
     requires sound { IsSound (words_in R.memory region.now) tree.root tree.size }
     requires full { IsFull (words_in R.memory region.now) tree.root tree.size }
     requires most { length (words_in R.memory region.now) ≤ block_words * max_blocks }
     requires room { tree.size / entry_size ≤ length entries.old }
-    requires number_room { tree.size / entry_size ≤ length numbers.old }
     ensures places { IfOk result (λ count. places_of (take count entries.new) ≡
         used_places (words_in R.memory region.now) tree.root (slots tree.size)) }
     ensures hashes { let words = words_in R.memory region.now in
@@ -96,15 +85,12 @@ pub(crate) fn gather<R: Region>(
     ensures present { IfOk result (λ count. All IsPresent (take count entries.new)) }
     ensures count { IfOk result (λ count. count ≤ length entries.new) }
     ensures forms { OnOk result (HaveForms (words_in R.memory region.now) tree.root tree.size) }
-    ensures numbers { let words = words_in R.memory region.now in
-        OnOk result (AreNumbers words tree.root (tree.size / entry_size) numbers.new) }
     ensures err { IfErr result (IsMisspelled (words_in R.memory region.now) tree.root tree.size) }
     ensures room { length entries.new ≡ length entries.old }
-    ensures number_room { length numbers.new ≡ length numbers.old }
 {
     let mut count = 0;
     for leaf in 0..(tree.size / ENTRY_SIZE).div_ceil(BLOCK_ENTRIES) {
-        count = gather_leaf(region, tree, BLOCK_ENTRIES * leaf, entries, count, numbers)?;
+        count = gather_leaf(region, tree, BLOCK_ENTRIES * leaf, entries, count)?;
     }
     Ok(count)
 }

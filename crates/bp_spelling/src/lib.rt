@@ -16,3 +16,4 @@ pub use check::check_names;
 pub use entry::Spelled;
 pub use fault::NameFault;
 pub use rows::named_in_row;
+pub use table::make_room;

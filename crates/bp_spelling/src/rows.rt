@@ -1,7 +1,6 @@
 //! The inode numbers of the entries of a leaf.
 
 ghost use Rattle.std.specs.Prelude.{◌≡◌, ℕ, ◌+◌, ◌*◌, ◌<◌, ◌≤◌, length, slice_index};
-ghost use Rattle.bp_spelling.specs.Names.{in_32_bits};
 ghost use Rattle.bp_limits.specs.Limits.{entry_words, block_entries};
 ghost use Rattle.bp_layout.specs.Words.{word};
 ghost use Rattle.pm_region.specs.Memory.{words_in};
@@ -25,24 +24,4 @@ pub fn named_in_row<R: Region>(region: &R, place: u64, count: u32) -> [u64; BLOC
         named[k as usize] = region.load(place + ENTRY_WORDS * k as u64 + INO_WORD);
     }
     named
-}
-
-/// Puts the first `count` numbers of a row into `numbers` from index `first` on, in 32 bits each. `u32::MAX`
-/// represents all numbers that do not fit: no inode has it.
-pub(crate) fn keep_numbers(
-    named: &[u64; BLOCK_ENTRIES as usize],
-    count: usize,
-    numbers: &mut [u32],
-    first: usize,
-)
-    requires few { count ≤ block_entries }
-    requires room { first + count ≤ length numbers.old }
-    ensures before { (i : ℕ) → i < first → slice_index numbers.new i ≡ slice_index numbers.old i }
-    ensures kept { (k : ℕ) → k < count →
-        slice_index numbers.new (first + k) ≡ in_32_bits (slice_index named.now k) }
-    ensures room { length numbers.new ≡ length numbers.old }
-{
-    for k in 0..count {
-        numbers[first + k] = named[k].min(u64::from(u32::MAX)) as u32;
-    }
 }

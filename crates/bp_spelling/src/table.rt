@@ -1,6 +1,6 @@
 //! Comparison of names by their hashes, with a table, as long as few hashes collide.
 
-ghost use Rattle.std.specs.Prelude.{◌≡◌, ◌<◌, length, All, OnOk, IfErr};
+ghost use Rattle.std.specs.Prelude.{◌≡◌, ◌<◌, ◌≤◌, length, vec_len, All, OnOk, IfErr};
 ghost use Rattle.bp_spelling.specs.Hashes.{IsSpelled, places_of};
 ghost use Rattle.bp_spelling.specs.Places.{HaveOwnNames};
 ghost use Rattle.bp_spelling.specs.Tables.{home, IsPresent, Puts, IsClash, IsTableError};
@@ -9,6 +9,7 @@ ghost use Rattle.pm_region.specs.Memory.{words_in};
 use crate::doubles::compare_entries;
 use crate::entry::Spelled;
 use pm_region::Region;
+use std::alloc::AllocError;
 use std::cmp::Ordering;
 
 /// The number of cells of a table that may hold a name: the cell of its hash, and those after it.
@@ -28,6 +29,25 @@ pub(crate) enum TableError {
     Repeated(u64),
     /// Too many hashes collide, or there is no memory for a table.
     Crowded,
+}
+
+/// Makes room for the check of `names` names by [`check_names`](crate::check_names): for the names, and for a table that
+/// is at most half full. The vector never becomes shorter.
+///
+/// # Errors
+///
+/// - `AllocError`: allocation fails.
+pub fn make_room(entries: &mut Vec<Spelled>, names: usize) -> Result<(), AllocError>
+    ensures { OnOk result (names ≤ vec_len entries.new) }
+{
+    let wanted = names.saturating_mul(3).saturating_add(REACH + 1);
+    let len = entries.len();
+    if len < wanted {
+        // No more than that: a directory that is a little larger takes a little more.
+        entries.reserve_exact(wanted - len)?;
+        entries.resize(wanted, Spelled::default())?;
+    }
+    Ok(())
 }
 
 /// Returns the first cell that may hold a name with a hash, in a table of `cells` cells.

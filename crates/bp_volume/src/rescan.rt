@@ -10,7 +10,7 @@ ghost use Rattle.bp_changes.specs.Sets.{in_snapshot_of};
 ghost use Rattle.bp_calls.specs.Mounted.{image_in, IsExactIn};
 
 use bp_free::Parts;
-use bp_scan::{Pending, Totals, scan_whole};
+use bp_scan::{Pending, Totals, scan_known};
 use pm_region::Region;
 
 /// Sets the sets and counts to those of the words, which are a file system, whatever they were before, and returns its
@@ -28,16 +28,12 @@ pub(crate) fn rescan<R: Region>(parts: &mut Parts<R>, pending: &mut Pending) -> 
     ensures totals { HasTotals (image_in R.memory parts.old) result }
     ensures pending { pending.new ≡ pending.old }
 {
-    match scan_whole(
+    scan_known(
         &parts.region,
         &mut parts.free_blocks,
         &mut parts.free_inodes,
         &mut parts.snapshot_blocks,
         pending,
         &mut parts.link_counts,
-    ) {
-        Ok(totals) => totals,
-        // No check fails for a file system.
-        Err(_) => unreachable!(),
-    }
+    )
 }

@@ -117,11 +117,8 @@ impl<R: Region> Volume<R> {
         lay_out(&mut region, version);
         // From here on a crash cannot leave the words that were there before: it always leaves a file system.
         region.drain();
-        match Volume::scanned(region, sets, cache) {
-            Ok(volume) => Ok(volume),
-            // The stores of a format turn any words into a file system.
-            Err(_) => unreachable!(),
-        }
+        // The stores of a format turn any words into a file system.
+        Ok(Volume::of_file_system(region, sets, cache))
     }
 
     /// Mounts the file system of a formatted region of 8 to 67,108,864 blocks of 512 words.
@@ -146,7 +143,7 @@ impl<R: Region> Volume<R> {
         ensures exact { IsFileSystem (R.memory region).base → IfErr result (λ e. e.1 ≡ MountFault.Memory) }
     {
         match memory_for(alloc, (region.words() / BLOCK_WORDS) as u32) {
-            Ok((sets, cache)) => Volume::scanned(region, sets, cache),
+            Ok((sets, cache)) => Volume::scanned(alloc, region, sets, cache),
             Err(_) => Err((region, MountFault::Memory)),
         }
     }
@@ -722,8 +719,48 @@ impl<R: Region> Volume<R> {
         report_read(reply, reported);
     }
 
+    /// Makes a volume of a region with an empty log, whose words are known to be a file system.
+    fn of_file_system(region: R, sets: Sets, cache: DirectoryCache) -> Volume<R>
+        requires well_formed { IsFileSystem (R.memory region).base }
+        requires fresh { (R.memory region).events ≡ [] }
+        requires roomy { call_room ≤ (R.memory region).capacity }
+        requires blocks { length sets.free_blocks ≡ block_count (R.memory region).base }
+        requires inodes { length sets.free_inodes ≡ block_inodes * block_count (R.memory region).base }
+        requires counts { length sets.link_counts ≡ block_inodes * block_count (R.memory region).base }
+        requires snapshot_blocks { length sets.snapshot_blocks ≡ block_count (R.memory region).base }
+        requires pending { sets.pending ≡ block_inodes * block_count (R.memory region).base }
+        requires right { IsCacheOf (R.memory region).base cache }
+        ensures { result ≡ R.memory region }
+    {
+        let Sets {
+            free_blocks,
+            free_inodes,
+            link_counts,
+            snapshot_blocks,
+            mut pending,
+        } = sets;
+        let mut parts = Parts {
+            region,
+            free_blocks,
+            free_inodes,
+            link_counts,
+            snapshot_blocks,
+        };
+        rescan(&mut parts, &mut pending);
+        Volume {
+            parts,
+            pending,
+            cache,
+        }
+    }
+
     /// Makes a volume of a region with an empty log, if its image passes a scan.
-    fn scanned(region: R, sets: Sets, cache: DirectoryCache) -> Result<Volume<R>, (R, MountFault)>
+    fn scanned(
+        alloc: Global,
+        region: R,
+        sets: Sets,
+        cache: DirectoryCache,
+    ) -> Result<Volume<R>, (R, MountFault)>
         requires sized { IsSized (R.memory region).base }
         requires fresh { (R.memory region).events ≡ [] }
         requires roomy { call_room ≤ (R.memory region).capacity }
@@ -734,9 +771,10 @@ impl<R: Region> Volume<R> {
         requires pending { sets.pending ≡ block_inodes * block_count (R.memory region).base }
         requires right { IsCacheOf (R.memory region).base cache }
         ensures same { IfOk result (λ volume. volume ≡ R.memory region) }
-        ensures well_formed { IsOk result ↔ IsFileSystem (R.memory region).base }
+        ensures well_formed { OnOk result (IsFileSystem (R.memory region).base) }
         ensures handed_back { IfErr result (λ e. e.0 ≡ region) }
-        ensures fault { IfErr result (λ e. IsFault (R.memory region).base e.1) }
+        ensures fault { IfErr result (λ e. (e.1 ≡ MountFault.Memory) ⊎ IsFault (R.memory region).base e.1) }
+        ensures exact { IsFileSystem (R.memory region).base → IfErr result (λ e. e.1 ≡ MountFault.Memory) }
     {
         let Sets {
             mut free_blocks,
@@ -746,6 +784,7 @@ impl<R: Region> Volume<R> {
             mut pending,
         } = sets;
         match scan_whole(
+            alloc,
             &region,
             &mut free_blocks,
             &mut free_inodes,

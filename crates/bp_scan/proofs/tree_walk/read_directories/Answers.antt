@@ -5,8 +5,8 @@ use Rattle.bp_free.proofs.Summary.{none_in}
 use Rattle.bp_scan.proofs.DirectoryLaws.{steps_fall, taken_least}
 use Rattle.bp_scan.proofs.tree_walk.read_directories.Goals as goal
 
-pub read_directory-requires : goal.read_directory-requires
-read_directory-requires g c =
+pub read_directory-requires-clause-at_hand : goal.read_directory-requires-clause-at_hand
+read_directory-requires-clause-at_hand g c =
     taken_least (current_words (g.R.Region.memory c.args.region.now)) c.loop-inode.work c.take.new.self c.in-Some.inode c.loop-inode.invariant.reading c.in-Some.ensures.0 c.in-Some.ensures.1
 
 pub loop-inode-smaller : goal.loop-inode-smaller

@@ -5,11 +5,10 @@ use Rattle.bp_layout.specs.Directory.{ino_in, name_in}
 use Rattle.bp_layout.specs.Paths.{IsName}
 use Rattle.bp_spelling.specs.Gathered.{IsGathered}
 use Rattle.bp_spelling.specs.Hashes.{place_of, name_hash}
-use Rattle.bp_spelling.specs.Names.{entry_place_in, in_32_bits}
+use Rattle.bp_spelling.specs.Names.{entry_place_in}
 use Rattle.bp_spelling.specs.Places.{name_there}
 use Rattle.bp_spelling.proofs.EntryPlaces.{place-is, ino-there, form-there, form-in, place-some, row_place, place_fits}
 use Rattle.bp_spelling.proofs.Forms.{name-short}
-use Rattle.bp_spelling.proofs.Numbers.{numbers_more}
 use Rattle.bp_spelling.proofs.SlotSteps.{gathered_empty, gathered_more}
 use Rattle.bp_spelling.proofs.gather.gather_leaf.Goals as goal
 use Rattle.bp_spelling.proofs.gather.gather_leaf.Goals.{then-named-k-ne0+else-not-is_name, else-named-k-ne0}
@@ -89,17 +88,3 @@ loop-k-preserved g c =
       ]);
       room = c.if-named-k-ne0.auto.entries ∙ c.loop-k.invariant.room;
     }
-
-pub returns-clause-numbers : goal.returns-clause-numbers
-returns-clause-numbers g c =
-    let image = current_words (g.R.Region.memory c.args.region.now) in
-    let root = c.args.tree.root in
-    let size = c.args.tree.size in
-    numbers_more image root c.args.first c.min-slots.result _ c.args.numbers.now c.keep_numbers.new.numbers (omega (arith, c.min-slots.ensures, c.requires.live)) c.requires.numbers c.keep_numbers.ensures.before (λ k low.
-    let slot = c.args.first + k in
-    let live : slot < size / 256 = omega (arith, c.min-slots.ensures, low) in
-    let row : k < 16 = omega (arith, c.min-slots.ensures, low) in
-    let there : c.entry_place-row.result + 32 * k ≡ entry_place_in image root slot = omega (arith, c.entry_place-row.ensures.place, row_place image root c.args.first k c.requires.starts row) in
-    let read : slice_index c.named_in_row-named.result k ≡ ino_in image root slot =
-    c.named_in_row-named.ensures k low ∙ ap (word image) there ∙ sym (ino-there image root size slot c.requires.full live) in
-    c.keep_numbers.ensures.kept k low ∙ ap in_32_bits read)

@@ -1,4 +1,4 @@
-use Rattle.std.proofs.Common.{◌≡◌, ◌*◌, ◌∙◌, ap, refl, sym}
+use Rattle.std.proofs.Common.{◌≡◌, ◌*◌, ◌∙◌, ap, sym}
 use Rattle.pm_region.specs.Memory.{Memory, current_words}
 use Rattle.bp_layout.specs.Words.{block_count}
 use Rattle.bp_volume.proofs.ScannedLaws.{scanned_volume, words_fresh}
@@ -9,7 +9,7 @@ invariant_of-result g c =
     let memory : Memory = g.R.Region.memory c.args.region in
     let blocks : block_count memory.base ≡ block_count (current_words memory) = ap block_count (sym (words_fresh memory c.requires.fresh)) in
     record {
-      volume = scanned_volume memory _ _ c.requires.fresh c.requires.roomy (c.in-Ok.ensures.well_formed.0 refl) c.in-Ok.ensures.snapshot_blocks
+      volume = scanned_volume memory _ _ c.requires.fresh c.requires.roomy c.in-Ok.ensures.well_formed c.in-Ok.ensures.snapshot_blocks
           (record {
             sets = record {
               block_room = c.scan_whole.ensures.block_room ∙ c.requires.blocks ∙ blocks;

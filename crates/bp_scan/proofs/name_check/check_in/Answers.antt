@@ -1,6 +1,6 @@
 use Rattle.std.proofs.Common.{ap}
 use Rattle.bp_scan.specs.Misspelled.{check_of, fault_place}
-use Rattle.bp_scan.proofs.directories.read_names.Goals as goal
+use Rattle.bp_scan.proofs.name_check.check_in.Goals as goal
 
 pub returns-in-Err-Form-clause-err : goal.returns-in-Err-Form-clause-err
 returns-in-Err-Form-clause-err g c = record {

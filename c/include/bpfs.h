@@ -66,9 +66,11 @@
  *
  * COST
  *   A volume has its own copy of the words (4 KiB for each block), unless they are lent
- *   (bpfs_mount_at), up to some 724 bytes more for each block, and a log of 524,288 events (25 MB).
- *   The system provides pages of these as they are used. bpfs_mount, bpfs_mount_at, bpfs_format_events, bpfs_list and bpfs_snap_list allocate memory. Other calls
- *   may allocate some to remember where names are; if that fails, they return the same result.
+ *   (bpfs_mount_at), up to some 276 bytes more for each block, and a log of 524,288 events
+ *   (25 MB). The system provides pages of these as they are used. A mount also takes 24 bytes for
+ *   each entry of the largest directory, and frees them at its end. bpfs_mount, bpfs_mount_at,
+ *   bpfs_format_events, bpfs_list and bpfs_snap_list allocate memory. Other calls may allocate some
+ *   to remember where names are; if that fails, they return the same result.
  *
  * CARRYING
  *   The log is a list of events, in order:
@@ -84,9 +86,10 @@
  *   shows the tree after a prefix of the calls. Each call that was durable is in that prefix. You
  *   may carry many calls at once (a group commit): only the order matters.
  *
- *   Carry before bpfs_drain and bpfs_close, which discard the events; no other call does. Never
- *   change an image in any way except by the events of one volume: that would damage it. (No image
- *   uses the two words of the superblock that carry.h reserves, such as BPFS_NOTE_WORD.)
+ *   Carry before bpfs_drain, bpfs_close and bpfs_close_at, which discard the events; no other
+ *   call does. Never change an image in any way except by the events of one volume: that would
+ *   damage it. (No image uses the two words of the superblock that carry.h reserves, such as
+ *   BPFS_NOTE_WORD.)
  *
  * A FULL LOG
  *   A call that finds room for fewer than BPFS_LOG_ROOM (262,144) events in the log returns
@@ -161,8 +164,8 @@ typedef struct bpfs {
 
 #define BPFS_CLOSED {NULL, false}
 
-/* Memory with the words of an image, which bpfs_mount_at lends to the library. `is_there` is false
- * while the library has it, and where there is none. */
+/* Memory with the words of an image, to lend to the library (bpfs_mount_at). If `is_there` is
+ * false, there is none, and the other fields have no meaning. */
 typedef struct bpfs_lent {
     uint64_t *words;
     size_t count;
@@ -241,16 +244,16 @@ uint32_t bpfs_format_events(uint32_t blocks, uint32_t version, bpfs_event *into,
 uint32_t bpfs_mount(bpfs *fs, const uint64_t *words, size_t count, bpfs_fault *fault);
 
 /* Opens the handle as bpfs_mount does, but over the words where they are. It copies none, and reads
- * only blocks that are in use, so a large image in a sparse mapping costs what its files cost. The
- * library has the memory until bpfs_close_at: do not read, write or free it, and set nothing in
- * *lent. On BPFS_OK, is_there becomes false. On any other result the memory is yours, unchanged.
- *   The library changes the words at once, before a barrier, so the memory must not itself be what
- * a power failure leaves: lend anonymous memory or a private mapping, and carry the events to the
- * medium. BPFS_OUT_OF_RANGE: is_there is false. Other results are those of bpfs_mount. */
+ * only blocks that are in use, so a large image in a sparse mapping costs what its files cost. On
+ * BPFS_OK, lent->is_there becomes false, and the library has the memory until bpfs_close_at or
+ * bpfs_close: do not read, write or free it. On any other result it stays yours, unchanged. Calls
+ * change the words at once, before a barrier, so do not lend the medium: lend anonymous memory or
+ * a private mapping, and carry the events to the medium. BPFS_OUT_OF_RANGE: lent->is_there is
+ * false. Other results are those of bpfs_mount. */
 uint32_t bpfs_mount_at(bpfs *fs, bpfs_lent *lent, bpfs_fault *fault);
 
 /* Frees the volume and closes the handle. Events that were not carried are lost. Memory that was
- * lent is not freed. BPFS_HAS_NONE. */
+ * lent is not freed, and is yours again. BPFS_HAS_NONE. */
 uint32_t bpfs_close(bpfs *fs);
 
 /* Closes the handle as bpfs_close does, and sets *lent to the memory with the words as they are

@@ -93,15 +93,16 @@ HoldsAt volume old lent code new new_lent =
 -- Lent words are mounted where they are, as `Opens` says of a copy of them, and then belong to the handle. They are
 -- lent again if there is no volume. A handle that held a volume keeps it, and what is lent stays (33). The number is
 -- 38 where nothing is lent.
-pub data OpensAt (lent : Option (List ℕ)) (old : Option Mounted) (fault : Fault) (code : ℕ) (new : Option Mounted) (new_lent : Option (List ℕ)) (new_fault : Fault) : Type 0 where
+pub data OpensAt (lent : Option (List ℕ)) (old : Option Mounted) (fault : Fault) (code : ℕ) (new : Option Mounted)
+    (new_lent : Option (List ℕ)) (new_fault : Fault) : Type 0 where
   nothing : lent ≡ None → old ≡ None → code ≡ 38 → new ≡ None → new_lent ≡ None → new_fault ≡ fault →
       OpensAt lent old fault code new new_lent new_fault
   busy : (held : Mounted) → old ≡ Some held → code ≡ 33 → new ≡ old → new_lent ≡ lent → new_fault ≡ fault →
       OpensAt lent old fault code new new_lent new_fault
-  opened_at : (words : List ℕ) → lent ≡ Some words → old ≡ None → code ≡ 0 → Opens words old fault code new new_fault →
-      new_lent ≡ None → OpensAt lent old fault code new new_lent new_fault
-  refused : (words : List ℕ) → lent ≡ Some words → old ≡ None → Opens words old fault code new new_fault → new ≡ None →
-      new_lent ≡ Some words → OpensAt lent old fault code new new_lent new_fault
+  opened_at : (words : List ℕ) → lent ≡ Some words → old ≡ None → code ≡ 0 →
+      Opens words old fault code new new_fault → new_lent ≡ None → OpensAt lent old fault code new new_lent new_fault
+  refused : (words : List ℕ) → lent ≡ Some words → old ≡ None →
+      Opens words old fault code new new_fault → new ≡ None → new_lent ≡ Some words → OpensAt lent old fault code new new_lent new_fault
 
 -- The words of the volume that the handle held, as they are now, are lent. Without a volume nothing changes.
 abbrev pub GivesBack : Option Mounted → Option (List ℕ) → Option (List ℕ) → Type 0

@@ -17,7 +17,7 @@ use std::alloc::Global;
 use std::mem::replace;
 
 /// Makes a region of these words, in the memory where they are. Where allocation of the log fails, the words come back.
-fn region_at(alloc: Global, words: RawArray<u64>) -> Result<RedoRegion, RawArray<u64>>
+fn region_over(alloc: Global, words: RawArray<u64>) -> Result<RedoRegion, RawArray<u64>>
     requires { IsSized words }
     ensures { MatchResult result (λ region. region ≡ region_of words) (λ again. again ≡ words) }
 {
@@ -40,7 +40,7 @@ fn mount_words(
     if let Err(fault) = test_size(words.as_slice()) {
         return Err((words, fault));
     }
-    match region_at(alloc, words) {
+    match region_over(alloc, words) {
         Ok(region) => match Volume::mount(alloc, region) {
             Ok(volume) => Ok(volume),
             Err((region, fault)) => Err((region.into_words(), fault)),
@@ -51,7 +51,7 @@ fn mount_words(
 
 /// Gives a volume over lent words to a handle. A volume that the handle held is freed. Where allocation fails, the
 /// words are lent again.
-fn hold_at(alloc: Global, handle: &mut Handle, volume: Volume<RedoRegion>, lent: &mut Lent) -> u32
+fn hold_lent(alloc: Global, handle: &mut Handle, volume: Volume<RedoRegion>, lent: &mut Lent) -> u32
     ensures { HoldsAt volume handle.old.held lent.old.words result handle.new.held lent.new.words }
 {
     match Box::new(
@@ -106,7 +106,7 @@ pub extern "C" fn bpfs_mount_at(
         return OUT_OF_RANGE;
     };
     match mount_words(alloc, words) {
-        Ok(volume) => hold_at(alloc, handle, volume, lent),
+        Ok(volume) => hold_lent(alloc, handle, volume, lent),
         Err((words, why)) => {
             *lent = words.into_lent();
             faulty(why, fault)

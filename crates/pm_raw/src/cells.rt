@@ -19,8 +19,8 @@ pub struct Base<T> {
     address: *mut T,
 }
 
-/// The owner of a block's `count` places, of which the first hold `items`. It has no bytes. Dropping it
-/// frees nothing: the right to free a block is its deed, and a lent block has none.
+/// The owner of a block's `count` places, of which the first hold `items`. It has no bytes. Dropping it frees nothing:
+/// the right to free a block is its deed, and a lent block has none.
 #[derive(Drop)]
 pub struct Cells<T> {
     of: PhantomData<*const T>,

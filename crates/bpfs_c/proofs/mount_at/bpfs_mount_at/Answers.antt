@@ -14,7 +14,7 @@ pub returns-in-Ok : goal.returns-in-Ok
 returns-in-Ok c =
     let words = c.in-Some-of_lent.words in
     let made = c.in-Ok.ensures in
-    elim c.hold_at.ensures [
+    elim c.hold_lent.ensures [
       | inl held ↦ opened_at words (search rules) (search rules) held.0
           (opened (search rules) made.0 made.2 held.0 (search rules) refl) (search rules)
       | inr lacking ↦ refused words (search rules) (search rules)

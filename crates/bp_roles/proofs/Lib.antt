@@ -1,0 +1,15 @@
+pub mod PlaceLaws
+pub mod SwapLaws
+pub mod SeenLaws
+pub mod RegionLaws
+pub mod Bridge
+pub mod Likeness
+pub mod Durable
+pub mod Begun
+pub mod Begin
+pub mod Earlier
+pub mod Spare
+pub mod Ordinary
+pub mod Short
+pub mod Upgrade
+pub mod Unseen

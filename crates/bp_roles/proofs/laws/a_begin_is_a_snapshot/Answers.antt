@@ -1,0 +1,5 @@
+use Rattle.bp_roles.proofs.Begin.{begins_inside}
+use Rattle.bp_roles.proofs.laws.a_begin_is_a_snapshot.Goals as goal
+
+pub returns : goal.returns
+returns c = begins_inside

@@ -1,0 +1,5 @@
+use Rattle.bp_roles.proofs.Ordinary.{seen_right}
+use Rattle.bp_roles.proofs.laws.a_call_outside_is_right.Goals as goal
+
+pub returns : goal.returns
+returns c = seen_right

@@ -1,0 +1,5 @@
+use Rattle.bp_roles.proofs.Earlier.{earlier_same}
+use Rattle.bp_roles.proofs.laws.earlier_images_are_unchanged.Goals as goal
+
+pub returns : goal.returns
+returns c = earlier_same

@@ -1,0 +1,5 @@
+use Rattle.bp_roles.proofs.Bridge.{kept_same}
+use Rattle.bp_roles.proofs.laws.the_snapshot_inside_is_the_tree_outside.Goals as goal
+
+pub returns : goal.returns
+returns c = kept_same

@@ -1,0 +1,8 @@
+use Rattle.bp_roles.proofs.Unseen.{adds_told, memory_told}
+use Rattle.bp_roles.proofs.laws.what_is_seen_determines_the_region.Goals as goal
+
+pub returns-clause-memory : goal.returns-clause-memory
+returns-clause-memory c = memory_told
+
+pub returns-clause-adds : goal.returns-clause-adds
+returns-clause-adds c = adds_told

@@ -1,0 +1,14 @@
+use Rattle.std.proofs.Common.{ap, sym, subst, ◌∙◌, ◌≡◌}
+use Rattle.bp_roles.specs.Seen.{MemoryByRoles, seen, seen_memory, IsWide}
+use Rattle.pm_region.specs.Memory.{drained}
+use Rattle.bp_roles.proofs.SeenLaws.{seen-drained, wide-drained}
+use Rattle.bp_roles.proofs.region.RegionByRolesRegion.drain.Goals as goal
+
+pub invariant_of-self : goal.invariant_of-self
+invariant_of-self g c = subst IsWide (sym c.drain.ensures) (wide-drained (g.R.Region.memory c.self.inside.region) c.self.invariant)
+
+pub returns : goal.returns
+returns g c =
+    let old = g.R.Region.memory c.self.inside.region in
+    subst (λ (r : MemoryByRoles). seen_memory c.self.inside.roles (g.R.Region.memory c.drain.new.self) ≡ drained (seen r)) c.self.view_is
+    (ap (seen_memory c.self.inside.roles) c.drain.ensures ∙ seen-drained c.self.inside.roles (g.R.Region.memory c.self.inside.region) c.self.invariant)

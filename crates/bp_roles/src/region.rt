@@ -1,0 +1,209 @@
+//! A region that is seen by roles.
+
+ghost use Rattle.std.specs.Prelude.{◌≡◌, ◌+◌, ◌<◌, ◌≤◌, [], ◌∷◌, length, slice_index};
+ghost use Rattle.bp_roles.specs.Seen.{is_of_head, seen};
+ghost use Rattle.pm_epochs.specs.declared.event.Event.TheVariants.{Store};
+ghost use Rattle.pm_region.specs.Memory.{Adds, current_words, room_in, stores_from};
+
+use crate::roles::Roles;
+use pm_epochs::{BadChoice, Choice, Event, EventKind, Kept};
+use pm_region::{HEAD_WORDS, Region, Row};
+use std::marker::Model;
+
+/// A region seen by roles. Its calls read and change the slots that have the roles of the files and of the snapshot, in
+/// the places where version 2 has these slots. All other words are those of the region below.
+#[derive(Drop)]
+pub struct RegionByRoles<R: Region> {
+    region: R,
+    roles: Roles,
+}
+
+impl<R: Region> Model for RegionByRoles<R> {
+    ghost use Rattle.bp_roles.specs.Seen.{IsWide, MemoryByRoles};
+
+    ghost Value = { MemoryByRoles };
+
+    ghost view = { λ it. record { roles = it.roles; memory = R.memory it.region } };
+
+    ghost invariant = { λ it. IsWide (R.memory it.region) };
+}
+
+impl<R: Region> RegionByRoles<R> {
+    ghost use Rattle.bp_roles.specs.Seen.{IsWide};
+
+    /// Returns a region of at least 8 words as these roles show it. The roles are not compared with its word 0.
+    pub fn new(region: R, roles: Roles) -> RegionByRoles<R>
+        requires { IsWide (R.memory region) }
+        ensures { result ≡ record { roles = roles; memory = R.memory region } }
+    {
+        RegionByRoles { region, roles }
+    }
+
+    /// Returns the roles by which the region is seen.
+    pub fn roles(&self) -> Roles
+        ensures { result ≡ self.now.roles }
+    {
+        self.roles
+    }
+
+    /// Sets the roles by which the region is seen from now on. Nothing is stored.
+    pub fn set_roles(&mut self, roles: Roles)
+        ensures { self.new ≡ record self.old { roles = roles } }
+    {
+        self.roles = roles;
+    }
+
+    /// Returns the region below, with its words and its log as they are stored.
+    pub fn region(&self) -> &R
+        ensures { R.memory result.now ≡ self.now.memory }
+    {
+        &self.region
+    }
+
+    /// Returns the region below and ends the view.
+    pub fn into_region(self) -> R
+        ensures { R.memory result ≡ self.memory }
+    {
+        self.region
+    }
+
+    /// Returns one of the first words as the processor sees it.
+    fn load_head(&self, word: u64) -> u64
+        requires { word < length (seen self.now).base }
+        ensures { result ≡ slice_index (current_words (seen self.now)) word }
+    {
+        self.roles
+            .swapped(word, self.region.load(self.roles.stored_at(word)))
+    }
+
+    /// Sets words one by one, some of which may be of the first words.
+    fn store_each(&mut self, first: u64, values: &[u64])
+        requires in_range { first + length values.now ≤ length (seen self.old).base }
+        requires room { length values.now ≤ room_in (seen self.old) }
+        ensures { Adds (seen self.old) (seen self.new) (stores_from first values.now) }
+    {
+        let _words = self.words();
+        for i in 0..values.len() {
+            self.store(first + i as u64, values[i]);
+        }
+    }
+
+    /// Sets one of the first words.
+    fn store_head(&mut self, word: u64, value: u64)
+        requires in_range { word < length (seen self.old).base }
+        requires room { 0 < room_in (seen self.old) }
+        ensures { Adds (seen self.old) (seen self.new) (Store word value ∷ []) }
+    {
+        self.region.store(self.roles.stored_at(word), self.roles.swapped(word, value));
+    }
+}
+
+impl<R: Region> Region for RegionByRoles<R> {
+    ghost memory = { seen };
+
+    fn words(&self) -> u64 {
+        self.region.words()
+    }
+
+    fn load(&self, word: u64) -> u64 {
+        if word < HEAD_WORDS {
+            self.load_head(word)
+        } else {
+            self.region.load(word)
+        }
+    }
+
+    fn load_words(&self, first: u64, count: usize) -> &[u64] {
+        self.region.load_words(first, count)
+    }
+
+    fn store(&mut self, word: u64, value: u64) {
+        if word < HEAD_WORDS {
+            self.store_head(word, value);
+        } else {
+            self.region.store(word, value);
+        }
+    }
+
+    fn store_words(&mut self, first: u64, values: &[u64]) {
+        if first < HEAD_WORDS {
+            self.store_each(first, values);
+        } else {
+            self.region.store_words(first, values);
+        }
+    }
+
+    fn barrier(&mut self) {
+        self.region.barrier();
+    }
+
+    fn end_call(&mut self) {
+        self.region.end_call();
+    }
+
+    fn drain(&mut self) {
+        self.region.drain();
+    }
+
+    fn room(&self) -> usize {
+        self.region.room()
+    }
+
+    fn event_count(&self) -> usize {
+        self.region.event_count()
+    }
+
+    fn kind(&self, i: usize) -> EventKind {
+        self.roles.seen_kind(self.region.kind(i))
+    }
+
+    fn word_at(&self, moment: usize, word: u64) -> u64 {
+        self.roles.swapped(
+            word,
+            self.region.word_at(moment, self.roles.stored_at(word)),
+        )
+    }
+
+    fn event(&self, i: usize) -> Event {
+        self.roles.seen_event(self.region.event(i))
+    }
+
+    /// Returns one event for a store to the first words, since the next store may be seen at another place than next to
+    /// it.
+    fn row(&self, first: usize) -> Row {
+        let Row { kind, len } = self.region.row(first);
+        Row {
+            kind: self.roles.seen_kind(kind),
+            len: if is_of_head(kind) { 1 } else { len },
+        }
+    }
+
+    fn barriers_before(&self, moment: usize) -> usize {
+        self.region.barriers_before(moment)
+    }
+
+    fn start_of_epoch(&self, epoch: usize) -> usize {
+        self.region.start_of_epoch(epoch)
+    }
+
+    fn base_word(&self, word: u64) -> u64 {
+        self.roles
+            .swapped(word, self.region.base_word(self.roles.stored_at(word)))
+    }
+
+    fn crash_to(&mut self, choice: &Choice) -> Result<Kept, BadChoice> {
+        self.region.crash_to(choice)
+    }
+}
+
+/// Returns whether an event of this kind is a store to one of the first words, which may be seen at another place than
+/// the one where it is stored.
+fn is_of_head(kind: EventKind) -> bool
+    ensures { result ≡ is_of_head kind }
+{
+    match kind {
+        EventKind::Store(word) => word < HEAD_WORDS,
+        EventKind::Barrier => false,
+        EventKind::CallEnd => false,
+    }
+}

@@ -28,9 +28,9 @@ fn count(
     let mut source = FairSource::new(b"");
     let mut sink = NullSink::new();
     let status = run(alloc, words, &mut source, &mut sink, files).code();
-    let reported = sink.count();
+    let printed = sink.count();
     let length = files.image().len();
-    write!(report, "status {status}, {reported} bytes told")?;
+    write!(report, "status {status}, {printed} bytes printed")?;
     writeln!(report, ", {length} in the file")
 }
 

@@ -1,6 +1,9 @@
 -- The roles of the three slots of the superblock in images of version 3. A slot is a root word with the size next to
 -- it, in bytes, of an inode file: words 2 and 3, 4 and 5, 6 and 7. Roles say where each of the first 8 words is stored,
 -- and which magic number is at word 0.
+--
+-- No program makes images of version 3 yet: this file and Transaction define what they have in the superblock, and all
+-- else is as in version 2 (docs/format.md).
 use Rattle.std.specs.Prelude.{ℕ, ◌==◌, List, [], ◌∷◌, if◌then◌else◌, slice_index_or}
 use Rattle.bp_limits.specs.Limits.{magic, super_magic}
 use Rattle.bp_limits.specs.declared.version.Version.TheVariants.{Two}

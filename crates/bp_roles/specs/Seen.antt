@@ -19,6 +19,7 @@ seen_event roles (Store word value) = Store (seen_at roles word) (swapped roles 
 seen_event roles Barrier = Barrier
 seen_event roles CallEnd = CallEnd
 
+-- The kind of an event as it is seen.
 abbrev pub seen_kind : Roles → EventKind → EventKind
 seen_kind roles (kinds.Store word) = kinds.Store (seen_at roles word)
 seen_kind roles kinds.Barrier = kinds.Barrier
@@ -30,6 +31,7 @@ is_of_head (kinds.Store word) = nat_lt word 8
 is_of_head kinds.Barrier = false
 is_of_head kinds.CallEnd = false
 
+-- The events of a log as they are seen.
 abbrev pub seen_events : Roles → List Event → List Event
 seen_events roles events = map (seen_event roles) events
 
@@ -39,6 +41,7 @@ raw_event roles (Store word value) = Store (stored_at roles word) (swapped roles
 raw_event roles Barrier = Barrier
 raw_event roles CallEnd = CallEnd
 
+-- The events that are seen as these.
 abbrev pub raw_events : Roles → List Event → List Event
 raw_events roles events = map (raw_event roles) events
 

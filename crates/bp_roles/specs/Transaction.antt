@@ -20,11 +20,12 @@ use Rattle.bp_roles.specs.Seen.{seen_words}
 use Rattle.bp_roles.specs.declared.roles.Roles.{Roles}
 use Rattle.bp_roles.specs.declared.roles.Roles.TheVariants.{Earlier, OutsideA, OutsideB, InsideA, InsideB}
 
--- The roles outside and inside a transaction, under the magic number `BPFSRS3A` or, if `is_b`, under `BPFSRS3B`.
+-- The roles outside a transaction, under the magic number `BPFSRS3A` or, if `is_b`, under `BPFSRS3B`.
 abbrev pub outside : Bool → Roles
 outside false = OutsideA
 outside true = OutsideB
 
+-- The roles inside a transaction, likewise.
 abbrev pub inside : Bool → Roles
 inside false = InsideA
 inside true = InsideB

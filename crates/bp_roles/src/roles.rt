@@ -13,7 +13,7 @@ use pm_region::HEAD_WORDS;
 ///
 /// Seen by its roles, an image has the slot of its files at words 2 and 3, and that of its snapshot at words 4 and 5,
 /// as version 2 has them. Word 0 says which roles they are outside a transaction; no word says whether a transaction is
-/// open.
+/// open. `specs/Roles` and `specs/Transaction` define the superblock of version 3, which no program makes yet.
 #[derive(Clone, Copy, Debug, PartialEq, Eq)]
 pub enum Roles {
     /// Versions 1 and 2: each word is seen where it is stored.

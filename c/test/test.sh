@@ -1,6 +1,7 @@
 #!/bin/sh
 # Runs the tests that make has built, in the folder of the Makefile. test.sh ROUNDS CUTS FOLDER LARGE [CHECKER]: ROUNDS kills of each kind, CUTS simulated ends of
-# each carrier, images in FOLDER, LARGE blocks of the large one, and the program bpfs.
+# each carrier, images in FOLDER, LARGE blocks of the large one, and the program bpfs. The environment has CALLS, how many calls are compared with
+# a model, and SEED.
 set -u
 rounds=$1 cuts=$2 folder=$(mktemp -d "$3/bpfs-c-XXXXXX") large=$4 checker=${5:-}
 trap 'rm -rf "$folder"' EXIT
@@ -58,6 +59,10 @@ for program in header documented; do
     passed=$((passed + 1))
 done
 run build/san-calls_test
+run build/san-differential_test "${CALLS:-30000}" "${SEED:-1}"
+build/san-differential_test 2000 1 1000 2> "$folder/printed" && fail "a wrong byte passes"
+echo "a wrong byte: found: $(cat "$folder/printed")"
+passed=$((passed + 1))
 run build/san-carriers_test "$folder"
 run build/san-restart_test file "$cuts" 1
 run build/san-restart_test redo "$cuts" 1

@@ -10,9 +10,9 @@
  *
  * Each buffer that a call gets ends at a page that nobody may touch (guarded.h). What the model
  * cannot foresee is whether space lacks: where BPFS_NO_SPACE is possible it is accepted, and nothing
- * may have changed. The status is 1 at the first difference. With PLANT above 0, bytes that are read
- * are falsified after that many calls, which has to be such a difference. With RESULTS, it
- * prints how often each kind of call had each result.
+ * may have changed. Some allocations of the library fail. The status is 1 at the first difference.
+ * With PLANT above 0, bytes that are read are falsified after that many calls, which has to be such
+ * a difference. With RESULTS, any text, it prints how often each kind of call had each result.
  */
 #include "guarded.h"
 #include "model.h"
@@ -75,6 +75,39 @@ static bool is_listed;
 static guarded in_path, in_other, in_bytes, in_pieces, in_words;
 static guarded out_handle, out_temporary, out_bytes, out_words, out_values, out_events, out_lent;
 static guarded out_count, out_lack, out_fault, out_found, out_flag, out_sums, out_blocks, out_links, out_run, out_lent_words;
+
+/* ---- memory that lacks ---- */
+
+static uint32_t starves_at; /* that one of the next allocations fails, and those after it; 0: none */
+static bool is_starved;     /* one has failed */
+
+void *__real_malloc(size_t size);
+void *__real_realloc(void *memory, size_t size);
+void *__wrap_malloc(size_t size);
+void *__wrap_realloc(void *memory, size_t size);
+
+static bool starves(void) {
+    if (starves_at > 1) starves_at--;
+    else if (starves_at == 1) is_starved = true;
+    return starves_at == 1 && is_starved;
+}
+
+void *__wrap_malloc(size_t size) {
+    return starves() ? NULL : __real_malloc(size);
+}
+
+void *__wrap_realloc(void *memory, size_t size) {
+    return starves() ? NULL : __real_realloc(memory, size);
+}
+
+static void starve(uint32_t at) {
+    starves_at = at;
+    is_starved = false;
+}
+
+static void feed(void) {
+    starves_at = 0;
+}
 
 /* ---- differences ---- */
 
@@ -239,7 +272,9 @@ static void draw_path(path *p, const tree *t, bool of_file) {
     if (any(24) == 0) spoil(p);
 }
 
+/* Gives a path to the call that comes next, for which memory may lack. */
 static const uint8_t *given(const guarded *memory, const path *p) {
+    starve(any(8) ? 0 : 1 + any(3));
     return p->length || any(2) ? guarded_in(memory, p->bytes, p->length) : NULL;
 }
 
@@ -284,6 +319,7 @@ static void fetch(size_t first, size_t count) {
 /* The events that the last call added: some, one marker alone, or none. */
 static void follow(bool adds, bool changes) {
     size_t first = event_count, count = bpfs_event_count(fs), barriers = 0, last_store = 0, last_barrier = 0;
+    feed();
     holds("the log has room for all events", count <= LOG_EVENTS);
     if (!adds || !changes) is("the number of events after the call", count, first + adds);
     fetch(first, count);
@@ -681,6 +717,7 @@ static void call_list(void) {
     uint32_t (*lists)(bpfs *, const uint8_t *, size_t, size_t *) = of_snap ? bpfs_snap_list_any : bpfs_list_any;
     size_t *count = RESULT(size_t, out_count);
     uint32_t code = lists(fs, given(&in_path, &p), p.length, UNLESS(no_count, count));
+    if (!wanted && is_starved && code == BPFS_NO_MEMORY) wanted = BPFS_NO_MEMORY;
     looked(code, wanted);
     if (code || no_count) keeps(&out_count, sizeof *count);
     else is("the number of names", *count, t->nodes[node]->count);
@@ -824,8 +861,12 @@ static void call_format(void) {
     bool can = count >= BPFS_MIN_BLOCKS && count <= BPFS_MAX_BLOCKS && (version == 1 || version == 2), no_count = unwanted();
     bpfs_event *into = guarded_out(&out_events, capacity * sizeof *into);
     size_t *got = RESULT(size_t, out_count);
+    starve(any(4) ? 0 : 1 + any(3));
     uint32_t code = bpfs_format_events(count, version, capacity || any(2) ? into : NULL, capacity, UNLESS(no_count, got));
-    returns(code, can ? BPFS_OK : BPFS_OUT_OF_RANGE);
+    feed();
+    bool lacks = can && is_starved && code == BPFS_NO_MEMORY;
+    returns(code, lacks ? BPFS_NO_MEMORY : can ? BPFS_OK : BPFS_OUT_OF_RANGE);
+    if (lacks) can = false;
     if (made > capacity) made = capacity;
     if (!can || no_count) keeps(&out_count, sizeof *got);
     else is("the number of events", *got, made);
@@ -855,7 +896,8 @@ typedef struct view {
 } view;
 
 static void shows_file(view *v, int node) {
-    static uint8_t found[TREE_PAGE], wanted[TREE_PAGE];
+    static uint8_t wanted[TREE_PAGE];
+    uint8_t *found = guarded_out(&out_bytes, TREE_PAGE);
     const tree_node *file = v->t->nodes[node];
     uint32_t (*reads)(bpfs *, const uint8_t *, size_t, uint64_t, uint8_t *, size_t, size_t *) = v->of_snap ? bpfs_snap_read_any : bpfs_read_any;
     uint32_t links;
@@ -867,7 +909,7 @@ static void shows_file(view *v, int node) {
     for (size_t i = 0; i < file->count + 3; i++) { /* each part, the last bytes, and any two places */
         uint64_t offset = i < file->count ? file->parts[i].index * TREE_PAGE : file->size - (file->size < 10 ? file->size : 10);
         if (i > file->count) offset = file->size ? any_number() % file->size : 0;
-        is("bpfs_read of the whole tree", reads(v->fs, v->p.bytes, v->p.length, offset, found, sizeof found, &count), BPFS_OK);
+        is("bpfs_read of the whole tree", reads(v->fs, v->p.bytes, v->p.length, offset, found, TREE_PAGE, &count), BPFS_OK);
         is("the number of bytes in the whole tree", count, tree_read(v->t, node, offset, wanted, sizeof wanted));
         holds("the bytes in the whole tree", memcmp(found, wanted, count) == 0);
     }
@@ -1055,6 +1097,24 @@ static void call_damage(void) {
     is("the size of an image", first.wanted, wanted);
 }
 
+/* A mount for which each allocation fails in turn. */
+static void call_starve(void) {
+    bool lends = !is_lent && any(2);
+    for (uint32_t at = 1; at < 2 || is_starved; at++) {
+        bpfs *of = temporary();
+        bpfs_fault *fault = RESULT(bpfs_fault, out_fault);
+        starve(at);
+        uint32_t code = open_words(of, shadow, words, lends, fault);
+        feed();
+        if (!is_starved || code != BPFS_NO_MEMORY) is("a mount when memory lacks", code, BPFS_OK);
+        is("the handle is open", of->is_open, code == BPFS_OK);
+        keeps(&out_fault, sizeof *fault);
+        run.met[run.kind][code]++;
+        if (code == BPFS_OK) shows(of, &present, shadow);
+        is("bpfs_close", bpfs_close(of), code == BPFS_OK ? BPFS_OK : BPFS_HAS_NONE);
+    }
+}
+
 /* ---- volumes ---- */
 
 /* Calls of a closed handle. */
@@ -1145,6 +1205,7 @@ static const struct {
     {"bpfs_run_at", call_run, 50, false}, {"bpfs_tag", call_tag, 6, false}, {"bpfs_drain", call_drain, 12, true},
     {"bpfs_strerror", call_texts, 3, false},
     {"bpfs_format_events", call_format, 6, false}, {"bpfs_mount of an open handle", call_mount, 3, false}, {"a second mount", call_remount, 2, false},
+    {"a mount when memory lacks", call_starve, 1, false},
     {"a power failure", call_cut, 6, true}, {"a mount of any words", call_damage, 2, false}, {"a close and a mount", call_reopen, 1, true},
 };
 
@@ -1214,6 +1275,7 @@ int main(int argc, char **argv) {
     run.name = "the first mount";
     signal(SIGSEGV, faulted);
     signal(SIGBUS, faulted);
+    signal(SIGILL, faulted);
     for (int i = 0; i < KINDS; i++) weights += kinds[i].weight;
     fs = RESULT(bpfs, out_handle);
     *fs = (bpfs)BPFS_CLOSED;

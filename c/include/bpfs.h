@@ -179,8 +179,8 @@ typedef struct bpfs_lack {
 
 /* BPFS_DAMAGED sets `check`, the number of a check that fails (docs/format.md), and `place`, the
  * word at which it fails. BPFS_BAD_SIZE sets `found`, the size in bytes, and `wanted`: the size
- * that the image says that it has or, if no image has the size `found`, the size of an image that
- * is nearest. The other fields keep their values. */
+ * that the image says that it has or, if no image has the size `found`, that of the next larger
+ * image, or of the largest one. The other fields keep their values. */
 typedef struct bpfs_fault {
     uint32_t check;
     uint64_t place;

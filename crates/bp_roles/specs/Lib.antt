@@ -1,3 +1,4 @@
 pub mod Roles
 pub mod Seen
 pub mod Transaction
+pub mod TransactionLaws

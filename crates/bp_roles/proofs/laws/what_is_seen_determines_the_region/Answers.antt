@@ -5,4 +5,4 @@ pub returns-clause-memory : goal.returns-clause-memory
 returns-clause-memory c = memory_told
 
 pub returns-clause-adds : goal.returns-clause-adds
-returns-clause-adds c = adds_told
+returns-clause-adds c roles old new more seen = adds_told roles old new more seen.wide seen.still_wide seen.adds

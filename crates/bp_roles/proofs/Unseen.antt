@@ -52,7 +52,8 @@ memory_told roles one two wide other same =
     let events : one.events ≡ two.events = sym (all_raw_seen roles one.events) ∙ ap (λ (m : Memory). raw_events roles m.events) same ∙ all_raw_seen roles two.events in
     let capacity : one.capacity ≡ two.capacity = ap (λ (m : Memory). m.capacity) same in
     let drains : one.drains ≡ two.drains = ap (λ (m : Memory). m.drains) same in
-    λ i. record { base = base i; events = events i; capacity = capacity i; drains = drains i }
+    let through : one.through ≡ two.through = ap (λ (m : Memory). m.through) same in
+    λ i. record { base = base i; events = events i; capacity = capacity i; drains = drains i; through = through i }
 
 pub adds_told : (roles : Roles) (old new : Memory) (more : List Event) → IsWide old → IsWide new → Adds (seen_memory roles old) (seen_memory roles new) more → Adds old new (raw_events roles more)
 adds_told roles old new more wide other added =

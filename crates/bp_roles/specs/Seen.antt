@@ -52,6 +52,7 @@ seen_memory roles memory = record {
   events = seen_events roles memory.events;
   capacity = memory.capacity;
   drains = memory.drains;
+  through = memory.through;
 }
 
 -- A memory, and the roles by which it is seen.

@@ -14,6 +14,7 @@ second_memory memory drains = record {
   events = [];
   capacity = 0;
   drains = drains;
+  through = memory.through;
 }
 
 -- The memory of the region if it shows its first tree, and `second_memory` of it if it shows its second tree.

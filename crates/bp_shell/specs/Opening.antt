@@ -76,7 +76,7 @@ pub data RefusesFile (known : Known) : Notice → Type 0 where
 
 -- The state in which a run begins.
 abbrev pub start : Image → State
-start image = record { memory = record { base = image; events = []; capacity = log_events; drains = 0 }; saved = image }
+start image = record { memory = record { base = image; events = []; capacity = log_events; drains = 0; through = 0 }; saved = image }
 
 -- The memory with which a run over an image begins.
 abbrev pub IsStart : Image → Memory → Type 0

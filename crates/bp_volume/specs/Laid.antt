@@ -35,4 +35,5 @@ formatted_memory version memory = record {
   events = [];
   capacity = memory.capacity;
   drains = min (memory.drains + 1) (2 ^ 64 - 1);
+  through = memory.through;
 }

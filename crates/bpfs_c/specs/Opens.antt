@@ -24,7 +24,7 @@ IsMountFault Lacking old code new = (code ≡ 12) × (new ≡ old)
 
 -- The region of a copy of these words, with an empty log.
 abbrev pub region_of : List ℕ → Memory
-region_of words = record { base = words; events = []; capacity = log_events; drains = 0 }
+region_of words = record { base = words; events = []; capacity = log_events; drains = 0; through = 0 }
 
 -- The length of words in bytes, as a 64-bit number: at most 2^64 - 1.
 abbrev pub byte_count : List ℕ → ℕ

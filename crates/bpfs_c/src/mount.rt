@@ -77,6 +77,7 @@ fn copy(alloc: Global, words: &[u64]) -> Result<RedoRegion, AllocError>
       events = [];
       capacity = log_events;
       drains = 0;
+      through = 0;
     }) }
 {
     let mut region = RedoRegion::new(alloc, 0, LOG_EVENTS)?;

@@ -33,7 +33,7 @@ with_values-stores words (value ∷ values) first fits =
     ∙ with_values-stores next values (first + 1) (omega (arith, length-set words first value))
 
 abbrev pub memory_of : List ℕ → List Event → ℕ → ℕ → Memory
-memory_of base events capacity drains = record { base = base; events = events; capacity = capacity; drains = drains }
+memory_of base events capacity drains = record { base = base; events = events; capacity = capacity; drains = drains; through = 0 }
 
 abbrev pub memory_from : List ℕ → List Event → ℕ → ℕ → Memory
 memory_from now undos capacity drains = memory_of (base_from now undos) (events_from now undos) capacity drains

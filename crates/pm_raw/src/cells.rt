@@ -50,7 +50,7 @@ impl<T, A: Allocator> Model for Deed<T, A> {
 }
 
 impl Deed<u64, Global> {
-    /// Gives up the right to free the block: its memory belongs to whoever has the places.
+    /// Gives up the right to free the block: its memory then belongs to the holder of the places.
     pub(crate) fn waive(self) {
         let Deed { of: _ } = self;
     }

@@ -87,6 +87,7 @@ impl RawRegion {
           events = [];
           capacity = capacity;
           drains = 0;
+          through = 0;
         }) }
     {
         let current = RawArray::new(alloc, size as usize, 0)?;

@@ -7,12 +7,16 @@ use Rattle.pm_epochs.specs.Log.{words_after}
 use Rattle.pm_epochs.specs.May.{StoresMay}
 use Rattle.pm_epochs.specs.Replay.{PowerCut, replay}
 
--- The words at the last drain, the events since, how many events the log can hold, and the number of drains.
+-- The words at the last drain, the events since, how many events the log can hold, the number of drains, and as what
+-- the words are seen.
 pub record Memory : Type 0 where
   pub base : List ℕ
   pub events : List Event
   pub capacity : ℕ
   pub drains : ℕ
+  -- The number of the view through which this is seen; 0 if it is the region's own memory. No call of a region changes
+  -- it.
+  pub through : ℕ
 
 -- The words as the processor sees them.
 abbrev pub current_words : Memory → List ℕ

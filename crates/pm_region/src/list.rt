@@ -47,6 +47,7 @@ impl ListRegion {
           events = [];
           capacity = capacity;
           drains = 0;
+          through = 0;
         }) }
     {
         let now = Vec::from_slice(alloc, &words)?;

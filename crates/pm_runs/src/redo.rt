@@ -47,6 +47,7 @@ impl RedoRegion {
           events = [];
           capacity = capacity;
           drains = 0;
+          through = 0;
         }) }
     {
         let region = RawRegion::new(alloc, size, capacity)?;

@@ -33,7 +33,7 @@ _bpfs() {
             *) return ;;
         esac
         case $command/$before in
-            format/--version) offered='1 2' ;;
+            format/--version) offered='1 2 3' ;;
             format/--blocks) offered='8 64 256 1024 4096 16384 65536' ;;
             play/--seed | play/--count) return ;;
             help/*) offered=$options ;;

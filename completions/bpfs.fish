@@ -11,7 +11,7 @@ complete -c bpfs -s h -l help -f -d 'Print help'
 
 complete -c bpfs -n '__fish_seen_subcommand_from format' -l blocks -x -a '8 64 256 1024 4096 16384 65536' \
     -d 'Size in blocks of 4 KiB, 8 to 65536'
-complete -c bpfs -n '__fish_seen_subcommand_from format' -l version -x -a '1 2' -d 'Version of the format'
+complete -c bpfs -n '__fish_seen_subcommand_from format' -l version -x -a '1 2 3' -d 'Version of the format'
 complete -c bpfs -n '__fish_seen_subcommand_from play' -l seed -x -d 'Seed of the pseudo-random operations'
 complete -c bpfs -n '__fish_seen_subcommand_from play' -l count -x -d 'Number of operations, at most 1000000'
 complete -c bpfs -n '__fish_seen_subcommand_from help' -f -a 'format run check play export'

@@ -127,7 +127,7 @@ enum {
     BPFS_INTO_SELF = 7,      /* a directory would move below itself */
     BPFS_IS_ROOT = 8,        /* the root directory can be neither removed nor moved */
     BPFS_TOO_LONG = 9,       /* too many bytes for one call: BPFS_MAX_WRITE, BPFS_MAX_BATCH */
-    BPFS_TOO_BIG = 10,       /* past the maximum file size: 2^39 bytes in version 1, 2^57 in 2 */
+    BPFS_TOO_BIG = 10,       /* past the maximum file size: 2^39 bytes in version 1, later 2^57 */
     BPFS_NO_SPACE = 11,      /* fewer blocks are free than the call needs: see bpfs_lack */
     BPFS_NO_MEMORY = 12,     /* malloc failed */
     BPFS_NO_SNAP = 13,       /* there is no snapshot */
@@ -150,7 +150,7 @@ enum {
     BPFS_MAX_NAME = 240,
     BPFS_MAX_PATH = 4096,
     BPFS_MAX_WRITE = 65536,     /* bytes of one write in version 1 */
-    BPFS_MAX_WRITE_2 = 1048576, /* and in version 2 */
+    BPFS_MAX_WRITE_2 = 1048576, /* and in version 2 or 3 */
     BPFS_MAX_PIECES = 16,       /* of one batch */
     BPFS_MAX_BATCH = 65536,     /* bytes of all pieces of a batch together */
     BPFS_LOG_ROOM = 262144, /* events for which a call needs room: half of the capacity */
@@ -232,10 +232,10 @@ typedef struct bpfs_sums {
 /* ---- opening and closing --------------------------------------------------------------------- */
 
 /* Returns the events that make an empty file system of any words: `blocks` is BPFS_MIN_BLOCKS to
- * BPFS_MAX_BLOCKS, `version` is 1 or 2. There are 11 events in version 1 and 13 in version 2.
- * Copies at most `capacity` of them, and sets *count to the number copied. Carry them, then mount.
- * A power failure in between leaves the old image, words that are BPFS_NOT_FORMATTED, or the empty
- * tree. BPFS_OUT_OF_RANGE: no such version or number of blocks. BPFS_NO_MEMORY. */
+ * BPFS_MAX_BLOCKS, `version` is 1, 2 or 3. There are 11 events in version 1, 13 in version 2 and 18
+ * in version 3. Copies at most `capacity` of them, and sets *count to the number copied. Carry them,
+ * then mount. A power failure in between leaves the old image, words that are BPFS_NOT_FORMATTED, or
+ * the empty tree. BPFS_OUT_OF_RANGE: no such version or number of blocks. BPFS_NO_MEMORY. */
 uint32_t bpfs_format_events(uint32_t blocks, uint32_t version, bpfs_event *into, size_t capacity, size_t *count);
 
 /* Copies the words of an image, checks all of it that is in use, and opens the handle. `words` is
@@ -300,12 +300,12 @@ uint32_t bpfs_batch(bpfs *fs, const uint8_t *text, size_t length, const bpfs_pie
 /* Sets the size of a file: cuts it, or appends zeros. BPFS_IS_DIR, BPFS_TOO_BIG, BPFS_NO_SPACE. */
 uint32_t bpfs_truncate(bpfs *fs, const uint8_t *path, size_t length, uint64_t size, bpfs_lack *lack);
 
-/* Changes an image of version 1 to version 2, with the same tree. Does nothing in version 2. This
- * cannot be undone. */
+/* Changes an image of version 1 to version 2, with the same tree. Does nothing in a later version.
+ * This cannot be undone. */
 uint32_t bpfs_upgrade(bpfs *fs);
 
 /* Takes a snapshot: keeps the tree as it is now, for the bpfs_snap_ calls to read. There is at most
- * one, and only in version 2. It takes no block. From then on, a call that changes the tree first
+ * one, and none in version 1. It takes no block. From then on, a call that changes the tree first
  * copies each block of the snapshot to which it would store, and the blocks on the path to it. So
  * any such call may need blocks, also a removal. BPFS_OLD_VERSION, BPFS_HAS_SNAP. */
 uint32_t bpfs_snap(bpfs *fs);

@@ -2,7 +2,7 @@
 #include <errno.h>
 #include <stdatomic.h>
 
-enum { PART = 4096, FEW = 32, FORMAT_EVENTS = 16, COPY_EPOCH = 1 << 18 };
+enum { PART = 4096, FEW = 32, FORMAT_EVENTS = 18, COPY_EPOCH = 1 << 18 };
 
 static int fail(int why) {
     errno = why;

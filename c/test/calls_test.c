@@ -49,17 +49,19 @@ static void make(uint32_t version) {
 }
 
 static void formats(void) {
-    bpfs_event events[16];
+    bpfs_event events[20];
     size_t count = 99;
-    IS(BPFS_OUT_OF_RANGE, bpfs_format_events(BPFS_MIN_BLOCKS - 1, 1, events, 16, &count));
-    IS(BPFS_OUT_OF_RANGE, bpfs_format_events(BPFS_MAX_BLOCKS + 1, 1, events, 16, &count));
-    IS(BPFS_OUT_OF_RANGE, bpfs_format_events(BLOCKS, 0, events, 16, &count));
-    IS(BPFS_OUT_OF_RANGE, bpfs_format_events(BLOCKS, 3, events, 16, &count));
+    IS(BPFS_OUT_OF_RANGE, bpfs_format_events(BPFS_MIN_BLOCKS - 1, 1, events, 20, &count));
+    IS(BPFS_OUT_OF_RANGE, bpfs_format_events(BPFS_MAX_BLOCKS + 1, 1, events, 20, &count));
+    IS(BPFS_OUT_OF_RANGE, bpfs_format_events(BLOCKS, 0, events, 20, &count));
+    IS(BPFS_OUT_OF_RANGE, bpfs_format_events(BLOCKS, 4, events, 20, &count));
     IS(99, count);
-    IS(BPFS_OK, bpfs_format_events(BLOCKS, 1, events, 16, &count));
+    IS(BPFS_OK, bpfs_format_events(BLOCKS, 1, events, 20, &count));
     IS(11, count);
-    IS(BPFS_OK, bpfs_format_events(BLOCKS, 2, events, 16, &count));
+    IS(BPFS_OK, bpfs_format_events(BLOCKS, 2, events, 20, &count));
     IS(13, count);
+    IS(BPFS_OK, bpfs_format_events(BLOCKS, 3, events, 20, &count));
+    IS(18, count);
     IS(BPFS_OK, bpfs_format_events(BPFS_MAX_BLOCKS, 1, events, 3, &count));
     IS(3, count);
     IS(BPFS_OK, bpfs_format_events(BLOCKS, 1, NULL, 0, &count));

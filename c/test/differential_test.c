@@ -856,9 +856,9 @@ static void call_texts(void) {
 
 static void call_format(void) {
     uint32_t count = any(2) ? 8 + any(3000) : any(2) ? (uint32_t)around(any(2) ? 8 : BPFS_MAX_BLOCKS) : (uint32_t)any_number();
-    uint32_t version = any(8) ? 1 + any(2) : any(2) ? 3 : 0;
-    size_t capacity = any(20), made = version == 1 ? 11 : 13;
-    bool can = count >= BPFS_MIN_BLOCKS && count <= BPFS_MAX_BLOCKS && (version == 1 || version == 2), no_count = unwanted();
+    uint32_t version = any(8) ? 1 + any(3) : any(2) ? 4 : 0;
+    size_t capacity = any(25), made = version == 1 ? 11 : version == 2 ? 13 : 18;
+    bool can = count >= BPFS_MIN_BLOCKS && count <= BPFS_MAX_BLOCKS && version >= 1 && version <= 3, no_count = unwanted();
     bpfs_event *into = guarded_out(&out_events, capacity * sizeof *into);
     size_t *got = RESULT(size_t, out_count);
     starve(any(4) ? 0 : 1 + any(3));

@@ -93,7 +93,7 @@ int bpfs_carry_all(bpfs *fs, bpfs_carrier *const *carriers, size_t count);
  * may not have the events yet. bpfs_carry_all carries the rest later, and drains. */
 int bpfs_carry_on(bpfs *fs, bpfs_carrier *carrier);
 
-/* Makes the medium an empty file system of `blocks` blocks in version 1 or 2 of the format, and
+/* Makes the medium an empty file system of `blocks` blocks in version 1, 2 or 3 of the format, and
  * waits until it is durable. The medium must have room for the blocks. It needs no binding, and
  * ends the carrier's binding. Returns a BPFS_ number (BPFS_OUT_OF_RANGE, BPFS_NO_MEMORY), or -1
  * with errno. */

@@ -49,7 +49,7 @@ typedef struct bpfs_file {
  *   EFBIG         put: past the end of the file
  *   EIO           an fdatasync failed, now or earlier */
 
-/* Creates an image of `blocks` blocks in version 1 or 2 of the format, empty, durable with its
+/* Creates an image of `blocks` blocks in version 1, 2 or 3 of the format, empty, durable with its
  * name. The name must not exist; if creating fails, it is removed again. A power failure meanwhile
  * can leave the name with a file that does not mount. It may also return BPFS_OUT_OF_RANGE or
  * BPFS_NO_MEMORY. */

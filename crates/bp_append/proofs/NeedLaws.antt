@@ -1,7 +1,7 @@
 -- The blocks that a preparation takes are the nodes that the tree lacks.
 use Rattle.std.proofs.Common.{◌≡◌, ◌≢◌, ◌⊎◌, ℕ, zero, suc, ◌+◌, ◌-◌, ◌*◌, ◌/◌, ◌<◌, ◌≤◌, min, max, List, [], ◌∷◌, ◌++◌, length, map, filter, flat_map, Bool, true, false, cond, not, ◌&&◌, ◌==◌, nat_lt, nat_le, if◌then◌else◌, refl, sym, ◌∙◌, ap, arith, rules, inl, inr, lt-ltb, le-ltb, le-leb, mul-le-mul_right, ne_eqb, le_trans}
 use Rattle.bp_limits.specs.declared.version.Version.{Version}
-use Rattle.bp_limits.specs.declared.version.Version.TheVariants.{One, Two}
+use Rattle.bp_limits.specs.declared.version.Version.TheVariants.{One, Two, Three}
 use Rattle.bp_limits.specs.Limits.{greatest_height, max_height}
 use Rattle.bp_limits.specs.CallLimits.{greatest_size, max_size}
 use Rattle.std.specs.List.{range_with_len}
@@ -283,6 +283,7 @@ height_for_fits bytes fits = search (rules)
 height_for_most : (version : Version) (bytes : ℕ) → bytes ≤ greatest_size version → height_for bytes ≤ greatest_height version
 height_for_most One bytes fits = search (rules)
 height_for_most Two bytes fits = height_for_low bytes
+height_for_most Three bytes fits = height_for_low bytes
 
 pub tall_enough : (root size to : ℕ) → 0 < size → height_of root ≤ height_with root size to
 tall_enough root size to some = rw (ne_eqb size 0 (λ e. omega (arith, e, some))) (omega arith)

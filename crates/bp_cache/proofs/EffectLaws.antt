@@ -223,7 +223,7 @@ meaning_keeps_all old new wf same = directories_keep_all old new (meaning.view-s
 
 -- and where words of the superblock change in which no tree stands
 pub same_trees_keep_all : (old new : Image) (same : SameTrees old new) → IsWellFormed new → KeepsAllNames old new
-same_trees_keep_all old new same = directories_keep_all old new (beside.view-same old new same).directories
+same_trees_keep_all old new same = directories_keep_all old new (beside.directories-same old new same)
 
 -- ---- a cache
 

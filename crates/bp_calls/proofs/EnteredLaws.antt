@@ -80,7 +80,7 @@ module _ (old : Image) (wf : IsWellFormed old) (i s j place : ℕ) (name : Name)
 
   pub entered : (kind : ℕ) → IsNewInode old j kind → Enters old (set old place j) i s j name kind
   entered kind fresh = record {
-    adds = entry_adds old (set old place j) wf i s j ready_awaits some stored (record { fresh = fresh.free.free; in_file = fresh.free.high; kind = rw fresh.kind_is (fresh.least, fresh.most); nothing = fresh.empty });
+    adds = entry_adds old (set old place j) wf i s j ready_awaits some stored (record { fresh = fresh.free.free; in_file = fresh.free.high; kind = rw fresh.kind_is (fresh.least, fresh.most); nothing = fresh.empty; attributes = fresh.attributes });
     spelled = name_of_new old (set old place j) wf i s j ready_awaits some stored ∙ ready.spelled;
     kind_is = kinds_stay old (set old place j) wf i s j ready_awaits some stored j fresh.free.high ∙ fresh.kind_is;
   }

@@ -58,6 +58,7 @@ module _ (old mid new : Image) (wf : IsWellFormed old) (same : SameMeaning old m
       full_directories = λ u r kind. gains.trees.full_directories u (on u r) (same.kind u r ∙ kind);
     };
     kind = λ u r. gains.kind u (on u r) ∙ same.kind u r;
+    attributes = λ u r. gains.attributes u (on u r) ∙ same.attributes u r;
     file_size = λ u r kind. gains.file_size u (on u r) (same.kind u r ∙ kind) ∙ file_stays u r kind;
     directory_size = λ u r kind. gains.directory_size u (on u r) (same.kind u r ∙ kind);
     slots = λ u r q kind low. slots u r (alike.count u q kind) (gains.slots u r (on u q) (same.kind u q ∙ kind) low);
@@ -89,6 +90,7 @@ module _ (old mid new : Image) (wf : IsWellFormed old) (same : SameMeaning old m
     in_file = adds.in_file;
     new_kind = adds.new_kind;
     new_size = adds.new_size;
+    new_attributes = adds.new_attributes;
   })
 
   -- where the inode file did not grow

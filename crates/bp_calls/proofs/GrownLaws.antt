@@ -1,13 +1,15 @@
 -- The size of a directory grows over an entry that stands ready after it: the directory gains the name.
-use Rattle.std.proofs.Common.{◌≡◌, ◌≢◌, ◌⊎◌, ℕ, zero, suc, ◌+◌, ◌*◌, ◌/◌, ◌%◌, ◌<◌, ◌≤◌, length, set, None, refl, sym, ◌∙◌, ap, subst, subst₂, suc-ne-zero, arith, inl, inr, get_or-set_other}
-use Rattle.bp_changes.proofs.Formatted.{low_stays}
+use Rattle.std.proofs.Common.{◌≡◌, ◌≢◌, ◌⊎◌, ℕ, zero, suc, ◌+◌, ◌*◌, ◌/◌, ◌%◌, ◌<◌, ◌≤◌, length, set, None, refl, sym, ◌∙◌, ap, subst, subst₂, suc-ne-zero, arith, inl, inr, lt_of_lt_of_le, get_or-set_other}
+use Rattle.bp_changes.proofs.Formatted.{low_stays, version_stays}
 use Rattle.bp_layout.specs.Formatted.{version_of}
 use Rattle.bp_limits.specs.Limits.{greatest_height}
+use Rattle.bp_limits.proofs.Versions.{fields_most}
+use Rattle.bp_layout.proofs.AttributeLaws.{attributes_alike}
 use Rattle.std.proofs.lemmas.Bool.{cases_eq}
 use Rattle.std.proofs.lemmas.List.{length-set}
 use Rattle.bp_layout.specs.Words.{Image, word, byte_of, height_of, slot_word}
 use Rattle.bp_layout.specs.Tree.{node, content_word, HasBlock, IsSound, IsFull, IsLiveWord}
-use Rattle.bp_layout.specs.Inode.{inode_word, kind_of, root_of, size_of, inode_count, ContentStandsAt}
+use Rattle.bp_layout.specs.Inode.{attributes_of, inode_word, kind_of, root_of, size_of, inode_count, ContentStandsAt}
 use Rattle.bp_layout.specs.Directory.{EntryNames, name_at, ino_at, entry_word, entry_count, slot_named}
 use Rattle.bp_layout.specs.Paths.{Name, IsName}
 use Rattle.bp_layout.specs.Reached.{IsReached}
@@ -89,6 +91,13 @@ module _ (old : Image) (wf : IsWellFormed old) (n j place : ℕ) (name : Name) (
   kind_stays : (u : ℕ) → u < inode_count old → kind_of new u ≡ kind_of old u
   kind_stays zero low = refl
   kind_stays (suc u) low = inode_word_stays u 0 low (omega arith) (λ e. omega (arith, e))
+
+  attributes_stay : (u : ℕ) → u < inode_count old → attributes_of new u ≡ attributes_of old u
+  attributes_stay u low =
+      attributes_alike old new u (version_stays old new (superblock 0 (omega arith)))
+      (λ i f is least most.
+      let few : f < 8 = lt_of_lt_of_le most (fields_most (version_of old)) in
+      inode_word_stays i f (subst (λ t. t < inode_count old) is low) few (λ e. omega (arith, e, few, least)))
 
   root_stays : (u : ℕ) → u < inode_count old → root_of new u ≡ root_of old u
   root_stays zero low = superblock 2 (omega arith)
@@ -293,6 +302,7 @@ module _ (old : Image) (wf : IsWellFormed old) (n j place : ℕ) (name : Name) (
         full_directories = λ u r kind. full_stays u r (wf.full_directories u r kind);
       };
       kind = λ u r. kind_stays u (in_file u r);
+      attributes = λ u r. attributes_stay u (in_file u r);
       file_size = λ u r kind. size_stays u (in_file u r) (file_not u kind);
       directory_size = size_cases;
       slots = λ u r q kind low. slot_cases u r q low;
@@ -314,8 +324,8 @@ module _ (old : Image) (wf : IsWellFormed old) (n j place : ℕ) (name : Name) (
     grown_suc : (kind : ℕ) → IsNewInode old j kind → Enters old new (suc n) (size_of old (suc n) / 256) j name kind
     grown_suc kind fresh = record {
       adds = gains_adds old new (suc n) (size_of old (suc n) / 256) j (grown_gains some form missing)
-          (takes_inode old new j wf (record { fresh = fresh.free.free; in_file = fresh.free.high; kind = rw fresh.kind_is (fresh.least, fresh.most); nothing = fresh.empty })
-          (superblock 3 (omega arith)) (kind_stays j fresh.free.high) (size_stays j fresh.free.high not_here));
+          (takes_inode old new j wf (record { fresh = fresh.free.free; in_file = fresh.free.high; kind = rw fresh.kind_is (fresh.least, fresh.most); nothing = fresh.empty; attributes = fresh.attributes })
+          (superblock 3 (omega arith)) (kind_stays j fresh.free.high) (attributes_stay j fresh.free.high) (size_stays j fresh.free.high not_here));
       spelled = name_here form;
       kind_is = kind_stays j fresh.free.high ∙ fresh.kind_is;
     }

@@ -1,6 +1,6 @@
 -- The size of the inode file is stored after the preparation of one more leaf: what that makes of the image.
 use Rattle.std.proofs.Common.{◌≡◌, ◌≢◌, ℕ, zero, suc, ◌+◌, ◌-◌, ◌*◌, ◌/◌, ◌%◌, ◌<◌, List, [], refl, sym, ◌∙◌, ap, subst, set, get_or-set_same, get_or-set_other, inl, arith, suc-ne-zero, ◌≤◌}
-use Rattle.bp_changes.proofs.Formatted.{low_stays}
+use Rattle.bp_changes.proofs.Formatted.{low_stays, version_stays}
 use Rattle.bp_layout.specs.Formatted.{version_of}
 use Rattle.std.proofs.lemmas.List.{length-set}
 use Rattle.bp_append.proofs.LaidLaws.{given_none}
@@ -8,9 +8,10 @@ use Rattle.bp_append.specs.Prepared.{Prepares}
 use Rattle.bp_changes.specs.SameMeaning.{SameMeaning}
 use Rattle.bp_layout.specs.Words.{Image, word, block_of, height_of, slot_word, byte_of}
 use Rattle.bp_layout.specs.Tree.{node, tree_word, content_word, byte, HasBlock, IsSound, IsFull}
-use Rattle.bp_layout.specs.Inode.{inode_word, kind_of, root_of, size_of}
+use Rattle.bp_layout.specs.Inode.{attributes_of, inode_word, kind_of, root_of, size_of}
 use Rattle.bp_layout.specs.Reached.{IsReached}
 use Rattle.bp_layout.specs.WellFormed.{IsWellFormed}
+use Rattle.bp_layout.proofs.AttributeLaws.{attributes_alike}
 use Rattle.bp_layout.proofs.TreeLaws.{KeepsPointers, slot_word-same, tree_word-zero, tree_word-suc, sound-kept, full-kept, has_block-kept, has_block-stays}
 use Rattle.bp_limits.specs.Limits.{block_size, greatest_height}
 use Rattle.bp_calls.specs.Growth.{AddsInodes}
@@ -51,6 +52,9 @@ module _ (image : Image) (value : ℕ) where
   kind_stays : (t : ℕ) → kind_of longer t ≡ kind_of image t
   kind_stays zero = refl
   kind_stays (suc i) = inode_stays (suc i) 0
+
+  attributes_stay : (t : ℕ) → attributes_of longer t ≡ attributes_of image t
+  attributes_stay t = attributes_alike image longer t (version_stays image longer (top_word 0 (omega arith))) (λ i f is least most. inode_stays (suc i) f)
 
   root_stays : (t : ℕ) → root_of longer t ≡ root_of image t
   root_stays zero = top_word 2 (omega arith)
@@ -132,6 +136,7 @@ module _ (old mid : Image) (taken : List ℕ) (wf : IsWellFormed old) (ready : P
       full_directories = full_new;
     };
     kind = λ t r. kind_stays mid end t ∙ ready.meaning.kind t r;
+    attributes = λ t r. attributes_stay mid end t ∙ ready.meaning.attributes t r;
     size = λ i r. size_stays mid end i ∙ ready.meaning.size i r;
     inode_blocks = rw size_here (omega (arith, wf.inode_blocks));
     inodes = omega (arith, size_here);

@@ -1,5 +1,8 @@
 -- An entry after the last one of a directory, a new inode, and then the directory's size.
-use Rattle.std.proofs.Common.{◌≡◌, ◌⊎◌, ℕ, Bool, false, ◌+◌, ◌*◌, ◌/◌, [], length, set, ◌∙◌, ap, arith, inl, inr, refl}
+use Rattle.std.proofs.Common.{◌≡◌, ◌⊎◌, ℕ, Bool, false, ◌+◌, ◌*◌, ◌/◌, ◌≤◌, [], length, set, ◌∙◌, ap, arith, inl, inr, refl}
+use Rattle.bp_limits.specs.Limits.{inode_fields}
+use Rattle.bp_limits.proofs.Versions.{fields_most}
+use Rattle.bp_layout.specs.Formatted.{version_of}
 use Rattle.bp_changes.specs.SameMeaning.{SameMeaning}
 use Rattle.bp_changes.proofs.AddsNames.{reached_cases, reached_stays}
 use Rattle.bp_free.specs.Set.{Set, members, without}
@@ -87,14 +90,21 @@ module _ {in_snapshot : ℕ → Bool} (first second third last : Memory) (blocks
   inode_loose : in_snapshot (at / 512) ≡ false
   inode_loose = can.loose at (put_row_back first second blocks after i j name can.can puts j at can.free.high inode_at)
 
-  hidden : AddsMay (AnyAt (IsHidden in_snapshot mid)) 0 3 second third
-  hidden = may_weaker (AnyAt (IsWithin at 3)) (AnyAt (IsHidden in_snapshot mid)) 0 3 second third (inode_inside mid mid_well_formed j at [] mid_free inode_at inode_loose) filled.stores
+  abbrev fields : ℕ
+  fields = inode_fields (version_of mid)
+
+  few : fields ≤ 8
+  few = fields_most (version_of mid)
+
+  hidden : AddsMay (AnyAt (IsHidden in_snapshot mid)) 0 fields second third
+  hidden = may_weaker (AnyAt (IsWithin at fields)) (AnyAt (IsHidden in_snapshot mid)) 0 fields second third (inode_inside mid mid_well_formed j at [] mid_free inode_at inode_loose) filled.stores
 
   trees : SameTrees mid full
-  trees = spare_trees mid full mid_well_formed (each_weaker (IsHidden in_snapshot mid) (IsSpare mid) mid full (λ p both. both.0) (each_after (AnyAt (IsHidden in_snapshot mid)) 0 3 second third hidden))
+  trees = spare_trees mid full mid_well_formed (each_weaker (IsHidden in_snapshot mid) (IsSpare mid) mid full (λ p both. both.0) (each_after (AnyAt (IsHidden in_snapshot mid)) 0 fields second third hidden))
 
-  frame : (p : ℕ) → (IsWithin at 3 p → ⊥) → word full p ≡ word mid p
-  frame p beside = may_frame (AnyAt (IsWithin at 3)) 0 3 second third filled.stores p (λ v within. beside within)
+  frame : (p : ℕ) → (IsWithin at 8 p → ⊥) → word full p ≡ word mid p
+  frame p beside =
+      may_frame (AnyAt (IsWithin at fields)) 0 fields second third filled.stores p (λ v within. beside (record { low = within.low; high = omega (arith, within.high, few) }))
 
   fresh : IsNewInode full j (kind_word kind)
   fresh = new_inode mid full mid_well_formed trees j at kind mid_free inode_at filled.inode
@@ -114,23 +124,23 @@ module _ {in_snapshot : ℕ → Bool} (first second third last : Memory) (blocks
   done = set full place (size_of full i + 256)
 
   well : IsWellFormed full
-  well = full_well_formed first second third last blocks after i j place 3 name can.can puts hidden full_ready keeps size_at commits
+  well = full_well_formed first second third last blocks after i j place fields name can.can puts hidden full_ready keeps size_at commits
 
   meaning : SameMeaning image full
-  meaning = full_meaning first second third last blocks after i j place 3 name can.can puts hidden full_ready keeps size_at commits
+  meaning = full_meaning first second third last blocks after i j place fields name can.can puts hidden full_ready keeps size_at commits
 
   committed : current_words last ≡ done
-  committed = past_end_committed first second third last blocks after i j place 3 name can.can puts hidden full_ready keeps size_at commits
+  committed = past_end_committed first second third last blocks after i j place fields name can.can puts hidden full_ready keeps size_at commits
 
   enters : Enters full done i (size_of full i / 256) j name (kind_word kind)
-  enters = grown full well i j (kind_word kind) place name fresh full_ready can.can.lacks.form (full_missing first second third last blocks after i j place 3 name can.can puts hidden full_ready keeps size_at commits) (full_size_at first second third last blocks after i j place 3 name can.can puts hidden full_ready keeps size_at commits)
+  enters = grown full well i j (kind_word kind) place name fresh full_ready can.can.lacks.form (full_missing first second third last blocks after i j place fields name can.can puts hidden full_ready keeps size_at commits) (full_size_at first second third last blocks after i j place fields name can.can puts hidden full_ready keeps size_at commits)
 
   effect : EntersName i name kind image done
-  effect = enters_over image full done wf meaning i (size_of full i / 256) j name kind can.free (past_end_slot first second third last blocks after i j place 3 name can.can puts hidden full_ready keeps size_at commits) enters
+  effect = enters_over image full done wf meaning i (size_of full i / 256) j name kind can.free (past_end_slot first second third last blocks after i j place fields name can.can puts hidden full_ready keeps size_at commits) enters
 
   pub past_end_performs : PerformsWithin in_snapshot (name_need image i) 5 (stores_after_growth (name_need image i)) first last (gains i (taken j)) (EntersName i name kind)
   past_end_performs =
-      past_end_within first second third last blocks after i j place 3 name can.can puts hidden full_ready keeps size_at commits (gains i (taken j)) (EntersName i name kind) (omega arith) refl
+      past_end_within first second third last blocks after i j place fields name can.can puts hidden full_ready keeps size_at commits (gains i (taken j)) (EntersName i name kind) few refl
       (enters_well_formed full done well i (size_of full i / 256) j (kind_word kind) name enters) effect
 
   -- ---- the sets
@@ -139,11 +149,11 @@ module _ {in_snapshot : ℕ → Bool} (first second third last : Memory) (blocks
   done_cases t there =
       elim (reached_cases full done well i (size_of full i / 256) j enters.adds t there) [
         | inl e ↦ inl e
-        | inr was ↦ inr (full_before first second third last blocks after i j place 3 name can.can puts hidden full_ready keeps size_at commits t was)
+        | inr was ↦ inr (full_before first second third last blocks after i j place fields name can.can puts hidden full_ready keeps size_at commits t was)
       ]
 
   done_stays : (t : ℕ) → IsReached image t → IsReached done t
-  done_stays t there = reached_stays full done well i (size_of full i / 256) j enters.adds t (full_there first second third last blocks after i j place 3 name can.can puts hidden full_ready keeps size_at commits t there)
+  done_stays t there = reached_stays full done well i (size_of full i / 256) j enters.adds t (full_there first second third last blocks after i j place fields name can.can puts hidden full_ready keeps size_at commits t there)
 
   done_before : (t b : ℕ) → IsReached done t → HasBlock done (root_of done t) (size_of done t) b → IsReached image t
   done_before t b there has =
@@ -155,9 +165,9 @@ module _ {in_snapshot : ℕ → Bool} (first second third last : Memory) (blocks
   pub past_end_exact : length after ≡ length blocks → (inodes : Set) → AreExact image in_snapshot blocks inodes → AreExact (current_words last) in_snapshot after (without inodes j)
   past_end_exact room inodes exact =
       rw committed
-      (past_end_sets first second third last blocks after i j place 3 name can.can puts hidden full_ready keeps size_at commits done_before done_stays
+      (past_end_sets first second third last blocks after i j place fields name can.can puts hidden full_ready keeps size_at commits done_before done_stays
       (enters.adds.trees.whole ∙ meaning.trees.whole) room inodes (without inodes j) exact (length_without inodes j)
-      (free_inodes_taken image done inodes j (done_file first second third last blocks after i j place 3 name can.can puts hidden full_ready keeps size_at commits) (exact.free_inodes.all j can.free)
+      (free_inodes_taken image done inodes j (done_file first second third last blocks after i j place fields name can.can puts hidden full_ready keeps size_at commits) (exact.free_inodes.all j can.free)
       (IsReached.named (size_of full i / 256) (done_stays i can.can.lacks.reached) enters.adds.entry) done_cases done_stays exact.free_inodes))
 
   pub past_end_counts : CountsName image (current_words last) j

@@ -1,5 +1,8 @@
 -- A new inode, a name in an empty entry, and then the inode number.
 use Rattle.std.proofs.Common.{◌≡◌, ◌≢◌, ℕ, Bool, false, ◌+◌, ◌-◌, ◌*◌, ◌/◌, ◌%◌, ◌<◌, ◌≤◌, List, [], None, Some, set, refl, sym, ◌∙◌, ap, subst, arith}
+use Rattle.bp_limits.specs.Limits.{inode_fields}
+use Rattle.bp_limits.proofs.Versions.{fields_most}
+use Rattle.bp_layout.specs.Formatted.{version_of}
 use Rattle.bp_calls.specs.Entered.{IsNewInode, IsReadyEntry}
 use Rattle.bp_calls.specs.Created.{CountsName, EntersName}
 use Rattle.bp_layout.specs.Need.Change.{enters as gains}
@@ -46,19 +49,21 @@ pub inode_row : (image : Image) (j at : ℕ) → ContentStandsAt image 0 (8 * j)
 inode_row image j at stands = let same : 8 * j ≡ 8 * j + 0 = omega arith in subst (λ k. ContentStandsAt image 0 k at) same stands
 
 -- stores to an inode that nobody reaches
-pub inode_spare : (image : Image) → IsWellFormed image → (j at : ℕ) → IsFreeInode image j → ContentStandsAt image 0 (8 * j + 0) at → (p v : ℕ) → AnyAt (IsWithin at 3) p v → AnyAt (IsSpare image) p v
+pub inode_spare : (image : Image) → IsWellFormed image → (j at : ℕ) → IsFreeInode image j → ContentStandsAt image 0 (8 * j + 0) at → (p v : ℕ) → AnyAt (IsWithin at (inode_fields (version_of image))) p v → AnyAt (IsSpare image) p v
 inode_spare image wf j at free stands p v inside =
     let low : at ≤ p = inside.low in
-    let high : p < at + 3 = inside.high in
+    let fields = fields_most (version_of image) in
+    let high : p < at + 8 = omega (arith, inside.high, fields) in
     let f : ℕ = p - at in
     spare_inode image wf j f p free (omega arith) (row_stands image 0 (8 * j + 0) f (8 * j + f) at p (omega arith) (omega arith) (omega arith) stands)
 
 -- where the file has its words: nobody reads them, and they are in a live block that is not in the snapshot
-pub inode_inside : {in_snapshot : ℕ → Bool} (image : Image) → IsWellFormed image → (j at : ℕ) (took : List ℕ) → IsFreeInode image j → ContentStandsAt image 0 (8 * j + 0) at → in_snapshot (at / 512) ≡ false → (p v : ℕ) → AnyAt (IsWithin at 3) p v →
+pub inode_inside : {in_snapshot : ℕ → Bool} (image : Image) → IsWellFormed image → (j at : ℕ) (took : List ℕ) → IsFreeInode image j → ContentStandsAt image 0 (8 * j + 0) at → in_snapshot (at / 512) ≡ false → (p v : ℕ) → AnyAt (IsWithin at (inode_fields (version_of image))) p v →
     AnyAt (λ q. IsSpare image q × IsOpen image in_snapshot took q) p v
 inode_inside {in_snapshot = in_snapshot} image wf j at took free stands loose p v inside =
     let low : at ≤ p = inside.low in
-    let high : p < at + 3 = inside.high in
+    let fields = fields_most (version_of image) in
+    let high : p < at + 8 = omega (arith, inside.high, fields) in
     let f : ℕ = p - at in
     let block : at / 512 ≡ p / 512 = omega (arith, low, high, stands.at) in
     let in_file : j < inode_count image = free.high in (
@@ -102,31 +107,34 @@ module _ (in_snapshot : ℕ → Bool) (first second third last : Memory) (i s j 
   reached : IsReached image i
   reached = can.lacks.reached
 
-  all_hidden : AddsMay (AnyAt (IsHidden in_snapshot image)) 0 34 first third
-  all_hidden = may_twice (AnyAt (IsHidden in_snapshot image)) 0 3 first 0 31 second third
-      (may_weaker (AnyAt (IsWithin at 3)) (AnyAt (IsHidden in_snapshot image)) 0 3 first second (inode_inside image wf j at [] can.free inode_at (loose_inode at inode_at)) filled.stores)
+  abbrev fields : ℕ
+  fields = inode_fields (version_of image)
+
+  all_hidden : AddsMay (AnyAt (IsHidden in_snapshot image)) 0 (fields + 31) first third
+  all_hidden = may_twice (AnyAt (IsHidden in_snapshot image)) 0 fields first 0 31 second third
+      (may_weaker (AnyAt (IsWithin at fields)) (AnyAt (IsHidden in_snapshot image)) 0 fields first second (inode_inside image wf j at [] can.free inode_at (loose_inode at inode_at)) filled.stores)
       (may_weaker (AnyAt (IsWithin (entry + 1) 31)) (AnyAt (IsHidden in_snapshot image)) 0 31 second third (name_hidden image wf i s entry reached can.lacks.directory found entry_at loose) spells)
 
   trees : SameTrees image mid
-  trees = slot_trees first third last i s j entry 34 name can.lacks found entry_at loose all_hidden named commits
+  trees = slot_trees first third last i s j entry (fields + 31) name can.lacks found entry_at loose all_hidden named commits
 
   mid_well_formed : IsWellFormed mid
-  mid_well_formed = slot_mid first third last i s j entry 34 name can.lacks found entry_at loose all_hidden named commits
+  mid_well_formed = slot_mid first third last i s j entry (fields + 31) name can.lacks found entry_at loose all_hidden named commits
 
   ready : IsReadyEntry mid i s name
-  ready = slot_ready first third last i s j entry 34 name can.lacks found entry_at loose all_hidden named commits
+  ready = slot_ready first third last i s j entry (fields + 31) name can.lacks found entry_at loose all_hidden named commits
 
   missing : slot_named mid i name ≡ None
-  missing = slot_missing first third last i s j entry 34 name can.lacks found entry_at loose all_hidden named commits
+  missing = slot_missing first third last i s j entry (fields + 31) name can.lacks found entry_at loose all_hidden named commits
 
   mid_entry : ContentStandsAt mid i (32 * s + 0) entry
-  mid_entry = slot_entry first third last i s j entry 34 name can.lacks found entry_at loose all_hidden named commits
+  mid_entry = slot_entry first third last i s j entry (fields + 31) name can.lacks found entry_at loose all_hidden named commits
 
   committed : current_words last ≡ set mid entry j
-  committed = slot_committed first third last i s j entry 34 name can.lacks found entry_at loose all_hidden named commits
+  committed = slot_committed first third last i s j entry (fields + 31) name can.lacks found entry_at loose all_hidden named commits
 
   -- no word of the inode is one of the entry
-  apart : (p : ℕ) → at ≤ p → p < at + 3 → IsWithin (entry + 1) 31 p → ⊥
+  apart : (p : ℕ) → at ≤ p → p < at + 8 → IsWithin (entry + 1) 31 p → ⊥
   apart p above below inside =
       let low : entry + 1 ≤ p = inside.low in
       let high : p < entry + 1 + 31 = inside.high in
@@ -139,7 +147,7 @@ module _ (in_snapshot : ℕ → Bool) (first second third last : Memory) (i s j 
       no_inode_file image i 2 can.lacks.directory (omega arith) same.0
 
   fresh : IsNewInode mid j (kind_word kind)
-  fresh = new_inode image mid wf trees j at kind can.free inode_at (inode_stays second third at (entry + 1) 31 31 (kind_word kind) spells apart filled.inode)
+  fresh = new_inode image mid wf trees j at kind can.free inode_at (inode_stays (version_of image) second third at (entry + 1) 31 31 (kind_word kind) spells apart filled.inode)
 
   enters : Enters mid (set mid entry j) i s j name (kind_word kind)
   enters = entered mid mid_well_formed i s j entry name ready can.lacks.form missing mid_entry (kind_word kind) fresh
@@ -147,11 +155,14 @@ module _ (in_snapshot : ℕ → Bool) (first second third last : Memory) (i s j 
   effect : EntersName i name kind image (current_words last)
   effect =
       subst (λ w. EntersName i name kind image w) (sym committed)
-      (enters_over image mid (set mid entry j) wf trees.prepared.meaning i s j name kind can.free (slot_is first third last i s j entry 34 name can.lacks found entry_at loose all_hidden named commits) enters)
+      (enters_over image mid (set mid entry j) wf trees.prepared.meaning i s j name kind can.free (slot_is first third last i s j entry (fields + 31) name can.lacks found entry_at loose all_hidden named commits) enters)
+
+  few : fields + 31 ≤ 39
+  few = let most = fields_most (version_of image) in omega (arith, most)
 
   pub slot_performs : PerformsWithin in_snapshot (name_need image i) 5 (stores_after_growth (name_need image i)) first last (gains i (taken j)) (EntersName i name kind)
   slot_performs =
-      slot_within first third last i s j entry 34 name can.lacks found entry_at loose all_hidden named commits (gains i (taken j)) (EntersName i name kind) (omega arith) refl refl
+      slot_within first third last i s j entry (fields + 31) name can.lacks found entry_at loose all_hidden named commits (gains i (taken j)) (EntersName i name kind) few refl refl
       (enters_well_formed mid (set mid entry j) mid_well_formed i s j (kind_word kind) name enters) (reached_stays mid (set mid entry j) mid_well_formed i s j enters.adds i ready.reached) effect
 
   pub slot_exact : (held : ℕ → Bool) (blocks inodes : Set) → AreExact image held blocks inodes → AreExact (current_words last) held blocks (without inodes j)

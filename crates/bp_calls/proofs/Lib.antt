@@ -78,3 +78,4 @@ pub mod WriteBelow
 pub mod RowLaws
 pub mod CoverPaths
 pub mod WaysStay
+pub mod AttributeWords

@@ -32,6 +32,7 @@ shape_self image wf = record {
       full_directories = wf.full_directories;
     };
     kind = λ t r. refl;
+    attributes = λ t r. refl;
     size = λ i r. refl;
     inode_blocks = wf.inode_blocks;
     inodes = omega arith;

@@ -208,13 +208,13 @@ module _ {in_snapshot : ℕ → Bool} (first second : Memory) (blocks after : Se
   pub put_base : length second.base ≡ length first.base
   put_base = ap length (base-adds first second puts.prepared.adds.part.added puts.prepared.adds.part.adds)
 
-  pub put_room : 6 ≤ room_in second
+  pub put_room : 12 ≤ room_in second
   put_room =
       enough _ _ _ _ (room_in-piece _ _ first second puts.prepared.adds.part.added puts.prepared.adds.part.adds puts.prepared.adds.part.piece)
       (past_end_one (size_of image i) (size_of image i + 256) max_height (one_entry (size_of image i) (wf.directory_sizes i reached can.lacks.directory)))
       can.room
     where
-      enough : (needed past_end room left : ℕ) → room ≤ left + (2 + (512 * needed + past_end + 2)) → past_end ≡ 512 + max_height → entering_room needed ≤ room → 6 ≤ left
+      enough : (needed past_end room left : ℕ) → room ≤ left + (2 + (512 * needed + past_end + 2)) → past_end ≡ 512 + max_height → entering_room needed ≤ room → 12 ≤ left
       enough needed past_end room left a b c = omega (arith, a, b, c)
 
 -- ---- after stores that nobody sees, over which the entry stays ready, and the store of the size
@@ -299,13 +299,13 @@ module _ {in_snapshot : ℕ → Bool} (first second third last : Memory) (blocks
   abbrev stores : ℕ
   stores = prep_stores (size_of before i) (size_of before i) (size_of before i + 256) (need_for before i (size_of before i) (size_of before i + 256))
 
-  few_stores : more ≤ 3 → stores + (more + 1) ≤ stores_after_growth (name_need before i)
+  few_stores : more ≤ 8 → stores + (more + 1) ≤ stores_after_growth (name_need before i)
   few_stores few = go _ _ _ (need_past_end before i well here can.lacks.directory can.none) (past_end_one (size_of before i) (size_of before i + 256) max_height (one_entry (size_of before i) (well.directory_sizes i here can.lacks.directory)))
     where
       go : (made needs past_end : ℕ) → needs ≡ made → past_end ≡ 512 + max_height → 512 * made + past_end + 2 + (more + 1) ≤ 512 * (needs + 4) + 64
       go made needs past_end e low = omega (arith, e, low, few)
 
-  module _ (change : Change) (Effect : Image → Image → Type 0) (few : more ≤ 3) (covers : cover before change ≡ cover before (gains i linked)) (well_formed : IsWellFormed done) (effect : Effect before done) where
+  module _ (change : Change) (Effect : Image → Image → Type 0) (few : more ≤ 8) (covers : cover before change ≡ cover before (gains i linked)) (well_formed : IsWellFormed done) (effect : Effect before done) where
     covered : place ≡ address (current_words last) (cover before change)
     covered =
         rw past_end_committed

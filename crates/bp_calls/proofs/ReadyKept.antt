@@ -19,7 +19,7 @@ use Rattle.bp_calls.proofs.Spares.{one_content, row_stands}
 use Rattle.bp_calls.proofs.Trees.{SameTrees, live_leaf, word_kept}
 
 module _ (old new : Image) (wf : IsWellFormed old) (trees : SameTrees old new) (n j at : ℕ) (name : Name) (free : IsFreeInode old j) (stands : ContentStandsAt old 0 (8 * j + 0) at)
-    (frame : (p : ℕ) → (IsWithin at 3 p → ⊥) → word new p ≡ word old p) (ready : IsReadyPastEnd old (suc n) j name) where
+    (frame : (p : ℕ) → (IsWithin at 8 p → ⊥) → word new p ≡ word old p) (ready : IsReadyPastEnd old (suc n) j name) where
   abbrev root : ℕ
   root = root_of old (suc n)
 
@@ -39,10 +39,10 @@ module _ (old new : Image) (wf : IsWellFormed old) (trees : SameTrees old new) (
     not_null = stands.present;
   }
 
-  beside : (b s : ℕ) → s < 512 → HasBlock old root more b → IsWithin at 3 (512 * b + s) → ⊥
+  beside : (b s : ℕ) → s < 512 → HasBlock old root more b → IsWithin at 8 (512 * b + s) → ⊥
   beside b s low has inside =
       let first : at ≤ 512 * b + s = inside.low in
-      let last : 512 * b + s < at + 3 = inside.high in
+      let last : 512 * b + s < at + 8 = inside.high in
       let same : b ≡ node old (root_of old 0) (height_of (root_of old 0)) ((8 * j + 0) / 512) = omega (arith, first, last, low, stands.at) in
       ready.apart 0 b inode_file (λ e. suc-ne-zero n (sym e)) has (subst (HasBlock old (root_of old 0) (size_of old 0)) (sym same) inode_block)
 
@@ -64,11 +64,11 @@ module _ (old new : Image) (wf : IsWellFormed old) (trees : SameTrees old new) (
       present : node old (root_of old 0) (height_of (root_of old 0)) ((8 * suc n + 1) / 512) ≢ 0
       present = wf.full_inode_file _ _ (live_leaf (root_of old 0) (size_of old 0) ((8 * suc n + 1) / 512) (omega (arith, in_file)))
 
-      root_beside : IsWithin at 3 (512 * node old (root_of old 0) (height_of (root_of old 0)) ((8 * suc n + 1) / 512) + (8 * suc n + 1) % 512) → ⊥
+      root_beside : IsWithin at 8 (512 * node old (root_of old 0) (height_of (root_of old 0)) ((8 * suc n + 1) / 512) + (8 * suc n + 1) % 512) → ⊥
       root_beside inside =
           let place : ℕ = 512 * node old (root_of old 0) (height_of (root_of old 0)) ((8 * suc n + 1) / 512) + (8 * suc n + 1) % 512 in
           let first : at ≤ place = inside.low in
-          let last : place < at + 3 = inside.high in
+          let last : place < at + 8 = inside.high in
           let f : ℕ = place - at in
           let high : j < inode_count old = free.high in
           let same = one_content old wf 0 (8 * suc n + 1) 0 (8 * j + f) place inode_file inode_file (omega (arith, in_file)) (omega (arith, high)) (record { present = present; at = refl })
@@ -114,17 +114,17 @@ module _ (old new : Image) (wf : IsWellFormed old) (trees : SameTrees old new) (
 -- ---- the same of any directory
 
 module _ (old new : Image) (wf : IsWellFormed old) (trees : SameTrees old new) where
-  pub ready_kept : (i j at : ℕ) (name : Name) → IsFreeInode old j → ContentStandsAt old 0 (8 * j + 0) at → ((p : ℕ) → (IsWithin at 3 p → ⊥) → word new p ≡ word old p) → IsReadyPastEnd old i j name → IsName name →
+  pub ready_kept : (i j at : ℕ) (name : Name) → IsFreeInode old j → ContentStandsAt old 0 (8 * j + 0) at → ((p : ℕ) → (IsWithin at 8 p → ⊥) → word new p ≡ word old p) → IsReadyPastEnd old i j name → IsName name →
       IsReadyPastEnd new i j name
   ready_kept zero j at name free stands frame ready form = absurd (directory_inode old 0 ready.directory refl)
   ready_kept (suc n) j at name free stands frame ready form = ready_kept_suc old new wf trees n j at name free stands frame ready form (wf.directory_sizes (suc n) ready.reached ready.directory)
 
-  pub ready_back : (i j at : ℕ) (name : Name) → IsFreeInode old j → ContentStandsAt old 0 (8 * j + 0) at → ((p : ℕ) → (IsWithin at 3 p → ⊥) → word new p ≡ word old p) → IsReadyPastEnd old i j name →
+  pub ready_back : (i j at : ℕ) (name : Name) → IsFreeInode old j → ContentStandsAt old 0 (8 * j + 0) at → ((p : ℕ) → (IsWithin at 8 p → ⊥) → word new p ≡ word old p) → IsReadyPastEnd old i j name →
       (b : ℕ) → HasBlock new (root_of new i) (size_of new i + 256) b → HasBlock old (root_of old i) (size_of old i + 256) b
   ready_back zero j at name free stands frame ready = absurd (directory_inode old 0 ready.directory refl)
   ready_back (suc n) j at name free stands frame ready = more_back old new wf trees n j at name free stands frame ready
 
-  pub ready_stays : (i j at : ℕ) (name : Name) → IsFreeInode old j → ContentStandsAt old 0 (8 * j + 0) at → ((p : ℕ) → (IsWithin at 3 p → ⊥) → word new p ≡ word old p) → IsReadyPastEnd old i j name →
+  pub ready_stays : (i j at : ℕ) (name : Name) → IsFreeInode old j → ContentStandsAt old 0 (8 * j + 0) at → ((p : ℕ) → (IsWithin at 8 p → ⊥) → word new p ≡ word old p) → IsReadyPastEnd old i j name →
       (b : ℕ) → HasBlock old (root_of old i) (size_of old i + 256) b → HasBlock new (root_of new i) (size_of new i + 256) b
   ready_stays zero j at name free stands frame ready = absurd (directory_inode old 0 ready.directory refl)
   ready_stays (suc n) j at name free stands frame ready = more_stays old new wf trees n j at name free stands frame ready

@@ -6,7 +6,7 @@ use Rattle.std.proofs.lemmas.List.{get_or-append_right, get_or-replicate, get_or
 use Rattle.std.proofs.lemmas.List.FromFn.{get_or-map-range_with_len, length-map-range_with_len}
 use Rattle.bp_calls.specs.OnTrees.{GetsSize}
 use Rattle.bp_calls.specs.Resized.{ResizesFile}
-use Rattle.bp_layout.specs.Inode.{root_of, size_of}
+use Rattle.bp_layout.specs.Inode.{attributes_of, root_of, size_of}
 use Rattle.bp_layout.specs.Lookup.{node_of}
 use Rattle.bp_layout.specs.Paths.Node.{file}
 use Rattle.bp_layout.specs.Tree.{byte, content}
@@ -48,11 +48,11 @@ module _ (old new : Image) (wf : IsWellFormed old) (i size : ℕ) (is : ResizesF
       ap (content new (root_of new i)) (is.size_is ∙ sym whole)
       ∙ map-equal (byte new (root_of new i)) (resized had size) (λ o low. byte_is o (omega (arith, low, whole)))
 
-  node_is : node_of old i ≡ file had
+  node_is : node_of old i ≡ file (attributes_of old i) had
   node_is = rw is.changes.is_file refl
 
   pub resized_gets : GetsSize i size old new
   resized_gets map here shows at =
-      let there : get map.nodes here ≡ Some (file had) = shows.shows here ∙ rw at (ap Some node_is) in
+      let there : get map.nodes here ≡ Some (file (attributes_of old i) had) = shows.shows here ∙ rw at (ap Some node_is) in
       let same : content new (root_of new i) (size_of new i) ≡ resized (bytes_at map.nodes here) size = bytes_are ∙ ap (λ found. resized (bytes_in found) size) (sym there) in
       subst (λ bytes. Shows new (with_content map here bytes)) same (content_shows old new i wf is.changes here at map shows)

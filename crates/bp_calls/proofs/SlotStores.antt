@@ -137,7 +137,7 @@ module _ {in_snapshot : ℕ → Bool} (first third last : Memory) (i s j entry m
   top_after = root_word_stays mid slot_mid i (32 * s + 0) entry j mid_reached mid_below slot_entry ∙ slot_trees.root 0 inode_file (omega (arith, in_file))
 
   -- what the commit makes is known, and that the directory is still reached
-  module _ (change : Change) (Effect : Image → Image → Type 0) (few : more ≤ 34) (needs : need image change ≡ name_need image i) (covers : cover image change ≡ cover image (gains i linked)) (well_formed : IsWellFormed after) (still : IsReached after i) where
+  module _ (change : Change) (Effect : Image → Image → Type 0) (few : more ≤ 39) (needs : need image change ≡ name_need image i) (covers : cover image change ≡ cover image (gains i linked)) (well_formed : IsWellFormed after) (still : IsReached after i) where
     covered_after : address after (cover image change) ≡ entry
     covered_after =
         ap (address after) (covers ∙ cover_in_slot image i wf reached lacks.directory s found ∙ ap₂ (λ h k. tree_path (height_of h) i (suc (height_of k)) (32 * s + 0)) (sym top_after) (sym root_after))

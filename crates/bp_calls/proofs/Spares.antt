@@ -1,5 +1,7 @@
 -- Which words are spare: those of an inode that nobody reaches, and those of an empty entry but its inode number.
-use Rattle.std.proofs.Common.{◌≡◌, ◌≢◌, ℕ, suc, ◌+◌, ◌*◌, ◌/◌, ◌%◌, ◌<◌, ◌≤◌, sym, ◌∙◌, ap, subst, arith}
+use Rattle.std.proofs.Common.{◌≡◌, ◌≢◌, ℕ, suc, ◌+◌, ◌*◌, ◌/◌, ◌%◌, ◌<◌, ◌≤◌, sym, ◌∙◌, ap, subst, arith, lt_of_lt_of_le}
+use Rattle.bp_limits.proofs.Versions.{fields_most}
+use Rattle.bp_layout.specs.Formatted.{version_of}
 use Rattle.bp_calls.specs.Spare.{IsSpare}
 use Rattle.bp_layout.specs.Directory.{ino_at, entry_count}
 use Rattle.bp_layout.specs.Free.{IsFreeInode}
@@ -56,8 +58,9 @@ spare_inode image wf j f place free few stands value = record {
   pointers = λ t d k r live stand. absurd (no_pointer_here image wf 0 (8 * j + f) place inode_file below stands t d k r live stand);
   inodes = λ i g r low read stand.
       let in_file : suc i < inode_count image = reached-in_file image wf (suc i) r in
-      let same = at 0 (8 * suc i + g) inode_file (omega (arith, in_file, low)) stand in
-      let inode : suc i ≡ j = omega (arith, same.1, few, low) in
+      let small : g < 8 = lt_of_lt_of_le low (fields_most (version_of image)) in
+      let same = at 0 (8 * suc i + g) inode_file (omega (arith, in_file, small)) stand in
+      let inode : suc i ≡ j = omega (arith, same.1, few, small) in
       absurd (free.free (subst (IsReached image) inode r));
   inos = λ i s r kind low stand. let same = at i (32 * s + 0) r (omega (arith, low)) stand in absurd (no_inode_file image i 2 kind (omega arith) (sym same.0));
   names = λ i s k g r n low stand. let same = at i (32 * s + g) r (omega (arith, n.in_size, low)) stand in absurd (no_inode_file image i 2 n.directory (omega arith) (sym same.0));
@@ -78,7 +81,8 @@ spare_entry image wf i s f place reached kind in_size empty some few stands valu
   pointers = λ t d k r live stand. absurd (no_pointer_here image wf i (32 * s + f) place reached below stands t d k r live stand);
   inodes = λ u g r low read stand.
       let in_file : suc u < inode_count image = reached-in_file image wf (suc u) r in
-      let same = at 0 (8 * suc u + g) inode_file (omega (arith, in_file, low)) stand in
+      let small : g < 8 = lt_of_lt_of_le low (fields_most (version_of image)) in
+      let same = at 0 (8 * suc u + g) inode_file (omega (arith, in_file, small)) stand in
       absurd (no_inode_file image i 2 kind (omega arith) same.0);
   inos = λ u q r also low stand. let same = at u (32 * q + 0) r (omega (arith, low)) stand in absurd (omega (arith, same.1, some, few));
   names = λ u q k g r n low stand.

@@ -6,7 +6,7 @@ use Rattle.std.proofs.lemmas.List.{get_or-append_right, get_or-replicate}
 use Rattle.std.proofs.lemmas.List.FromFn.{get_or-map-range_with_len, length-map-range_with_len}
 use Rattle.bp_calls.specs.OnTrees.{GetsBytes}
 use Rattle.bp_calls.specs.WritesFile.{WritesFile, written_byte}
-use Rattle.bp_layout.specs.Inode.{root_of, size_of}
+use Rattle.bp_layout.specs.Inode.{attributes_of, root_of, size_of}
 use Rattle.bp_layout.specs.Lookup.{node_of}
 use Rattle.bp_layout.specs.Paths.Node.{file}
 use Rattle.bp_layout.specs.Tree.{byte, content}
@@ -57,11 +57,11 @@ module _ (old new : Image) (wf : IsWellFormed old) (i offset : ℕ) (bytes : Lis
       ap (content new (root_of new i)) (sym whole)
       ∙ map-equal (byte new (root_of new i)) (written had offset bytes) (λ o low. byte_is o (omega (arith, low, whole)))
 
-  node_is : node_of old i ≡ file had
+  node_is : node_of old i ≡ file (attributes_of old i) had
   node_is = rw is.changes.is_file refl
 
   pub written_gets : GetsBytes i offset bytes old new
   written_gets map here shows at =
-      let there : get map.nodes here ≡ Some (file had) = shows.shows here ∙ rw at (ap Some node_is) in
+      let there : get map.nodes here ≡ Some (file (attributes_of old i) had) = shows.shows here ∙ rw at (ap Some node_is) in
       let same : content new (root_of new i) (size_of new i) ≡ written (bytes_at map.nodes here) offset bytes = bytes_are ∙ ap (λ found. written (bytes_in found) offset bytes) (sym there) in
       subst (λ whole_content. Shows new (with_content map here whole_content)) same (content_shows old new i wf is.changes here at map shows)

@@ -3,20 +3,21 @@ use Rattle.std.specs.Prelude.{◌≡◌, ◌≢◌, ℕ, ◌+◌, ◌/◌, ◌<�
 use Rattle.bp_layout.specs.Formatted.{version_of}
 use Rattle.bp_limits.specs.Limits.{entry_size, greatest_height}
 use Rattle.bp_layout.specs.Directory.{ino_at, ino_in, name_at, name_in, entry_count}
-use Rattle.bp_layout.specs.Paths.{Name}
+use Rattle.bp_layout.specs.Paths.{Name, no_attributes}
 use Rattle.bp_layout.specs.Free.{IsFreeInode}
-use Rattle.bp_layout.specs.Inode.{IsDirectory, kind_of, root_of, size_of}
+use Rattle.bp_layout.specs.Inode.{IsDirectory, attributes_of, kind_of, root_of, size_of}
 use Rattle.bp_layout.specs.Reached.{IsReached}
 use Rattle.bp_layout.specs.Tree.{HasBlock, IsSound, IsFull}
 use Rattle.bp_layout.specs.Words.{Image, height_of}
 
--- Inode `j`, which no path reaches, is a file or a directory without bytes.
+-- Inode `j`, which no path reaches, is a file or a directory without bytes, whose attributes are 0.
 pub record IsNewInode (image : Image) (j kind : ℕ) : Type 0 where
   pub free : IsFreeInode image j
   pub kind_is : kind_of image j ≡ kind
   pub least : 1 ≤ kind
   pub most : kind ≤ 2
   pub empty : size_of image j ≡ 0
+  pub attributes : attributes_of image j ≡ no_attributes
 
 -- Entry `s` of directory `i` is empty, and its other words hold this name.
 pub record IsReadyEntry (image : Image) (i s : ℕ) (name : Name) : Type 0 where

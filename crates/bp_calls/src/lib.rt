@@ -1,6 +1,7 @@
 //! The calls of a file system on inodes: the part of a call after its path is resolved.
 #![tactic(auto)]
 
+mod attributes;
 mod batches;
 mod commit;
 mod creation;
@@ -17,6 +18,7 @@ mod targets;
 mod thaw;
 mod writes;
 
+pub use attributes::{attribute, set_attribute};
 pub use batches::{Patch, batch};
 pub use commit::touched_by;
 pub use creation::{create, create_in};

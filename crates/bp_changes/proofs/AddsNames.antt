@@ -7,6 +7,7 @@ use Rattle.bp_layout.specs.Reached.{IsReached}
 use Rattle.bp_layout.specs.Reached.IsReached.{root_directory, named}
 use Rattle.bp_layout.specs.WellFormed.{IsWellFormed}
 use Rattle.bp_layout.specs.Lookup.{node_of}
+use Rattle.bp_layout.specs.Paths.{no_attributes}
 use Rattle.bp_layout.specs.Paths.Node.{dir, file}
 use Rattle.bp_layout.proofs.Paths.{AddsName}
 use Rattle.bp_changes.specs.Effects.{AddsNames}
@@ -40,9 +41,9 @@ module _ (old new : Image) (wf : IsWellFormed old) (i s j : ℕ) (adds : AddsNam
   pub linked_well_formed : IsWellFormed new
   linked_well_formed = entry.linked_well_formed old new wf i s j (adds_gain old new i s j adds) (adds_takes old new i s j adds)
 
-  -- the new inode is an empty file or directory
-  pub node_of_new : node_of new j ≡ (if kind_of new j == 1 then file [] else dir)
-  node_of_new = rw adds.new_size refl
+  -- the new inode is an empty file or directory without attributes
+  pub node_of_new : node_of new j ≡ (if kind_of new j == 1 then file no_attributes [] else dir no_attributes)
+  node_of_new = rw (adds.new_attributes, adds.new_size) refl
 
   -- the tree gains the name
   pub names_added : AddsName old new i (name_at new i s) j

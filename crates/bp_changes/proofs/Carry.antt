@@ -150,7 +150,7 @@ module _ (old new : Image) (wf : IsWellFormed old) (i s k r j : ℕ) (carries : 
 
   node_stays : (u : ℕ) → IsReached old u → node_of new u ≡ node_of old u
   node_stays u reached =
-      node_by_bytes old new u (carries.kind u reached) (λ kind. carries.size u reached (other kind)) (λ o kind. carries.bytes u o reached kind)
+      node_by_bytes old new u (carries.kind u reached) (carries.attributes u reached) (λ kind. carries.size u reached (other kind)) (λ o kind. carries.bytes u o reached kind)
     where
       other : kind_of old u ≡ 1 → u ≢ k
       other kind f = let two : kind_of new u ≡ 2 = subst (λ a. kind_of new a ≡ 2) (sym f) two_there in omega (arith, kind, two, carries.kind u reached)

@@ -2,7 +2,7 @@
 use Rattle.std.proofs.Common.{◌≡◌, ◌≢◌, Option, None, Some, ℕ, refl, ◌∙◌, ap, arith}
 use Rattle.bp_layout.specs.Words.{Image}
 use Rattle.bp_layout.specs.Tree.{content}
-use Rattle.bp_layout.specs.Inode.{kind_of, root_of, size_of}
+use Rattle.bp_layout.specs.Inode.{attributes_of, kind_of, root_of, size_of}
 use Rattle.bp_layout.specs.Directory.{EntryNames, name_at}
 use Rattle.bp_layout.specs.Reached.{IsReached}
 use Rattle.bp_layout.specs.Reached.IsReached.{inode_file, root_directory}
@@ -57,12 +57,12 @@ module _ (old new : Image) (x : ℕ) (wf : IsWellFormed old) (same : ChangesFile
 
   node_of_other : (u : ℕ) → IsReached old u → u ≢ x → node_of new u ≡ node_of old u
   node_of_other u reached other =
-      node_by_bytes old new u (same.kind u reached) (λ kind. same.size u reached other) (λ o kind. same.bytes u o reached other kind)
+      node_by_bytes old new u (same.kind u reached) (same.attributes u reached) (λ kind. same.size u reached other) (λ o kind. same.bytes u o reached other kind)
 
-  pub node_of_file : node_of new x ≡ file (content new (root_of new x) (size_of new x))
-  node_of_file = rw (same.kind x same.reached, same.is_file) refl
+  pub node_of_file : node_of new x ≡ file (attributes_of old x) (content new (root_of new x) (size_of new x))
+  node_of_file = rw (same.kind x same.reached, same.is_file) (ap (λ a. file a (content new (root_of new x) (size_of new x))) (same.attributes x same.reached))
 
-  pub shown_file : (path : Path) → lookup old path ≡ Some x → shown new path ≡ Some (file (content new (root_of new x) (size_of new x)))
+  pub shown_file : (path : Path) → lookup old path ≡ Some x → shown new path ≡ Some (file (attributes_of old x) (content new (root_of new x) (size_of new x)))
   shown_file path at = rw (lookup-same path, at) (ap Some node_of_file)
 
   pub shown_other : (path : Path) → (lookup old path ≡ Some x → ⊥) → shown new path ≡ shown old path

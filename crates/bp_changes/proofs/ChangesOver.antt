@@ -21,6 +21,7 @@ module _ (old mid new : Image) (x : ℕ) (wf : IsWellFormed old) (same : SameMea
     is_file = sym (same.kind x here) ∙ changes.is_file;
     trees = trees_over old mid new same changes.trees;
     kind = λ t r. changes.kind t (on old mid new same t r) ∙ same.kind t r;
+    attributes = λ t r. changes.attributes t (on old mid new same t r) ∙ same.attributes t r;
     size = λ t r other. changes.size t (on old mid new same t r) other ∙ sizes t r;
     ino = λ i s r kind low. changes.ino i s (on old mid new same i r) (same.kind i r ∙ kind) (rw (sizes i r) low) ∙ same.ino i s r kind low;
     entry = λ i s j f r n few. changes.entry i s j f (on old mid new same i r) (names_on old mid same i s j r n) few ∙ same.entry i s j f r n few;
@@ -38,6 +39,7 @@ module _ (old mid new : Image) (wf : IsWellFormed old) (same : SameMeaning old m
     target = target;
     trees = trees_over old mid new same carries.trees;
     kind = λ u q. carries.kind u (on old mid new same u q) ∙ same.kind u q;
+    attributes = λ u q. carries.attributes u (on old mid new same u q) ∙ same.attributes u q;
     size = λ u q other. carries.size u (on old mid new same u q) other ∙ sizes u q;
     directory_size = carries.directory_size;
     slots = λ x low. slots x (carries.slots x low);

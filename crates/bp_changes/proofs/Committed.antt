@@ -1,19 +1,23 @@
 -- What a commit makes of an image: a name moved, a name spelled again, the bytes of one file or of several. It may give any values to words that nobody reads.
-use Rattle.std.proofs.Common.{◌≡◌, ◌≢◌, ◌⊎◌, ℕ, zero, suc, ◌+◌, ◌*◌, ◌/◌, ◌%◌, ◌<◌, ◌≤◌, List, refl, sym, ◌∙◌, ap, ap₂, subst, arith, inl, inr}
+use Rattle.std.proofs.Common.{◌≡◌, ◌≢◌, ◌⊎◌, ℕ, zero, suc, ◌+◌, ◌*◌, ◌/◌, ◌%◌, ◌<◌, ◌≤◌, List, refl, sym, ◌∙◌, ap, ap₂, subst, arith, lt_of_lt_of_le, inl, inr}
 use Rattle.std.proofs.lemmas.Bool.{cases_eq}
+use Rattle.bp_limits.proofs.Versions.{fields_most}
+use Rattle.bp_layout.specs.Formatted.{version_of}
 use Rattle.bp_layout.specs.Words.{Image, byte_of}
 use Rattle.bp_layout.specs.Tree.{content_word, byte}
-use Rattle.bp_layout.specs.Inode.{inode_word, kind_of, root_of, size_of, inode_count}
+use Rattle.bp_layout.specs.Inode.{attributes_of, inode_word, kind_of, root_of, size_of, inode_count}
 use Rattle.bp_layout.specs.Directory.{EntryNames, word_in, name_at, ino_at, entry_word, entry_count}
 use Rattle.bp_layout.specs.Paths.{IsName}
 use Rattle.bp_layout.specs.Reached.{IsReached}
 use Rattle.bp_layout.specs.Reached.IsReached.{inode_file}
 use Rattle.bp_layout.specs.WellFormed.{IsWellFormed}
+use Rattle.bp_layout.proofs.AttributeLaws.{attributes_alike}
 use Rattle.bp_layout.proofs.Reached.{reached-in_file}
 use Rattle.bp_changes.specs.Commits.{Changes, changed_word, CommitsOnly}
 use Rattle.bp_changes.specs.Effects.{CanMoveEntry, MovesEntry, CarriesEntry, IsNewEntry, IsOldEntry, RespellsEntry, ChangesFile}
 use Rattle.bp_changes.specs.Overwrites.{OverwritesFiles, Patch, patched}
 use Rattle.bp_changes.specs.SameContent.{IsReadByWords}
+use Rattle.bp_changes.proofs.Formatted.{version_stays}
 use Rattle.bp_changes.proofs.SameShown.{name_by_words, this_or}
 
 no_directory : (image : Image) (t : ℕ) → kind_of image t ≡ 2 → t ≢ 0
@@ -43,6 +47,12 @@ module _ (old new : Image) (changes : Changes) (Changed : ℕ → ℕ → Type 0
   kind-kept zero low still = refl
   kind-kept (suc i) low still = inode_word-kept i 0 low (omega arith) (λ e. omega (arith, e)) still
 
+  pub attributes-kept : (t : ℕ) → t < inode_count old → ((f : ℕ) → 3 ≤ f → f < 8 → Changed 0 (8 * t + f) → ⊥) → attributes_of new t ≡ attributes_of old t
+  attributes-kept t low still =
+      attributes_alike old new t (version_stays old new only.commits.trees.has_magic) (λ i f e least most.
+      let few : f < 8 = lt_of_lt_of_le most (fields_most (version_of old)) in
+      inode_word-kept i f (subst (λ u. u < inode_count old) e low) few (λ one. omega (arith, one, least)) (subst (λ u. Changed 0 (8 * u + f) → ⊥) e (still f least few)))
+
   pub size-kept : (t : ℕ) → t < inode_count old → (Changed 0 (8 * t + 2) → ⊥) → size_of new t ≡ size_of old t
   size-kept zero low still = only.commits.inode_bytes
   size-kept (suc i) low still = inode_word-kept i 2 low (omega arith) (λ e. omega (arith, e)) still
@@ -55,6 +65,7 @@ pub commit_moves : (old new : Image) (changes : Changes) (i s k r j : ℕ) → C
 commit_moves old new changes i s k r j can only emptied entered = record {
   trees = only.commits.trees;
   kind = λ u low. kind-kept old new changes _ only u low no_inode;
+  attributes = λ u low. attributes-kept old new changes _ only u low (λ f least few. no_inode);
   size = λ u low. size-kept old new changes _ only u low no_inode;
   emptied = word_committed old new changes _ only i (32 * s + 0) can.reached (inr can.entry.directory) (omega (arith, can.entry.in_size)) (λ e. absurd (no_directory old i can.entry.directory e)) ∙ emptied;
   entered = word_committed old new changes _ only k (32 * r + 0) can.target (inr can.directory) (omega (arith, can.in_size)) (λ e. absurd (no_directory old k can.directory e)) ∙ entered;
@@ -92,6 +103,12 @@ module _ (old new : Image) (changes : Changes) (i s k j : ℕ) (wf : IsWellForme
   kinds_stay u also = kind-kept old new changes _ only u (in_inodes u also) (λ here. elim here [
     | inl source ↦ no_directory old i names.directory (sym source.0)
     | inr size ↦ omega (arith, size.1)
+  ])
+
+  attributes_stay : (u : ℕ) → IsReached old u → attributes_of new u ≡ attributes_of old u
+  attributes_stay u also = attributes-kept old new changes _ only u (in_inodes u also) (λ f least few here. elim here [
+    | inl source ↦ no_directory old i names.directory (sym source.0)
+    | inr size ↦ omega (arith, size.1, least, few)
   ])
 
   sizes_stay : (u : ℕ) → IsReached old u → u ≢ k → size_of new u ≡ size_of old u
@@ -209,6 +226,7 @@ module _ (old new : Image) (changes : Changes) (i s k j : ℕ) (wf : IsWellForme
     target = target;
     trees = only.commits.trees;
     kind = kinds_stay;
+    attributes = attributes_stay;
     size = sizes_stay;
     directory_size = omega (arith, size_here, whole_entries);
     slots = λ x low. slots_grow x low (cases_eq x (entry_count old k));
@@ -237,6 +255,7 @@ commit_respells old new changes i s j wf reached names only name changed new_nam
   names = names;
   trees = only.commits.trees;
   kind = λ u low. kind-kept old new changes _ only u low (λ here. no_directory old i names.directory (sym here.0));
+  attributes = λ u low. attributes-kept old new changes _ only u low (λ f least few here. no_directory old i names.directory (sym here.0));
   size = λ u low. size-kept old new changes _ only u low (λ here. no_directory old i names.directory (sym here.0));
   ino = λ u x also kind low.
       word-kept old new changes _ only u (32 * x + 0) also (inr kind) (omega (arith, low)) (λ e. absurd (no_directory old u kind e))
@@ -263,6 +282,10 @@ commit_writes old new changes x wf reached is_file only = record {
   kind = λ t also. kind-kept old new changes _ only t (reached-in_file old wf t also) (λ here. elim here [
     | inl e ↦ not_zero e
     | inr size ↦ omega (arith, size.1)
+  ]);
+  attributes = λ t also. attributes-kept old new changes _ only t (reached-in_file old wf t also) (λ f least few here. elim here [
+    | inl e ↦ not_zero e
+    | inr size ↦ omega (arith, size.1, least, few)
   ]);
   size = λ t also other. size-kept old new changes _ only t (reached-in_file old wf t also) (λ here. elim here [
     | inl e ↦ not_zero e
@@ -294,6 +317,7 @@ pub commit_overwrites : (old new : Image) (changes : Changes) (patches : List Pa
 commit_overwrites old new changes patches wf only bytes = record {
   trees = only.commits.trees;
   kind = λ t also. kind-kept old new changes _ only t (reached-in_file old wf t also) no_file;
+  attributes = λ t also. attributes-kept old new changes _ only t (reached-in_file old wf t also) (λ f least few. no_file);
   size = λ t also. size-kept old new changes _ only t (reached-in_file old wf t also) no_file;
   ino = λ i s also kind low.
       word-kept old new changes _ only i (32 * s + 0) also (inr kind) (omega (arith, low)) (λ e. absurd (no_directory old i kind e)) (λ one. omega (arith, kind, one));

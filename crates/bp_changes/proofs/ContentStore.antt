@@ -1,12 +1,16 @@
 -- A store to a live word changes that word alone. Where it is a content word of an inode's tree, the trees stay.
-use Rattle.std.proofs.Common.{◌≡◌, ◌≢◌, ℕ, zero, suc, ◌+◌, ◌*◌, ◌/◌, ◌%◌, ◌<◌, length, set, refl, sym, ◌∙◌, ap, arith, get_or-set_same, get_or-set_other}
+use Rattle.std.proofs.Common.{◌≡◌, ◌≢◌, ℕ, zero, suc, ◌+◌, ◌*◌, ◌/◌, ◌%◌, ◌<◌, length, set, refl, sym, ◌∙◌, ap, subst, arith, lt_of_lt_of_le, get_or-set_same, get_or-set_other}
+use Rattle.bp_limits.proofs.Versions.{fields_most}
+use Rattle.bp_layout.specs.Formatted.{version_of}
 use Rattle.bp_layout.specs.Words.{Image, word, block_count, height_of, slot_word}
 use Rattle.bp_layout.specs.Tree.{node, content_word, IsLiveWord}
-use Rattle.bp_layout.specs.Inode.{inode_word, kind_of, root_of, size_of, inode_count, StandsAt, ContentStandsAt}
+use Rattle.bp_layout.specs.Inode.{attributes_of, inode_word, kind_of, root_of, size_of, inode_count, StandsAt, ContentStandsAt}
 use Rattle.bp_layout.specs.Reached.{IsReached}
 use Rattle.bp_layout.specs.Reached.IsReached.{inode_file}
 use Rattle.bp_layout.specs.WellFormed.{IsWellFormed}
+use Rattle.bp_layout.proofs.AttributeLaws.{attributes_alike}
 use Rattle.bp_layout.proofs.TreeLaws.{KeepsPointers, content-kept, slot_word-at, slot_word-same, tree_word-suc, live_above, live_pointer_word, live_content}
+use Rattle.bp_changes.proofs.Formatted.{version_stays}
 use Rattle.bp_changes.proofs.Separation.{SameWord, one_place}
 
 -- a live word stands in the image
@@ -68,6 +72,11 @@ module _ (old : Image) (wf : IsWellFormed old) (i k place value : ℕ) (reached 
   pub kind_stays : (u : ℕ) → u < inode_count old → kind_of (set old place value) u ≡ kind_of old u
   kind_stays zero in_file = refl
   kind_stays (suc u) in_file = inode_word_stays u 0 in_file (omega arith)
+
+  pub attributes_stay : (u : ℕ) → u < inode_count old → attributes_of (set old place value) u ≡ attributes_of old u
+  attributes_stay u in_file =
+      attributes_alike old (set old place value) u (version_stays old (set old place value) (superblock_stays 0 (omega arith)))
+      (λ n f e least most. inode_word_stays n f (subst (λ t. t < inode_count old) e in_file) (lt_of_lt_of_le most (fields_most (version_of old))))
 
   pub root_stays : (u : ℕ) → u < inode_count old → root_of (set old place value) u ≡ root_of old u
   root_stays zero in_file = superblock_stays 2 (omega arith)

@@ -196,5 +196,5 @@ module _ (old new : Image) (wf : IsWellFormed old) (i s j : ℕ) (gains : GainsE
     added = lookup_linked;
     alone = λ name. lookup_in-none new j name (λ k shows. takes.no_entry shows.slot k shows.entry);
     others = lookup_stays;
-    nodes = λ u r. node_by_bytes old new u (gains.kind u r) (gains.file_size u r) (λ o kind. gains.bytes u o r kind);
+    nodes = λ u r. node_by_bytes old new u (gains.kind u r) (gains.attributes u r) (gains.file_size u r) (λ o kind. gains.bytes u o r kind);
   }

@@ -1,11 +1,12 @@
 -- An image whose words may all stand in a well-formed one is well-formed, and shows the same.
-use Rattle.std.proofs.Common.{le_of_eq, suc-ne-zero, ◌≡◌, ◌⊎◌, inl, inr, subst, ℕ, zero, suc, ◌+◌, ◌*◌, ◌/◌, ◌%◌, ◌<◌, ◌≤◌, refl, sym, ◌∙◌, ap, subst₂, arith}
+use Rattle.std.proofs.Common.{le_of_eq, suc-ne-zero, lt_of_lt_of_le, ◌≡◌, ◌⊎◌, inl, inr, subst, ℕ, zero, suc, ◌+◌, ◌*◌, ◌/◌, ◌%◌, ◌<◌, ◌≤◌, refl, sym, ◌∙◌, ap, subst₂, arith}
 use Rattle.std.proofs.lemmas.Bool.{cases_eq}
-use Rattle.bp_limits.specs.Limits.{greatest_height}
+use Rattle.bp_limits.specs.Limits.{greatest_height, inode_fields}
+use Rattle.bp_limits.proofs.Versions.{fields_least, fields_most}
 use Rattle.bp_layout.specs.Formatted.{version_of}
 use Rattle.bp_layout.specs.Words.{Image, word, height_of, byte_of}
 use Rattle.bp_layout.specs.Tree.{content_word, byte, HasBlock, IsSound, IsFull}
-use Rattle.bp_layout.specs.Inode.{inode_word, kind_of, root_of, size_of, inode_count, ContentStandsAt, RootPlace}
+use Rattle.bp_layout.specs.Inode.{attributes_of, inode_word, kind_of, root_of, size_of, inode_count, ContentStandsAt, RootPlace}
 use Rattle.bp_layout.specs.Inode.RootPlace.{inode}
 use Rattle.bp_layout.specs.Directory.{EntryNames, ino_at, entry_word, entry_count}
 use Rattle.bp_layout.specs.Reached.{IsReached}
@@ -13,12 +14,13 @@ use Rattle.bp_layout.specs.Reached.IsReached.{inode_file}
 use Rattle.bp_layout.specs.WellFormed.{IsWellFormed}
 use Rattle.bp_layout.specs.Same.{Same}
 use Rattle.bp_changes.specs.Harmless.{Agrees}
+use Rattle.bp_layout.proofs.AttributeLaws.{attributes_alike}
 use Rattle.bp_layout.proofs.Reached.{reached-in_file}
 use Rattle.bp_layout.proofs.TreeLaws.{KeepsPointers, content-kept, slot_word-same, tree_word-suc, slot_byte-same, sound-kept, full-kept, has_block-kept, has_block-stays}
 use Rattle.bp_layout.proofs.SmallTrees.{none_live, empty_sound, empty_has_none}
 use Rattle.bp_changes.specs.SameMeaning.{SameMeaning}
 use Rattle.bp_changes.proofs.SameMeaning.{same-by_meaning}
-use Rattle.bp_changes.proofs.Formatted.{low_stays}
+use Rattle.bp_changes.proofs.Formatted.{low_stays, version_stays}
 
 module _ (old new : Image) (wf : IsWellFormed old) (agrees : Agrees old new) where
   -- the pointers of a reached tree stay
@@ -44,19 +46,29 @@ module _ (old new : Image) (wf : IsWellFormed old) (agrees : Agrees old new) whe
       ∙ slot_word-same old new _ _ (λ present. same _ (record { present = present; at = refl }))
       ∙ sym (tree_word-suc old (root_of old t) (height_of (root_of old t)) k))
 
-  inode_word-same : (i f : ℕ) → IsReached old (suc i) → f < 3 →
+  inode_word-same : (i f : ℕ) → IsReached old (suc i) → f < 8 →
       ((place : ℕ) → ContentStandsAt old 0 (8 * suc i + f) place → word new place ≡ word old place) → inode_word new (suc i) f ≡ inode_word old (suc i) f
   inode_word-same i f reached low =
       let in_file : suc i < inode_count old = reached-in_file old wf (suc i) reached in
       content_word-same 0 (8 * suc i + f) inode_file inode_file_root (omega (arith, in_file, low))
 
+  -- the kind, the root word and the size have a meaning in each version
+  read : (f : ℕ) → f < 3 → f < inode_fields (version_of old)
+  read f low = lt_of_lt_of_le low (fields_least (version_of old))
+
   kind-same : (t : ℕ) → IsReached old t → kind_of new t ≡ kind_of old t
   kind-same zero reached = refl
-  kind-same (suc i) reached = inode_word-same i 0 reached (omega arith) (λ place at. (agrees.each place).inodes i 0 reached (omega arith) (λ e. omega (arith, e)) at)
+  kind-same (suc i) reached = inode_word-same i 0 reached (omega arith) (λ place at. (agrees.each place).inodes i 0 reached (read 0 (omega arith)) (λ e. omega (arith, e)) at)
+
+  attributes-same : (t : ℕ) → IsReached old t → attributes_of new t ≡ attributes_of old t
+  attributes-same t reached =
+      attributes_alike old new t (version_stays old new ((agrees.each 0).superblock (omega arith))) (λ i f e least most.
+      let here : IsReached old (suc i) = subst (IsReached old) e reached in
+      inode_word-same i f here (lt_of_lt_of_le most (fields_most (version_of old))) (λ place at. (agrees.each place).inodes i f here most (λ one. omega (arith, one, least)) at))
 
   pub root-same : (t : ℕ) → IsReached old t → 0 < size_of old t → root_of new t ≡ root_of old t
   root-same zero reached some = inode_file_root
-  root-same (suc i) reached some = inode_word-same i 1 reached (omega arith) (λ place at. (agrees.each place).inodes i 1 reached (omega arith) (λ e. some) at)
+  root-same (suc i) reached some = inode_word-same i 1 reached (omega arith) (λ place at. (agrees.each place).inodes i 1 reached (read 1 (omega arith)) (λ e. some) at)
 
   -- a root word at whose place the same stands, whatever the size
   pub root-kept : (t : ℕ) → IsReached old t → ((place : ℕ) → RootPlace old t place → word new place ≡ word old place) → root_of new t ≡ root_of old t
@@ -65,7 +77,7 @@ module _ (old new : Image) (wf : IsWellFormed old) (agrees : Agrees old new) whe
 
   pub size-same : (t : ℕ) → IsReached old t → size_of new t ≡ size_of old t
   size-same zero reached = inode_file_size
-  size-same (suc i) reached = inode_word-same i 2 reached (omega arith) (λ place at. (agrees.each place).inodes i 2 reached (omega arith) (λ e. omega (arith, e)) at)
+  size-same (suc i) reached = inode_word-same i 2 reached (omega arith) (λ place at. (agrees.each place).inodes i 2 reached (read 2 (omega arith)) (λ e. omega (arith, e)) at)
 
   ino-same : (i slot : ℕ) → IsReached old i → kind_of old i ≡ 2 → slot < entry_count old i → ino_at new i slot ≡ ino_at old i slot
   ino-same i slot reached kind in_size =
@@ -126,6 +138,7 @@ module _ (old new : Image) (wf : IsWellFormed old) (agrees : Agrees old new) whe
       full_directories = λ i r kind. full-on i r (wf.full_directories i r kind);
     };
     kind = kind-same;
+    attributes = attributes-same;
     size = λ i reached. size-same (suc i) reached;
     inode_blocks = rw (size-same 0 inode_file) wf.inode_blocks;
     inodes = le_of_eq (sym (size-same 0 inode_file));

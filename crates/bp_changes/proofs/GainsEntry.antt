@@ -4,23 +4,24 @@ use Rattle.std.proofs.Common.{◌≡◌, ◌≢◌, ◌⊎◌, ℕ, ◌%◌, ◌
 use Rattle.bp_limits.specs.Limits.{block_size, entry_size}
 use Rattle.bp_layout.specs.Words.{Image}
 use Rattle.bp_layout.specs.Tree.{byte}
-use Rattle.bp_layout.specs.Inode.{IsDirectory, IsFile, kind_of, root_of, size_of, inode_count}
+use Rattle.bp_layout.specs.Inode.{IsDirectory, IsFile, attributes_of, kind_of, root_of, size_of, inode_count}
 use Rattle.bp_layout.specs.Directory.{EntryNames, entry_count, name_at}
-use Rattle.bp_layout.specs.Paths.{IsName}
+use Rattle.bp_layout.specs.Paths.{IsName, no_attributes}
 use Rattle.bp_layout.specs.Reached.{IsReached}
 use Rattle.bp_layout.specs.WellFormed.{IsWellFormed}
 use Rattle.bp_changes.specs.Effects.{AddsNames, LinksName, IsNewEntry}
 use Rattle.bp_changes.specs.KeepsTrees.{KeepsTrees}
 
--- an inode that nobody names and that has no bytes
+-- an inode that nobody names and that has no bytes and no attributes
 pub record CanTake (old : Image) (j : ℕ) : Type 0 where
   pub fresh : IsReached old j → ⊥
   pub in_file : j < inode_count old
   pub kind : (1 ≤ kind_of old j) × (kind_of old j ≤ 2)
   pub nothing : size_of old j ≡ 0
+  pub attributes : attributes_of old j ≡ no_attributes
 
--- Nobody named inode j, and it has no bytes in the second image. The inode file may have grown, and the inode may lie in
--- what it got.
+-- Nobody named inode j, and it has no bytes and no attributes in the second image. The inode file may have grown, and
+-- the inode may lie in what it got.
 pub record TakesInode (old new : Image) (j : ℕ) : Type 0 where
   pub fresh : IsReached old j → ⊥
   pub inode_bytes : size_of old 0 ≤ size_of new 0
@@ -28,6 +29,7 @@ pub record TakesInode (old new : Image) (j : ℕ) : Type 0 where
   pub in_file : j < inode_count new
   pub new_kind : (1 ≤ kind_of new j) × (kind_of new j ≤ 2)
   pub new_size : size_of new j ≡ 0
+  pub new_attributes : attributes_of new j ≡ no_attributes
 
 -- One more entry, at slot s of directory i, for inode j. The slot was empty, or the directory grew by it. All else is as
 -- it was.
@@ -35,6 +37,7 @@ pub record GainsEntry (old new : Image) (i s j : ℕ) : Type 0 where
   pub reached : IsReached old i
   pub trees : KeepsTrees old new
   pub kind : (u : ℕ) → IsReached old u → kind_of new u ≡ kind_of old u
+  pub attributes : (u : ℕ) → IsReached old u → attributes_of new u ≡ attributes_of old u
   pub file_size : (u : ℕ) → IsReached old u → IsFile old u → size_of new u ≡ size_of old u
   pub directory_size : (u : ℕ) → IsReached old u → IsDirectory old u → size_of new u % entry_size ≡ 0
   pub slots : (u r : ℕ) → IsReached old u → IsDirectory old u → r < entry_count new u → (r < entry_count old u) ⊎ ((u ≡ i) × (r ≡ s))
@@ -48,14 +51,16 @@ pub record GainsEntry (old new : Image) (i s j : ℕ) : Type 0 where
       byte new (root_of new u) o ≡ byte old (root_of old u) o
 
 -- an inode where the inode file stays as long as it was
-pub takes_inode : (old new : Image) (j : ℕ) → IsWellFormed old → CanTake old j → size_of new 0 ≡ size_of old 0 → kind_of new j ≡ kind_of old j → size_of new j ≡ size_of old j → TakesInode old new j
-takes_inode old new j wf can same_file same_kind same_size = record {
+pub takes_inode : (old new : Image) (j : ℕ) → IsWellFormed old → CanTake old j → size_of new 0 ≡ size_of old 0 → kind_of new j ≡ kind_of old j →
+    attributes_of new j ≡ attributes_of old j → size_of new j ≡ size_of old j → TakesInode old new j
+takes_inode old new j wf can same_file same_kind same_attributes same_size = record {
   fresh = can.fresh;
   inode_bytes = rw same_file (omega arith);
   inode_blocks = rw same_file wf.inode_blocks;
   in_file = rw same_file can.in_file;
   new_kind = rw same_kind can.kind;
   new_size = same_size ∙ can.nothing;
+  new_attributes = same_attributes ∙ can.attributes;
 }
 
 module _ (old new : Image) (i s j : ℕ) where
@@ -66,6 +71,7 @@ module _ (old new : Image) (i s j : ℕ) where
     reached = adds.reached;
     trees = adds.trees;
     kind = adds.kind;
+    attributes = adds.attributes;
     file_size = adds.file_size;
     directory_size = adds.directory_size;
     slots = adds.slots;
@@ -83,6 +89,7 @@ module _ (old new : Image) (i s j : ℕ) where
     reached = links.reached;
     trees = links.trees;
     kind = links.kind;
+    attributes = links.attributes;
     file_size = links.file_size;
     directory_size = links.directory_size;
     slots = links.slots;
@@ -106,8 +113,10 @@ module _ (old new : Image) (i s j : ℕ) where
     inode_blocks = takes.inode_blocks;
     in_file = takes.in_file;
     kind = gains.kind;
+    attributes = gains.attributes;
     new_kind = takes.new_kind;
     new_size = takes.new_size;
+    new_attributes = takes.new_attributes;
     file_size = gains.file_size;
     directory_size = gains.directory_size;
     slots = gains.slots;
@@ -128,6 +137,7 @@ module _ (old new : Image) (i s j : ℕ) where
     trees = gains.trees;
     inode_bytes = same_file;
     kind = gains.kind;
+    attributes = gains.attributes;
     file_size = gains.file_size;
     directory_size = gains.directory_size;
     slots = gains.slots;

@@ -24,6 +24,7 @@ pub mod Respell
 pub mod ReachedOn
 pub mod Snapshot
 pub mod ChangesOver
+pub mod SetsAttribute
 pub mod Carry
 pub mod MoveReach
 pub mod Named

@@ -3,7 +3,7 @@
 use Rattle.std.proofs.Common.{◌≡◌, ◌≢◌, ◌⊎◌, ℕ, ◌+◌, ◌*◌, ◌/◌, ◌<◌, ◌≤◌, length, sym, ◌∙◌, ap, ap₂, subst₂, arith, inl, inr}
 use Rattle.bp_limits.specs.CallLimits.{max_name}
 use Rattle.bp_layout.specs.Words.{Image}
-use Rattle.bp_layout.specs.Inode.{kind_of, size_of, inode_count}
+use Rattle.bp_layout.specs.Inode.{attributes_of, kind_of, size_of, inode_count}
 use Rattle.bp_layout.specs.Directory.{EntryNames, name_at, ino_at, entry_word, entry_count}
 use Rattle.bp_layout.specs.Paths.{IsName}
 use Rattle.bp_layout.specs.Reached.{IsReached}
@@ -29,6 +29,9 @@ module _ (old new : Image) (wf : IsWellFormed old) (i s j : ℕ) (can : AwaitsIn
 
   pub kinds_stay : (t : ℕ) → t < inode_count old → kind_of new t ≡ kind_of old t
   kinds_stay = adds.kind
+
+  attributes_stay : (t : ℕ) → t < inode_count old → attributes_of new t ≡ attributes_of old t
+  attributes_stay = adds.attributes
 
   sizes_stay : (t : ℕ) → t < inode_count old → size_of new t ≡ size_of old t
   sizes_stay = adds.size
@@ -93,6 +96,7 @@ module _ (old new : Image) (wf : IsWellFormed old) (i s j : ℕ) (can : AwaitsIn
     reached = can.reached;
     trees = adds.trees;
     kind = λ u r. kinds_stay u (in_inodes u r);
+    attributes = λ u r. attributes_stay u (in_inodes u r);
     file_size = λ u r kind. sizes_stay u (in_inodes u r);
     directory_size = λ u r kind. rw (sizes_stay u (in_inodes u r)) (wf.directory_sizes u r kind);
     slots = λ u r q kind low. inl (rw (count_stays u (in_inodes u q)) at low);
@@ -106,7 +110,7 @@ module _ (old new : Image) (wf : IsWellFormed old) (i s j : ℕ) (can : AwaitsIn
   }
 
   pub entry_adds : CanTake old j → AddsNames old new i s j
-  entry_adds free = gains_adds old new i s j entry_gains (takes_inode old new j wf free file_stays (kinds_stay j free.in_file) (sizes_stay j free.in_file))
+  entry_adds free = gains_adds old new i s j entry_gains (takes_inode old new j wf free file_stays (kinds_stay j free.in_file) (attributes_stay j free.in_file) (sizes_stay j free.in_file))
 
   pub entry_links : IsReached old j → kind_of old j ≡ 1 → LinksName old new i s j
   entry_links there file = gains_links old new i s j entry_gains there file file_stays

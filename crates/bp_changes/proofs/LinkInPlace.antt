@@ -12,7 +12,7 @@ use Rattle.bp_layout.specs.Reached.IsReached.{inode_file}
 use Rattle.bp_layout.specs.WellFormed.{IsWellFormed}
 use Rattle.bp_layout.proofs.TreeLaws.{KeepsPointers, sound-kept, full-kept, has_block-kept, has_block-stays}
 use Rattle.bp_layout.proofs.Reached.{reached-in_file}
-use Rattle.bp_changes.proofs.ContentStore.{pointers_stay, content_elsewhere, content_here, superblock_stays, kind_stays, root_stays, size_stays}
+use Rattle.bp_changes.proofs.ContentStore.{pointers_stay, content_elsewhere, content_here, superblock_stays, attributes_stay, kind_stays, root_stays, size_stays}
 use Rattle.bp_changes.specs.Effects.{SetsIno, KeepsBlocks, CanUnlink, RemovesEntry}
 use Rattle.bp_changes.proofs.Link.{AwaitsIno}
 use Rattle.bp_changes.proofs.Formatted.{low_stays}
@@ -59,6 +59,7 @@ module _ (old : Image) (wf : IsWellFormed old) (i s value place : ℕ) (reached_
       full_directories = λ u r kind. to_new (IsFull (set old place value)) u r (full-kept old (set old place value) (root_of old u) (size_of old u) (keeps u r) (wf.full_directories u r kind));
     };
     kind = kind_stays old wf i (32 * s + 0) place value reached_here not_inode_file below stands;
+    attributes = attributes_stay old wf i (32 * s + 0) place value reached_here not_inode_file below stands;
     size = sizes_stay;
     ino = content_here old wf i (32 * s + 0) place value reached_here not_inode_file below stands (roots_stay i (in_inodes i reached_here));
     entry = λ u r f reached kind low few other.

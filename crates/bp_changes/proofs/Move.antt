@@ -185,7 +185,8 @@ module _ (old new : Image) (wf : IsWellFormed old) (i s k r j : ℕ) (can : CanM
 
   node_stays : (u : ℕ) → IsReached old u → node_of new u ≡ node_of old u
   node_stays u reached =
-      node_by_bytes old new u (moves.kind u (in_inodes u reached)) (λ kind. moves.size u (in_inodes u reached)) (λ o kind. moves.bytes u o reached kind)
+      node_by_bytes old new u (moves.kind u (in_inodes u reached)) (moves.attributes u (in_inodes u reached))
+      (λ kind. moves.size u (in_inodes u reached)) (λ o kind. moves.bytes u o reached kind)
 
   pub entry_moves : MovesName old new i (name_at old i s) k (name_at old k r) j
   entry_moves = record {
@@ -216,6 +217,7 @@ module _ (old new : Image) (wf : IsWellFormed old) (i s k r j : ℕ) (can : CanM
     target = can.target;
     trees = moves.trees;
     kind = λ u reached. moves.kind u (in_inodes u reached);
+    attributes = λ u reached. moves.attributes u (in_inodes u reached);
     size = λ u reached other. moves.size u (in_inodes u reached);
     directory_size = rw (moves.size k (in_inodes k can.target)) (wf.directory_sizes k can.target can.directory);
     slots = λ x low. inl (rw (count_stays k can.target) at low);

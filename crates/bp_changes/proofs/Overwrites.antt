@@ -1,12 +1,12 @@
 -- Two images of which the second has bytes laid into files: what it shows.
-use Rattle.std.proofs.Common.{◌≡◌, ◌==◌, Bool, true, false, Option, None, Some, List, ℕ, refl, ap, arith}
+use Rattle.std.proofs.Common.{◌≡◌, ◌==◌, Bool, true, false, Option, None, Some, List, ℕ, refl, ap, ap₂, arith}
 use Rattle.std.specs.List.{range_with_len}
 use Rattle.std.specs.Prelude.{map, if◌then◌else◌}
 use Rattle.std.specs.Option.{option_map}
 use Rattle.std.proofs.lemmas.Bool.{eqb-true}
 use Rattle.bp_layout.specs.Words.{Image}
 use Rattle.bp_layout.specs.Tree.{byte}
-use Rattle.bp_layout.specs.Inode.{kind_of, root_of, size_of}
+use Rattle.bp_layout.specs.Inode.{attributes_of, kind_of, root_of, size_of}
 use Rattle.bp_layout.specs.Reached.{IsReached}
 use Rattle.bp_layout.specs.Reached.IsReached.{inode_file, root_directory}
 use Rattle.bp_layout.specs.WellFormed.{IsWellFormed}
@@ -22,7 +22,7 @@ use Rattle.bp_changes.proofs.KeepsDirectories.{lookup-same}
 -- what stands at an inode of an image, where its bytes are stated by inode and number
 abbrev pub node_with : Image → (ℕ → ℕ → ℕ) → ℕ → Node
 node_with image bytes i =
-    if kind_of image i == 1 then file (map (bytes i) (range_with_len 0 (size_of image i))) else dir
+    if kind_of image i == 1 then file (attributes_of image i) (map (bytes i) (range_with_len 0 (size_of image i))) else dir (attributes_of image i)
 
 -- the bytes of an image, and those with patches laid over them
 abbrev pub bytes_in : Image → ℕ → ℕ → ℕ
@@ -48,8 +48,8 @@ module _ (old new : Image) (patches : List Patch) (over : OverwritesFiles patche
       go : (b : Bool) → (kind_of old u == 1) ≡ b → node_of new u ≡ node_with old (bytes_patched old patches) u
       go true e =
           rw (over.kind u reached, e, over.size u reached)
-          (ap file (map-same _ _ 0 (size_of old u) (λ o low high. over.bytes u o reached (eqb-true _ _ e) (omega (arith, high)))))
-      go false e = rw (over.kind u reached, e) refl
+          (ap₂ file (over.attributes u reached) (map-same _ _ 0 (size_of old u) (λ o low high. over.bytes u o reached (eqb-true _ _ e) (omega (arith, high)))))
+      go false e = rw (over.kind u reached, e) (ap dir (over.attributes u reached))
 
   pub shown_patched : IsWellFormed old → (path : Path) → shown new path ≡ option_map (node_with old (bytes_patched old patches)) (lookup old path)
   shown_patched wf path = rw (lookup-same old new wf keeps path) (go (lookup old path) refl)

@@ -1,5 +1,7 @@
 -- A store after the size of a tree is harmless.
-use Rattle.std.proofs.Common.{◌≡◌, ℕ, suc, ◌+◌, ◌*◌, ◌/◌, ◌%◌, ◌<◌, ◌≤◌, sym, ◌∙◌, ap, arith}
+use Rattle.std.proofs.Common.{◌≡◌, ℕ, suc, ◌+◌, ◌*◌, ◌/◌, ◌%◌, ◌<◌, ◌≤◌, sym, ◌∙◌, ap, arith, lt_of_lt_of_le}
+use Rattle.bp_limits.proofs.Versions.{fields_most}
+use Rattle.bp_layout.specs.Formatted.{version_of}
 use Rattle.bp_layout.specs.Words.{Image, height_of}
 use Rattle.bp_layout.specs.Tree.{IsLiveWord, IsLivePointer}
 use Rattle.bp_layout.specs.Inode.{root_of, size_of, inode_count, StandsAt, ContentStandsAt, RootPlace}
@@ -45,7 +47,8 @@ module _ (image : Image) (wf : IsWellFormed image) (t place value : ℕ) (here :
         absurd (past_end.no_pointer (moved u d k same live));
     inodes = λ i f reached few read stands.
         let in_file : suc i < inode_count image = reached-in_file image wf (suc i) reached in
-        absurd (not_whole 0 (8 * suc i + f) inode_file (omega (arith, in_file, few)) stands);
+        let low : f < 8 = lt_of_lt_of_le few (fields_most (version_of image)) in
+        absurd (not_whole 0 (8 * suc i + f) inode_file (omega (arith, in_file, low)) stands);
     inos = λ i s reached kind in_size stands. absurd (not_whole i (32 * s + 0) reached (omega (arith, in_size)) stands);
     names = λ i s j f reached names few stands. absurd (not_whole i (32 * s + f) reached (omega (arith, names.in_size, few)) stands);
     bytes = λ i o reached kind below stands.

@@ -36,6 +36,7 @@ pub meaning_on : (first second third : Image) → SameMeaning first second → S
 meaning_on first second third one two = record {
   trees = trees_over first second third one two.trees;
   kind = λ t r. two.kind t (reached_on first second one t r) ∙ one.kind t r;
+  attributes = λ t r. two.attributes t (reached_on first second one t r) ∙ one.attributes t r;
   size = λ i r. two.size i (reached_on first second one (suc i) r) ∙ one.size i r;
   inode_blocks = two.inode_blocks;
   inodes = le_trans one.inodes two.inodes;

@@ -1,20 +1,22 @@
 -- One tree of an image gets another shape and holds the same: every other tree stays, and the image means the same.
-use Rattle.std.proofs.Common.{le_of_eq, ◌≡◌, ◌≢◌, ◌⊎◌, ℕ, zero, suc, ◌+◌, ◌*◌, ◌/◌, ◌%◌, ◌<◌, ◌≤◌, length, refl, sym, ◌∙◌, ap, subst, subst₂, arith, inl, inr}
+use Rattle.std.proofs.Common.{le_of_eq, lt_of_lt_of_le, ◌≡◌, ◌≢◌, ◌⊎◌, ℕ, zero, suc, ◌+◌, ◌*◌, ◌/◌, ◌%◌, ◌<◌, ◌≤◌, length, refl, sym, ◌∙◌, ap, subst, subst₂, arith, inl, inr}
 use Rattle.std.proofs.lemmas.Bool.{cases_eq}
 use Rattle.bp_limits.specs.Limits.{greatest_height, super_blocks, super_magic, super_root, super_size}
+use Rattle.bp_limits.proofs.Versions.{fields_most}
 use Rattle.bp_layout.specs.Formatted.{version_of}
 use Rattle.bp_layout.specs.Words.{Image, word, height_of, slot_word, byte_of}
 use Rattle.bp_layout.specs.Tree.{node, content_word, byte, IsLiveWord, HasBlock, IsSound, IsFull}
-use Rattle.bp_layout.specs.Inode.{inode_word, kind_of, root_of, size_of, inode_count}
+use Rattle.bp_layout.specs.Inode.{attributes_of, inode_word, kind_of, root_of, size_of, inode_count}
 use Rattle.bp_layout.specs.Reached.{IsReached, IsLiveBlock}
 use Rattle.bp_layout.specs.Reached.IsReached.{inode_file}
 use Rattle.bp_layout.specs.WellFormed.{IsWellFormed}
 use Rattle.bp_layout.specs.Same.{Same}
+use Rattle.bp_layout.proofs.AttributeLaws.{attributes_alike}
 use Rattle.bp_layout.proofs.TreeLaws.{KeepsPointers, content-kept, tree_word-suc, live_pointer_word, live_content, sound-kept, full-kept, has_block-kept}
 use Rattle.bp_layout.proofs.Reached.{reached-in_file}
 use Rattle.bp_changes.specs.SameContent.{SameContent, IsReadByWords}
 use Rattle.bp_changes.specs.SameMeaning.{SameMeaning}
-use Rattle.bp_changes.proofs.Formatted.{low_stays}
+use Rattle.bp_changes.proofs.Formatted.{low_stays, version_stays}
 use Rattle.bp_changes.proofs.SameMeaning.{same-by_meaning}
 
 -- tree t has this root word in the new image
@@ -60,7 +62,7 @@ module _ (old new : Image) (wf : IsWellFormed old) (t root : ℕ) (reshapes : Re
           (ap (λ r. content_word new r k) reshapes.here ∙ reshapes.content.words (inl e) k (subst (λ x. 8 * k + 8 ≤ size_of old x) (sym e) below))
       go (inr inode) = ap (λ r. content_word new r k) (reshapes.top inode) ∙ word_stays 0 k inode_file (λ e. inode (sym e)) (omega (arith, below)) (λ top. apart)
 
-  inode_word-same : (i f : ℕ) → IsReached old (suc i) → f < 3 → (suc i ≡ t → f ≢ 1) → inode_word new (suc i) f ≡ inode_word old (suc i) f
+  inode_word-same : (i f : ℕ) → IsReached old (suc i) → f < 8 → (suc i ≡ t → f ≢ 1) → inode_word new (suc i) f ≡ inode_word old (suc i) f
   inode_word-same i f reached low apart =
       let in_file : suc i < inode_count old = reached-in_file old wf (suc i) reached in
       inode_file_word (8 * suc i + f) (omega (arith, in_file, low)) (λ e. let same : suc i ≡ t = omega (arith, e, low) in apart same (omega (arith, e, same)))
@@ -68,6 +70,11 @@ module _ (old new : Image) (wf : IsWellFormed old) (t root : ℕ) (reshapes : Re
   kind-same : (u : ℕ) → IsReached old u → kind_of new u ≡ kind_of old u
   kind-same zero reached = refl
   kind-same (suc i) reached = inode_word-same i 0 reached (omega arith) (λ e. omega arith)
+
+  attributes-same : (u : ℕ) → IsReached old u → attributes_of new u ≡ attributes_of old u
+  attributes-same u reached =
+      attributes_alike old new u (version_stays old new reshapes.has_magic) (λ i f e least most.
+      inode_word-same i f (subst (IsReached old) e reached) (lt_of_lt_of_le most (fields_most (version_of old))) (λ same one. omega (arith, one, least)))
 
   pub size-same : (u : ℕ) → IsReached old u → size_of new u ≡ size_of old u
   size-same zero reached = reshapes.inode_bytes
@@ -158,6 +165,7 @@ module _ (old new : Image) (wf : IsWellFormed old) (t root : ℕ) (reshapes : Re
       full_directories = λ i reached kind. full-same i reached (wf.full_directories i reached kind);
     };
     kind = kind-same;
+    attributes = attributes-same;
     size = λ i reached. size-same (suc i) reached;
     inode_blocks = rw (size-same 0 inode_file) wf.inode_blocks;
     inodes = le_of_eq (sym (size-same 0 inode_file));

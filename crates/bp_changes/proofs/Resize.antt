@@ -1,22 +1,24 @@
 -- A store to the size word of a file gives the file that size, and changes nothing else.
-use Rattle.std.proofs.Common.{◌≡◌, ◌≢◌, ◌⊎◌, ℕ, zero, suc, ◌+◌, ◌*◌, ◌/◌, ◌%◌, ◌<◌, ◌≤◌, length, set, refl, sym, ◌∙◌, ap, subst, subst₂, suc-ne-zero, arith, inl, inr, get_or-set_other}
+use Rattle.std.proofs.Common.{◌≡◌, ◌≢◌, ◌⊎◌, ℕ, zero, suc, ◌+◌, ◌*◌, ◌/◌, ◌%◌, ◌<◌, ◌≤◌, length, set, refl, sym, ◌∙◌, ap, subst, subst₂, suc-ne-zero, arith, lt_of_lt_of_le, inl, inr, get_or-set_other}
 use Rattle.std.proofs.lemmas.Bool.{cases_eq}
 use Rattle.std.proofs.lemmas.List.{length-set}
 use Rattle.bp_limits.specs.Limits.{greatest_height}
+use Rattle.bp_limits.proofs.Versions.{fields_most}
 use Rattle.bp_layout.specs.Formatted.{version_of}
 use Rattle.bp_layout.specs.Words.{Image, word, byte_of, height_of, slot_word}
 use Rattle.bp_layout.specs.Tree.{node, content_word, content, HasBlock, IsSound, IsFull, IsLiveWord}
-use Rattle.bp_layout.specs.Inode.{inode_word, kind_of, root_of, size_of, inode_count, ContentStandsAt}
+use Rattle.bp_layout.specs.Inode.{attributes_of, inode_word, kind_of, root_of, size_of, inode_count, ContentStandsAt}
 use Rattle.bp_layout.specs.Reached.{IsReached}
 use Rattle.bp_layout.specs.Reached.IsReached.{inode_file}
 use Rattle.bp_layout.specs.WellFormed.{IsWellFormed}
+use Rattle.bp_layout.proofs.AttributeLaws.{attributes_alike}
 use Rattle.bp_layout.proofs.TreeLaws.{KeepsPointers, content-kept, slot_word-same, tree_word-suc, live_pointer_word, live_content, live_above, sound-kept, full-kept, has_block-kept, has_block-stays}
 use Rattle.bp_layout.proofs.Finding.{map-same}
 use Rattle.bp_layout.proofs.Reached.{reached-in_file}
 use Rattle.bp_changes.proofs.Separation.{stands_in_block}
 use Rattle.bp_changes.proofs.ContentStore.{word-stored, word-elsewhere}
 use Rattle.bp_changes.specs.Effects.{ChangesFile}
-use Rattle.bp_changes.proofs.Formatted.{low_stays}
+use Rattle.bp_changes.proofs.Formatted.{low_stays, version_stays}
 
 -- a file, the place of its size word, and a size under which its tree is sound, not too high, and apart from the others
 pub record CanResize (old : Image) (n size place : ℕ) : Type 0 where
@@ -85,6 +87,12 @@ module _ (old : Image) (wf : IsWellFormed old) (n size place : ℕ) (can : CanRe
   kind_stays : (u : ℕ) → u < inode_count old → kind_of (set old place size) u ≡ kind_of old u
   kind_stays zero low = refl
   kind_stays (suc u) low = inode_word_stays u 0 low (omega arith) (λ e. omega (arith, e))
+
+  attributes_stay : (u : ℕ) → u < inode_count old → attributes_of (set old place size) u ≡ attributes_of old u
+  attributes_stay u low =
+      attributes_alike old (set old place size) u (version_stays old (set old place size) (superblock 0 (omega arith))) (λ n f e least most.
+      let few : f < 8 = lt_of_lt_of_le most (fields_most (version_of old)) in
+      inode_word_stays n f (subst (λ t. t < inode_count old) e low) few (λ same. omega (arith, same, least, few)))
 
   root_stays : (u : ℕ) → u < inode_count old → root_of (set old place size) u ≡ root_of old u
   root_stays zero low = superblock 2 (omega arith)
@@ -197,6 +205,7 @@ module _ (old : Image) (wf : IsWellFormed old) (n size place : ℕ) (can : CanRe
       full_directories = λ i r kind. full_kept i r (file_not i kind) (wf.full_directories i r kind);
     };
     kind = λ t r. kind_stays t (in_file t r);
+    attributes = λ t r. attributes_stay t (in_file t r);
     size = λ t r other. size_stays t (in_file t r) other;
     ino = λ i s r kind low. content_stays i (32 * s + 0) r (directory_not i kind) (omega (arith, low));
     entry = λ i s j f r names few. content_stays i (32 * s + f) r (directory_not i names.directory) (omega (arith, names.in_size, few));

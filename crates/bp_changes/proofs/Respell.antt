@@ -96,7 +96,8 @@ module _ (old new : Image) (wf : IsWellFormed old) (i s j : ℕ) (spells : Respe
 
   node_stays : (u : ℕ) → IsReached old u → node_of new u ≡ node_of old u
   node_stays u reached =
-      node_by_bytes old new u (spells.kind u (in_inodes u reached)) (λ kind. spells.size u (in_inodes u reached)) (λ o kind. spells.bytes u o reached kind)
+      node_by_bytes old new u (spells.kind u (in_inodes u reached)) (spells.attributes u (in_inodes u reached))
+      (λ kind. spells.size u (in_inodes u reached)) (λ o kind. spells.bytes u o reached kind)
 
   now_shown : lookup_in new i (name_at new i s) ≡ Some j
   now_shown =

@@ -51,6 +51,7 @@ module _ (old new : Image) (wf : IsWellFormed old) (same : SameMeaning old new) 
   pub view-same : SameView old new
   view-same = record {
     directories = entries.directories_same old new wf (same_entries old new same);
+    attributes = same.attributes;
     bytes = λ i reached kind.
         rw (size-same old new same i 0 kind reached) (map-same _ _ 0 (size_of old i) (λ o low high. same.bytes i o reached kind (omega (arith, high))));
   }

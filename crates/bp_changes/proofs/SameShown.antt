@@ -1,18 +1,18 @@
 -- What an entry, an inode and a directory show stays where what stands in them does.
 use Rattle.std.proofs.Common.{◌≡◌, ◌⊎◌, ℕ, ◌+◌, ◌*◌, ◌/◌, ◌%◌, ◌<◌, ◌≤◌, Bool, true, false, ◌==◌, Option, None, Some, length, inl, inr}
-use Rattle.std.proofs.Common.{refl, sym, ◌∙◌, ap, arith}
+use Rattle.std.proofs.Common.{refl, sym, ◌∙◌, ap, ap₂, arith}
 use Rattle.std.proofs.lemmas.Bool.{cases_eq, eqb-true}
 use Rattle.std.proofs.lemmas.List.FromFn.{length-map-range_with_len}
 use Rattle.bp_limits.specs.CallLimits.{max_name}
 use Rattle.bp_layout.specs.Words.{Image, byte_of}
 use Rattle.bp_layout.specs.Tree.{byte}
-use Rattle.bp_layout.specs.Inode.{kind_of, root_of, size_of}
+use Rattle.bp_layout.specs.Inode.{attributes_of, kind_of, root_of, size_of}
 use Rattle.bp_layout.specs.Directory.{EntryNames, entry_word, lookup_in, name_at}
 use Rattle.bp_layout.specs.Paths.{Name}
 use Rattle.bp_layout.specs.Reached.{IsReached}
 use Rattle.bp_layout.specs.WellFormed.{IsWellFormed}
 use Rattle.bp_layout.specs.Lookup.{node_of}
-use Rattle.bp_layout.specs.Paths.Node.{file}
+use Rattle.bp_layout.specs.Paths.Node.{dir, file}
 use Rattle.bp_layout.proofs.Finding.{map-same}
 use Rattle.bp_layout.proofs.LookupLaws.{Shows, lookup_in-found, lookup_in-none, lookup_in-shows}
 
@@ -36,16 +36,16 @@ name_by_words old new u x few same =
     rw number (ap (λ w. byte_of w ((256 * x + 16 + o) % 8)) (same (2 + o / 8) (omega arith) (omega (arith, small)))) in
     rw (same 1 (omega arith) (omega arith)) (map-same _ _ 0 (entry_word old u x 1) (λ o low high. byte_stays o (omega (arith, high, short))))
 
--- an inode of the same kind is the same directory, or the same file if its bytes stay
-pub node_by_bytes : (old new : Image) (u : ℕ) → kind_of new u ≡ kind_of old u → (kind_of old u ≡ 1 → size_of new u ≡ size_of old u) →
+-- an inode of the same kind with the same attributes is the same directory, or the same file if its bytes stay
+pub node_by_bytes : (old new : Image) (u : ℕ) → kind_of new u ≡ kind_of old u → attributes_of new u ≡ attributes_of old u → (kind_of old u ≡ 1 → size_of new u ≡ size_of old u) →
     ((o : ℕ) → kind_of old u ≡ 1 → o < size_of old u → byte new (root_of new u) o ≡ byte old (root_of old u) o) → node_of new u ≡ node_of old u
-node_by_bytes old new u kind size bytes = go (kind_of old u == 1) refl
+node_by_bytes old new u kind attributes size bytes = go (kind_of old u == 1) refl
   where
     go : (b : Bool) → (kind_of old u == 1) ≡ b → node_of new u ≡ node_of old u
     go true e =
         let is_file : kind_of old u ≡ 1 = eqb-true _ _ e in
-        rw (kind, e, size is_file) (ap file (map-same _ _ 0 (size_of old u) (λ o low high. bytes o is_file (omega (arith, high)))))
-    go false e = rw (kind, e) refl
+        rw (kind, e, size is_file) (ap₂ file attributes (map-same _ _ 0 (size_of old u) (λ o low high. bytes o is_file (omega (arith, high)))))
+    go false e = rw (kind, e) (ap dir attributes)
 
 -- a name shows what an entry with it names
 pub shown_found : (image : Image) → IsWellFormed image → (i j : ℕ) (name : Name) → IsReached image i → Shows image i name j → lookup_in image i name ≡ Some j

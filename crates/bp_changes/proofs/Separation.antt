@@ -1,5 +1,7 @@
 -- Where the live words of an image stand: in live blocks, and no two at one place. So words that are none may be any.
-use Rattle.std.proofs.Common.{◌≡◌, ℕ, suc, ◌+◌, ◌*◌, ◌/◌, ◌%◌, ◌<◌, ◌≤◌, refl, sym, ◌∙◌, ap, subst, arith}
+use Rattle.std.proofs.Common.{◌≡◌, ℕ, suc, ◌+◌, ◌*◌, ◌/◌, ◌%◌, ◌<◌, ◌≤◌, refl, sym, ◌∙◌, ap, subst, arith, lt_of_lt_of_le}
+use Rattle.bp_limits.proofs.Versions.{fields_most}
+use Rattle.bp_layout.specs.Formatted.{version_of}
 use Rattle.bp_layout.specs.Words.{Image}
 use Rattle.bp_layout.specs.Tree.{node, IsLiveWord, IsLivePointer, HasBlock}
 use Rattle.bp_layout.specs.Inode.{root_of, size_of, inode_count, StandsAt}
@@ -67,7 +69,8 @@ free-harmless image wf b s value low in_block free =
       pointers = λ t d k reached live stands. absurd (not_live t d k reached (live_pointer_word _ _ (suc d) k live) stands);
       inodes = λ i f reached few read stands.
           let in_file : suc i < inode_count image = reached-in_file image wf (suc i) reached in
-          absurd (not_live 0 _ (8 * suc i + f) inode_file (live_content (root_of image 0) (size_of image 0) (8 * suc i + f) (omega (arith, in_file, few))) stands);
+          let small : f < 8 = lt_of_lt_of_le few (fields_most (version_of image)) in
+          absurd (not_live 0 _ (8 * suc i + f) inode_file (live_content (root_of image 0) (size_of image 0) (8 * suc i + f) (omega (arith, in_file, small))) stands);
       inos = λ i slot reached kind in_size stands. absurd (not_live i _ (32 * slot + 0) reached (live_content _ _ (32 * slot + 0) (omega (arith, in_size))) stands);
       names = λ i slot j f reached names few stands. absurd (not_live i _ (32 * slot + f) reached (live_content _ _ (32 * slot + f) (omega (arith, names.in_size, few))) stands);
       bytes = λ i o reached kind below stands. absurd (not_live i _ (o / 8) reached (live_content _ _ (o / 8) (omega (arith, below))) stands);

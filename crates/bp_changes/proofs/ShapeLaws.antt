@@ -7,6 +7,7 @@ use Rattle.std.proofs.lemmas.List.{append-nil, length-append, take-append-le}
 use Rattle.std.proofs.lemmas.List.Sums.{fold-append}
 use Rattle.std.proofs.Math.Nat.{div-lt_iff_lt-mul, pow-le-pow_right}
 use Rattle.std.proofs.Math.Seq.{take-append_seam}
+use Rattle.bp_limits.specs.Limits.{attribute_field}
 use Rattle.bp_layout.specs.Words.{Image, block_of, height_of}
 use Rattle.bp_layout.specs.Tree.{span, IsSound}
 use Rattle.bp_layout.specs.Inode.{IsDirectory, inode_count, root_of, size_of}
@@ -14,7 +15,7 @@ use Rattle.bp_layout.specs.Directory.{empty_slot, ino_at, slots}
 use Rattle.bp_layout.specs.Members.{Each}
 use Rattle.bp_layout.specs.Nodes.{TreeNode, height_for, height_with, is_present, nodes_for, nodes_over, raised_nodes}
 use Rattle.bp_layout.specs.Need.{Beyond, Change, Stretch, beyond, common, common_all, content_path_at, copied, cover, cover_of, entered_at, entry_path_at, existing_from, growth, height_after, is_there, is_there_after, need, new_entry, new_inodes, path_number, pointed, prefixes_of, prepared_for, preparation, same_node, stretch_paths, touched, touched_at}
-use Rattle.bp_layout.specs.Need.Change.{writes, resizes, enters, leaves, replaces, moves, respells, overwrites}
+use Rattle.bp_layout.specs.Need.Change.{writes, resizes, enters, leaves, replaces, moves, respells, overwrites, sets}
 use Rattle.bp_layout.specs.Need.Entrant.{taken, grown, linked}
 use Rattle.bp_layout.specs.Reached.{IsReached}
 use Rattle.bp_layout.specs.Thaw.{cover_now, end_targets, entry_targets, heights_now, is_there_now, slot_target, targets}
@@ -132,6 +133,7 @@ IsOfReached image (replaces i s j r) = IsReached image i × IsReached image j
 IsOfReached image (moves i s j) = IsReached image i × (IsReached image j × IsDirectory image j)
 IsOfReached image (respells i s len) = IsReached image i
 IsOfReached image (overwrites stretches) = Each (λ stretch. IsReached image stretch.inode) stretches
+IsOfReached image (sets i k) = IsReached image i
 
 each-if : {A : Type 0} (P : A → Type 0) (b : Bool) (xs : List A) → Each P xs → Each P (if b then xs else [])
 each-if P true xs all = all
@@ -161,6 +163,7 @@ module _ (old new : Image) (shape : SameShape old new) where
   beyond-same (moves i s j) of = entry-same j of.1.0 of.1.1
   beyond-same (respells i s len) of = refl
   beyond-same (overwrites stretches) of = refl
+  beyond-same (sets i k) of = refl
 
   pub new_inodes-same : (change : Change) → new_inodes new change ≡ new_inodes old change
   new_inodes-same (writes i offset len) = refl
@@ -173,6 +176,7 @@ module _ (old new : Image) (shape : SameShape old new) where
   new_inodes-same (moves i s j) = refl
   new_inodes-same (respells i s len) = refl
   new_inodes-same (overwrites stretches) = refl
+  new_inodes-same (sets i k) = refl
 
   abbrev OfReached : List Beyond → Type 0
   OfReached bs = Each (λ b. IsReached old b.tree) bs
@@ -190,6 +194,7 @@ module _ (old new : Image) (shape : SameShape old new) where
   beyond-reached (moves i s j) of = entry-reached j of.1.0 (empty_slot old j)
   beyond-reached (respells i s len) of = tt
   beyond-reached (overwrites stretches) of = tt
+  beyond-reached (sets i k) of = tt
 
   inodes-reached : (change : Change) → OfReached (new_inodes old change)
   inodes-reached (writes i offset len) = tt
@@ -202,6 +207,7 @@ module _ (old new : Image) (shape : SameShape old new) where
   inodes-reached (moves i s j) = tt
   inodes-reached (respells i s len) = tt
   inodes-reached (overwrites stretches) = tt
+  inodes-reached (sets i k) = tt
 
   prepared-same : (b : Beyond) → IsReached old b.tree → prepared_for new b ≡ prepared_for old b
   prepared-same b reached =
@@ -264,6 +270,7 @@ module _ (old new : Image) (shape : SameShape old new) where
     touched-same (moves i s j) of = ap₂ (λ (p q : WordPath). p ∷ q ∷ []) (entry_at-same j of.1.0 of.1.1) (entry_path-same i of.0 s 0)
     touched-same (respells i s len) of = map_pointwise (entry_path_at g i s) (entry_path_at h i s) (entry_path-same i of s) (range_with_len 1 (suc ((len + 7) / 8)))
     touched-same (overwrites stretches) of = stretches-same stretches of
+    touched-same (sets i k) of = ap (λ (a : ℕ). inode_path a i (attribute_field + k) ∷ []) (alike 0 inode_file)
 
   -- ---- each proper prefix of a touched path leads to a node of the inode file, or of a tree that is reached
 
@@ -320,6 +327,7 @@ module _ (old new : Image) (shape : SameShape old new) where
     touched-on (moves i s j) of = (entered-on j of.1.0 (empty_slot old j), (content-on i of.0 (32 * s + 0), tt))
     touched-on (respells i s len) of = each-map OnTrees (entry_path_at h i s) (λ f. content-on i of (32 * s + f)) (range_with_len 1 (suc ((len + 7) / 8)))
     touched-on (overwrites stretches) of = stretches-on stretches of
+    touched-on (sets i k) of = (digits-on (8 * i + (attribute_field + k)), tt)
 
     -- so does each proper prefix of what they begin with
     common-on : (paths : List WordPath) → Each OnTrees paths → OnTrees (common_all paths)
@@ -457,6 +465,7 @@ module _ (old new : Image) (wf : IsWellFormed old) (shape : SameShape old new) (
   entry_targets-same (moves i s j) of = ap (slot_target new j) (empty-same old new shape j of.1.0 of.1.1) ∙ slot-same j of.1.0 (empty_slot old j)
   entry_targets-same (respells i s len) of = refl
   entry_targets-same (overwrites stretches) of = refl
+  entry_targets-same (sets i k) of = refl
 
   -- so the words near which it stores are the same
   pub targets-shape : targets new change ≡ targets old change

@@ -2,7 +2,7 @@
 use Rattle.std.proofs.Common.{◌≡◌, ◌≢◌, ◌⊎◌, ℕ, ◌+◌, ◌*◌, ◌/◌, ◌%◌, ◌<◌, ◌≤◌, Bool, true, false, ◌&&◌, nat_lt, length, refl, sym, ◌∙◌, subst, arith, inl, inr, true≢false}
 use Rattle.std.proofs.lemmas.Bool.{cases_eq, cases_lt}
 use Rattle.bp_limits.specs.Limits.{version_at}
-use Rattle.bp_limits.specs.CallLimits.{is_two}
+use Rattle.bp_limits.specs.CallLimits.{allows_snapshot}
 use Rattle.bp_layout.specs.Words.{Image, word}
 use Rattle.bp_layout.specs.Reached.{IsLiveBlock}
 use Rattle.bp_layout.specs.Same.{Same}
@@ -25,7 +25,7 @@ pub record Keeps (old new : Image) (in_snapshot : ℕ → Bool) : Type 0 where
 module _ (old new : Image) (in_snapshot : ℕ → Bool) (long : 4 ≤ length old) (snapshot_blocks : AreInSnapshot old in_snapshot) (keeps : Keeps old new in_snapshot) where
   pub has_snapshot-same : has_snapshot new ≡ has_snapshot old
   has_snapshot-same =
-      λ i. is_two (version_at (keeps.superblock 0 (omega arith) (λ e. omega (arith, e)) (λ e. omega (arith, e)) i))
+      λ i. allows_snapshot (version_at (keeps.superblock 0 (omega arith) (λ e. omega (arith, e)) (λ e. omega (arith, e)) i))
       && nat_lt 0 (keeps.superblock 5 (omega arith) (λ e. omega (arith, e)) (λ e. omega (arith, e)) i)
 
   -- what each word of the snapshot's image becomes

@@ -179,7 +179,8 @@ module _ (old new : Image) (wf : IsWellFormed old) (i s j : ℕ) (can : CanUnlin
 
   node_stays : (u : ℕ) → IsReached old u → node_of new u ≡ node_of old u
   node_stays u reached =
-      node_by_bytes old new u (removes.kind u (in_inodes u reached)) (λ kind. removes.size u (in_inodes u reached)) (λ o kind. removes.bytes u o reached kind)
+      node_by_bytes old new u (removes.kind u (in_inodes u reached)) (removes.attributes u (in_inodes u reached))
+      (λ kind. removes.size u (in_inodes u reached)) (λ o kind. removes.bytes u o reached kind)
 
   module _ (parent : Path) (at : lookup old parent ≡ Some i) where
     pub lookup_elsewhere : (path : Path) → (path ≡ parent ++ name_at old i s ∷ [] → ⊥) → lookup new path ≡ lookup old path

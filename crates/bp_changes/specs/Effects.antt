@@ -1,12 +1,12 @@
 -- The effect of each change on an image, in terms of inodes and slots of the trees reachable before. The trees may be
 -- in other blocks afterwards.
-use Rattle.std.specs.Prelude.{◌≡◌, ◌≢◌, ◌⊎◌, ℕ, ◌+◌, ◌*◌, ◌%◌, ◌<◌, ◌≤◌}
+use Rattle.std.specs.Prelude.{◌≡◌, ◌≢◌, ◌⊎◌, ℕ, ◌+◌, ◌*◌, ◌%◌, ◌<◌, ◌≤◌, slice_set}
 use Rattle.bp_limits.specs.Limits.{block_size, entry_size, entry_words}
 use Rattle.bp_layout.specs.Words.{Image}
 use Rattle.bp_layout.specs.Tree.{byte, HasBlock}
-use Rattle.bp_layout.specs.Inode.{IsDirectory, IsFile, inode_count, kind_of, root_of, size_of}
+use Rattle.bp_layout.specs.Inode.{IsDirectory, IsFile, attributes_of, inode_count, kind_of, root_of, size_of}
 use Rattle.bp_layout.specs.Directory.{EntryNames, name_at, ino_at, entry_word, entry_count}
-use Rattle.bp_layout.specs.Paths.{IsName}
+use Rattle.bp_layout.specs.Paths.{IsName, no_attributes}
 use Rattle.bp_layout.specs.Reached.{IsReached}
 use Rattle.bp_changes.specs.KeepsTrees.{KeepsTrees}
 
@@ -25,6 +25,7 @@ pub record ChangesFile (old new : Image) (x : ℕ) : Type 0 where
   pub is_file : IsFile old x
   pub trees : KeepsTrees old new
   pub kind : (t : ℕ) → IsReached old t → kind_of new t ≡ kind_of old t
+  pub attributes : (t : ℕ) → IsReached old t → attributes_of new t ≡ attributes_of old t
   pub size : (t : ℕ) → IsReached old t → t ≢ x → size_of new t ≡ size_of old t
   pub ino : (i s : ℕ) → IsReached old i → IsDirectory old i → s < entry_count old i →
       ino_at new i s ≡ ino_at old i s
@@ -33,12 +34,30 @@ pub record ChangesFile (old new : Image) (x : ℕ) : Type 0 where
   pub bytes : (i o : ℕ) → IsReached old i → i ≢ x → IsFile old i → o < size_of old i →
       byte new (root_of new i) o ≡ byte old (root_of old i) o
 
+-- ---- an attribute
+
+-- attribute k of inode i gets this value, and nothing else changes
+pub record SetsAttribute (old new : Image) (i k value : ℕ) : Type 0 where
+  pub reached : IsReached old i
+  pub trees : KeepsTrees old new
+  pub kind : (t : ℕ) → IsReached old t → kind_of new t ≡ kind_of old t
+  pub attributes : (t : ℕ) → IsReached old t → t ≢ i → attributes_of new t ≡ attributes_of old t
+  pub set : attributes_of new i ≡ slice_set (attributes_of old i) k value
+  pub size : (t : ℕ) → IsReached old t → size_of new t ≡ size_of old t
+  pub ino : (u s : ℕ) → IsReached old u → IsDirectory old u → s < entry_count old u →
+      ino_at new u s ≡ ino_at old u s
+  pub entry : (u s j f : ℕ) → IsReached old u → EntryNames old u s j → f < entry_words →
+      entry_word new u s f ≡ entry_word old u s f
+  pub bytes : (u o : ℕ) → IsReached old u → IsFile old u → o < size_of old u →
+      byte new (root_of new u) o ≡ byte old (root_of old u) o
+
 -- ---- an inode number
 
 -- slot s of directory i gets this inode number, and nothing else changes
 pub record SetsIno (old new : Image) (i s value : ℕ) : Type 0 where
   pub trees : KeepsTrees old new
   pub kind : (u : ℕ) → u < inode_count old → kind_of new u ≡ kind_of old u
+  pub attributes : (u : ℕ) → u < inode_count old → attributes_of new u ≡ attributes_of old u
   pub size : (u : ℕ) → u < inode_count old → size_of new u ≡ size_of old u
   pub ino : ino_at new i s ≡ value
   pub entry : (u r f : ℕ) → IsReached old u → IsDirectory old u → r < entry_count old u → f < entry_words →
@@ -64,8 +83,10 @@ pub record AddsNames (old new : Image) (i s j : ℕ) : Type 0 where
   pub inode_blocks : size_of new 0 % block_size ≡ 0
   pub in_file : j < inode_count new
   pub kind : (u : ℕ) → IsReached old u → kind_of new u ≡ kind_of old u
+  pub attributes : (u : ℕ) → IsReached old u → attributes_of new u ≡ attributes_of old u
   pub new_kind : (1 ≤ kind_of new j) × (kind_of new j ≤ 2)
   pub new_size : size_of new j ≡ 0
+  pub new_attributes : attributes_of new j ≡ no_attributes
   pub file_size : (u : ℕ) → IsReached old u → IsFile old u → size_of new u ≡ size_of old u
   pub directory_size : (u : ℕ) → IsReached old u → IsDirectory old u → size_of new u % entry_size ≡ 0
   pub slots : (u r : ℕ) → IsReached old u → IsDirectory old u → r < entry_count new u →
@@ -88,6 +109,7 @@ pub record LinksName (old new : Image) (i s j : ℕ) : Type 0 where
   pub trees : KeepsTrees old new
   pub inode_bytes : size_of new 0 ≡ size_of old 0
   pub kind : (u : ℕ) → IsReached old u → kind_of new u ≡ kind_of old u
+  pub attributes : (u : ℕ) → IsReached old u → attributes_of new u ≡ attributes_of old u
   pub file_size : (u : ℕ) → IsReached old u → IsFile old u → size_of new u ≡ size_of old u
   pub directory_size : (u : ℕ) → IsReached old u → IsDirectory old u → size_of new u % entry_size ≡ 0
   pub slots : (u r : ℕ) → IsReached old u → IsDirectory old u → r < entry_count new u →
@@ -144,6 +166,7 @@ pub record CanMoveEntry (old : Image) (i s k r j : ℕ) : Type 0 where
 pub record MovesEntry (old new : Image) (i s k r j : ℕ) : Type 0 where
   pub trees : KeepsTrees old new
   pub kind : (u : ℕ) → u < inode_count old → kind_of new u ≡ kind_of old u
+  pub attributes : (u : ℕ) → u < inode_count old → attributes_of new u ≡ attributes_of old u
   pub size : (u : ℕ) → u < inode_count old → size_of new u ≡ size_of old u
   pub emptied : ino_at new i s ≡ 0
   pub entered : ino_at new k r ≡ j
@@ -160,6 +183,7 @@ pub record RespellsEntry (old new : Image) (i s j : ℕ) : Type 0 where
   pub names : EntryNames old i s j
   pub trees : KeepsTrees old new
   pub kind : (u : ℕ) → u < inode_count old → kind_of new u ≡ kind_of old u
+  pub attributes : (u : ℕ) → u < inode_count old → attributes_of new u ≡ attributes_of old u
   pub size : (u : ℕ) → u < inode_count old → size_of new u ≡ size_of old u
   pub ino : (u x : ℕ) → IsReached old u → IsDirectory old u → x < entry_count old u →
       ino_at new u x ≡ ino_at old u x
@@ -192,6 +216,7 @@ pub record CarriesEntry (old new : Image) (i s k r j : ℕ) : Type 0 where
   pub target : IsReached old k
   pub trees : KeepsTrees old new
   pub kind : (u : ℕ) → IsReached old u → kind_of new u ≡ kind_of old u
+  pub attributes : (u : ℕ) → IsReached old u → attributes_of new u ≡ attributes_of old u
   pub size : (u : ℕ) → IsReached old u → u ≢ k → size_of new u ≡ size_of old u
   pub directory_size : size_of new k % entry_size ≡ 0
   pub slots : (x : ℕ) → x < entry_count new k → (x < entry_count old k) ⊎ (x ≡ r)

@@ -1,7 +1,8 @@
 -- Which values may be stored at a place of an image without a change of its meaning.
 use Rattle.std.specs.Prelude.{◌≡◌, ℕ, suc, ◌+◌, ◌*◌, ◌/◌, ◌%◌, ◌<◌, ◌≤◌, length}
-use Rattle.bp_limits.specs.Limits.{entry_words, inode_words, super_size}
+use Rattle.bp_limits.specs.Limits.{entry_words, inode_fields, inode_words, super_size}
 use Rattle.bp_layout.specs.Words.{Image, word, byte_of}
+use Rattle.bp_layout.specs.Formatted.{version_of}
 use Rattle.bp_layout.specs.Tree.{IsLivePointer}
 use Rattle.bp_layout.specs.Inode.{ContentStandsAt, IsDirectory, IsFile, StandsAt, root_of, size_of}
 use Rattle.bp_layout.specs.Directory.{EntryNames, entry_count}
@@ -11,8 +12,8 @@ pub record IsHarmless (image : Image) (place value : ℕ) : Type 0 where
   pub superblock : place ≤ super_size → value ≡ word image place
   pub pointers : (t d k : ℕ) → IsReached image t → IsLivePointer (root_of image t) (size_of image t) (suc d) k →
       StandsAt image t d k place → value ≡ word image place
-  -- an inode's kind and size, and its root word if it has bytes
-  pub inodes : (i f : ℕ) → IsReached image (suc i) → f < 3 → (f ≡ 1 → 0 < size_of image (suc i)) →
+  -- an inode's kind and size, its root word if it has bytes, and in version 3 its attributes
+  pub inodes : (i f : ℕ) → IsReached image (suc i) → f < inode_fields (version_of image) → (f ≡ 1 → 0 < size_of image (suc i)) →
       ContentStandsAt image 0 (inode_words * suc i + f) place → value ≡ word image place
   pub inos : (i s : ℕ) → IsReached image i → IsDirectory image i → s < entry_count image i →
       ContentStandsAt image i (entry_words * s + 0) place → value ≡ word image place

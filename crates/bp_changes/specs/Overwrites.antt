@@ -3,7 +3,7 @@ use Rattle.std.specs.Prelude.{◌≡◌, ℕ, ◌<◌, List, [], ◌∷◌, ◌=
 use Rattle.bp_limits.specs.Limits.{entry_words}
 use Rattle.bp_layout.specs.Words.{Image}
 use Rattle.bp_layout.specs.Tree.{byte}
-use Rattle.bp_layout.specs.Inode.{IsDirectory, IsFile, kind_of, root_of, size_of}
+use Rattle.bp_layout.specs.Inode.{IsDirectory, IsFile, attributes_of, kind_of, root_of, size_of}
 use Rattle.bp_layout.specs.Directory.{EntryNames, ino_at, entry_word, entry_count}
 use Rattle.bp_layout.specs.Reached.{IsReached}
 use Rattle.bp_changes.specs.KeepsTrees.{KeepsTrees}
@@ -30,6 +30,7 @@ patched (patch ∷ patches) i o had = patched patches i o (patched_by patch i o 
 pub record OverwritesFiles (patches : List Patch) (old new : Image) : Type 0 where
   pub trees : KeepsTrees old new
   pub kind : (t : ℕ) → IsReached old t → kind_of new t ≡ kind_of old t
+  pub attributes : (t : ℕ) → IsReached old t → attributes_of new t ≡ attributes_of old t
   pub size : (t : ℕ) → IsReached old t → size_of new t ≡ size_of old t
   pub ino : (i s : ℕ) → IsReached old i → IsDirectory old i → s < entry_count old i →
       ino_at new i s ≡ ino_at old i s

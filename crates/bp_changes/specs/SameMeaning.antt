@@ -4,7 +4,7 @@ use Rattle.std.specs.Prelude.{◌≡◌, ℕ, suc, ◌%◌, ◌<◌, ◌≤◌}
 use Rattle.bp_limits.specs.Limits.{block_size, entry_words}
 use Rattle.bp_layout.specs.Words.{Image}
 use Rattle.bp_layout.specs.Tree.{byte}
-use Rattle.bp_layout.specs.Inode.{IsDirectory, IsFile, kind_of, root_of, size_of}
+use Rattle.bp_layout.specs.Inode.{IsDirectory, IsFile, attributes_of, kind_of, root_of, size_of}
 use Rattle.bp_layout.specs.Directory.{EntryNames, ino_at, entry_word, entry_count}
 use Rattle.bp_layout.specs.Reached.{IsReached}
 use Rattle.bp_changes.specs.KeepsTrees.{KeepsTrees}
@@ -12,6 +12,7 @@ use Rattle.bp_changes.specs.KeepsTrees.{KeepsTrees}
 pub record SameMeaning (old new : Image) : Type 0 where
   pub trees : KeepsTrees old new
   pub kind : (t : ℕ) → IsReached old t → kind_of new t ≡ kind_of old t
+  pub attributes : (t : ℕ) → IsReached old t → attributes_of new t ≡ attributes_of old t
   pub size : (i : ℕ) → IsReached old (suc i) → size_of new (suc i) ≡ size_of old (suc i)
   -- the inode file may grow
   pub inode_blocks : size_of new 0 % block_size ≡ 0

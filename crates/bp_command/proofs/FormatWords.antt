@@ -73,7 +73,7 @@ module _ (x d : ℕ) (xs ds : Text) (h : nat_eq x 45 ≡ false) (k : nat_eq d 45
 
   -- ---- that name one
 
-  module _ (v : ℕ) (l : nat_eq v 45 ≡ false) (b : accepts false (vp.Unsigned 1 2) (v ∷ []) ≡ true) where
+  module _ (v : ℕ) (l : nat_eq v 45 ≡ false) (b : accepts false (vp.Unsigned 1 3) (v ∷ []) ≡ true) where
     abbrev given : List Text
     given = (x ∷ xs) ∷ codes "--blocks" ∷ (d ∷ ds) ∷ codes "--version" ∷ (v ∷ []) ∷ []
 

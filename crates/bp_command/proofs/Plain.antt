@@ -7,7 +7,7 @@ use Rattle.clap.specs.Words.{Text}
 use Rattle.clap.proofs.OnLiterals.{clap_on_literals}
 use Rattle.bp_command.specs.Commands.{IsTaken}
 use Rattle.bp_limits.specs.declared.version.Version.{Version}
-use Rattle.bp_limits.specs.declared.version.Version.TheVariants.{One, Two}
+use Rattle.bp_limits.specs.declared.version.Version.TheVariants.{One, Two, Three}
 use Rattle.bp_command.specs.Programs.{Asks, IsProper, Program, max_seed, program_words, short_words, version_words}
 use Rattle.bp_command.proofs.Walking.{some_name}
 use Rattle.bp_command.proofs.FormatWords.{taken_format, taken_short}
@@ -67,6 +67,7 @@ module _ (called : Text) where
   taken_in_short (formats [] blocks version) proper = absurd (omega (arith, proper.0.some))
   taken_in_short (formats (x ∷ xs) blocks One) proper = no_version x blocks xs (ne_eqb _ _ proper.0.plain) proper.1 proper.2
   taken_in_short (formats (x ∷ xs) blocks Two) proper = taken (formats (x ∷ xs) blocks Two) proper
+  taken_in_short (formats (x ∷ xs) blocks Three) proper = taken (formats (x ∷ xs) blocks Three) proper
   taken_in_short (runs name) proper = taken (runs name) proper
   taken_in_short (checks name) proper = taken (checks name) proper
   taken_in_short (exports name) proper = taken (exports name) proper

@@ -12,7 +12,7 @@ use Rattle.clap.specs.declared.builder.value_parser.ValueParser.TheVariants as v
 use Rattle.clap.proofs.ValueTestLemmas.{Accepts-accepts}
 use Rattle.bp_limits.specs.Numbers.{version_numbered}
 use Rattle.bp_limits.specs.declared.version.Version.{Version}
-use Rattle.bp_limits.specs.declared.version.Version.TheVariants.{One, Two}
+use Rattle.bp_limits.specs.declared.version.Version.TheVariants.{One, Two, Three}
 use Rattle.bp_command.specs.Programs.{version_words}
 
 first_digit : (d : ℕ) (ds : Text) → IsNumeral 10 (d ∷ ds) → (nat_eq d 43 ≡ false) × (nat_eq d 45 ≡ false)
@@ -64,12 +64,13 @@ inside e = cc
 pub record IsDigitOf (version : Version) (v : ℕ) : Type 0 where
   pub words : version_words version ≡ codes "--version" ∷ (v ∷ []) ∷ []
   pub plain : nat_eq v 45 ≡ false
-  pub passes : accepts false (vp.Unsigned 1 2) (v ∷ []) ≡ true
+  pub passes : accepts false (vp.Unsigned 1 3) (v ∷ []) ≡ true
   pub value : version_numbered (digits_value 10 (without_leading_plus (v ∷ []))) ≡ version
 
 pub digit_of : (version : Version) → (v : ℕ) × IsDigitOf version v
 digit_of One = (49, record { words = refl; plain = refl; passes = refl; value = refl })
 digit_of Two = (50, record { words = refl; plain = refl; passes = refl; value = refl })
+digit_of Three = (51, record { words = refl; plain = refl; passes = refl; value = refl })
 
 -- the words of a format, by the digits of its numbers
 abbrev pub blocks_words : Text → ℕ → Text → Text → List Text

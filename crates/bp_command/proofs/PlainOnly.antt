@@ -9,7 +9,7 @@ use Rattle.clap.proofs.OnLiterals.{clap_on_literals}
 use Rattle.bp_command.specs.Commands.{subcommand_named}
 use Rattle.bp_limits.specs.Numbers.{version_numbered}
 use Rattle.bp_limits.specs.declared.version.Version.{Version}
-use Rattle.bp_limits.specs.declared.version.Version.TheVariants.{One, Two}
+use Rattle.bp_limits.specs.declared.version.Version.TheVariants.{One, Two, Three}
 use Rattle.bp_command.specs.Programs.{Asks, IsProper, Names, Program, Requests, max_seed, program_words, short_words, version_words}
 use Rattle.bp_command.proofs.Apart.{apart}
 use Rattle.bp_command.proofs.Walking.{Numbers, numbers_of, parts}
@@ -181,6 +181,7 @@ module _ (called : Text) where
   only_in_short (formats [] blocks version) other proper asked = absurd (omega (arith, proper.0.some))
   only_in_short (formats (x ∷ xs) blocks One) other proper asked = only_first x blocks xs other (ne_eqb _ _ proper.0.plain) proper.1 proper.2 asked
   only_in_short (formats (x ∷ xs) blocks Two) other proper asked = only (formats (x ∷ xs) blocks Two) other proper asked
+  only_in_short (formats (x ∷ xs) blocks Three) other proper asked = only (formats (x ∷ xs) blocks Three) other proper asked
   only_in_short (runs name) other proper asked = only (runs name) other proper asked
   only_in_short (checks name) other proper asked = only (checks name) other proper asked
   only_in_short (exports name) other proper asked = only (exports name) other proper asked

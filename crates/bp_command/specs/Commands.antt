@@ -28,7 +28,7 @@ version_rule = record (new_rule (codes "version")) {
   long = Some (codes "version");
   value_names = 1;
   defaults = codes "1" ∷ [];
-  parser = Some (vp.Unsigned 1 2);
+  parser = Some (vp.Unsigned 1 3);
 }
 
 abbrev pub format_app : App

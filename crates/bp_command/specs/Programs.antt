@@ -7,7 +7,7 @@ use Rattle.clap.specs.declared.builder.value_parser.ValueParser.TheVariants as v
 use Rattle.bp_limits.specs.Limits.{max_file_blocks, max_turns, min_blocks}
 use Rattle.bp_limits.specs.Numbers.{version_numbered}
 use Rattle.bp_limits.specs.declared.version.Version.{Version}
-use Rattle.bp_limits.specs.declared.version.Version.TheVariants.{One, Two}
+use Rattle.bp_limits.specs.declared.version.Version.TheVariants.{One, Two, Three}
 use Rattle.bp_command.specs.Commands.{IsTaken, subcommand_named}
 use Rattle.bp_command.specs.declared.arguments.Program.{Program as Asked}
 use Rattle.bp_command.specs.declared.arguments.Program.TheVariants.{Format, Run, Check, Play, Export}
@@ -37,7 +37,7 @@ abbrev pub first_version : ℕ
 first_version = 1
 
 abbrev pub last_version : ℕ
-last_version = 2
+last_version = 3
 
 -- The number of blocks of a format is one that an image may have; the seed and the count of a play are in range.
 abbrev pub HasNumbersInRange : Program → Type 0
@@ -61,6 +61,7 @@ format_words name blocks = codes "format" ∷ name ∷ codes "--blocks" ∷ deci
 abbrev pub version_words : Version → List (List ℕ)
 version_words One = codes "--version" ∷ codes "1" ∷ []
 version_words Two = codes "--version" ∷ codes "2" ∷ []
+version_words Three = codes "--version" ∷ codes "3" ∷ []
 
 -- The arguments of a program, after the name under which it was called.
 abbrev pub program_words : Program → List (List ℕ)

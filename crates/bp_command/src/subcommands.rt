@@ -37,9 +37,9 @@ fn version<'a>(alloc: Global) -> Arg<'a>
     Arg::new(alloc, "version")
         .long("version")
         .value_name("V")
-        .help("Version of the format: 1, or 2 for larger files, longer writes and a snapshot")
+        .help("Version of the format, 1 to 3: 2 has larger files and a snapshot, 3 also attributes")
         .default_value("1")
-        .value_parser(value_parser!(u64).range(1..=2))
+        .value_parser(value_parser!(u64).range(1..=3))
 }
 
 /// Defines the seed from which the operations of a play are made: any 64-bit number.

@@ -4,7 +4,7 @@ use Rattle.std.specs.Option.{is_some, option_map, unwrap_or}
 use Rattle.std.proofs.lemmas.Bool.{eqb-false, eqb-true}
 use Rattle.std.specs.FinMap.{entries, entries_sorted, keys}
 use Rattle.std.specs.FinMap.Entries.{is_sorted}
-use Rattle.bp_layout.specs.Paths.{same_path, Node, Path}
+use Rattle.bp_layout.specs.Paths.{same_path, Attributes, Node, Path}
 use Rattle.bp_layout.specs.Inode.{IsDirectory, IsFile, kind_of}
 use Rattle.bp_layout.specs.Lookup.{are_one, file_at, lookup}
 use Rattle.bp_layout.specs.Paths.Node.{dir}
@@ -149,8 +149,8 @@ module _ (image : Image) (tree : PathMap) (shows : Shows image tree) (q : Path) 
   own_calls : (node : Node) → first_of tree q ≡ q → calls_at tree (q, node) ≡ calls_for (path_text q) node
   own_calls node own = rw (not_root q some, own, same_path-self q) refl
 
-  pub directory_calls : file_at image q ≡ None → calls_at tree (q, dir) ≡ mkdir (path_text q) ∷ []
-  directory_calls none = own_calls dir (ap (λ o. unwrap_or o q) (none_passes (is_one tree.one q) (keys tree.nodes) (λ p. shows.one q p ∙ ap (λ o. are_one o (file_at image p)) none)))
+  pub directory_calls : (attributes : Attributes) → file_at image q ≡ None → calls_at tree (q, dir attributes) ≡ mkdir (path_text q) ∷ []
+  directory_calls attributes none = own_calls (dir attributes) (ap (λ o. unwrap_or o q) (none_passes (is_one tree.one q) (keys tree.nodes) (λ p. shows.one q p ∙ ap (λ o. are_one o (file_at image p)) none)))
 
   module _ (noted later : List Entry) (node : Node) (order : entries tree.nodes ≡ noted ++ (q, node) ∷ later) (i : ℕ) (at : file_at image q ≡ Some i) where
     first_is : first_of tree q ≡ unwrap_or (find (finds_file image i) (paths noted)) q

@@ -4,8 +4,9 @@ use Rattle.std.specs.Prelude.{All, Result, Ok, Err, OnOk}
 use Rattle.std.proofs.lemmas.List.Elements.{All-head}
 use Rattle.bp_io.specs.Views.{SinkView}
 use Rattle.bp_io.specs.declared.faults.Failed.{Failed}
-use Rattle.bp_layout.specs.Inode.{IsDirectory, IsFile, root_of, size_of}
+use Rattle.bp_layout.specs.Inode.{IsDirectory, IsFile, attributes_of, root_of, size_of}
 use Rattle.bp_layout.specs.Lookup.{file_at, node_of}
+use Rattle.bp_layout.specs.Paths.{no_attributes}
 use Rattle.bp_layout.specs.Paths.Node.{file}
 use Rattle.bp_layout.specs.Names.{AreCounts}
 use Rattle.bp_layout.specs.Tree.{IsSound, content}
@@ -58,7 +59,7 @@ module _ (image : Image) (wf : IsWellFormed image) (counts : List ℕ) (i : ℕ)
       pub directory_here : IsDirectory image i → calls_here place ≡ mkdir text ∷ []
       directory_here kind = one_entry (mkdir text ∷ [])
           (ap (λ node. calls_at place.tree (place.path, node)) (node_of-directory image i kind)
-          ∙ directory_calls image place.tree stands.can.shows place.path some (no_file_here image place.path i stands.found kind)
+          ∙ directory_calls image place.tree stands.can.shows place.path some (attributes_of image i) (no_file_here image place.path i stands.found kind)
           ∙ ap (λ l. mkdir l ∷ []) (sym stands.spelled))
 
       pub fits_mkdir : IsDirectory image i → FitsText (mkdir text)
@@ -95,13 +96,13 @@ module _ (image : Image) (wf : IsWellFormed image) (counts : List ℕ) (i : ℕ)
             single_new image place.tree stands.can.shows place.path some place.noted place.later (node_of image i) stands.order i at (slice_index counts i) (are.each i low) few
 
         module _ (new : text_of_first image i place.noted ≡ None) where
-          pub made_here : calls_here place ≡ calls_for text (file bytes)
-          made_here = one_entry (calls_for text (file bytes))
+          pub made_here : calls_here place ≡ calls_for text (file no_attributes bytes)
+          made_here = one_entry (calls_for text (file no_attributes bytes))
               (first_calls image place.tree stands.can.shows place.path some place.noted place.later (node_of image i) stands.order i at new
               ∙ ap (λ node. calls_for (path_text place.path) node) (node_of-file image i kind)
-              ∙ ap (λ l. calls_for l (file bytes)) (sym stands.spelled))
+              ∙ ap (λ l. calls_for l (file no_attributes bytes)) (sym stands.spelled))
 
-          pub fits_made : All FitsText (calls_for text (file bytes))
+          pub fits_made : All FitsText (calls_for text (file no_attributes bytes))
           fits_made = subst (All FitsText) made_here fits_here
 
     -- ---- how it ends
@@ -130,13 +131,13 @@ module _ (image : Image) (wf : IsWellFormed image) (counts : List ℕ) (i : ℕ)
     sound_here root size root_is size_is = subst₂ (IsSound image) (sym root_is) (sym size_is) (wf.sound i (found_reached image wf place.path i stands.found))
 
     module _ (below : 1 ≤ length text) (kind : IsFile image i) (new : text_of_first image i place.noted ≡ None) (root size : ℕ) (root_is : root ≡ root_of image i) (size_is : size ≡ size_of image i) where
-      made_from : calls_here place ≡ calls_for text (file (content image root size))
-      made_from = subst₂ (λ r s. calls_here place ≡ calls_for text (file (content image r s))) (sym root_is) (sym size_is) (made_here below kind new)
+      made_from : calls_here place ≡ calls_for text (file no_attributes (content image root size))
+      made_from = subst₂ (λ r s. calls_here place ≡ calls_for text (file no_attributes (content image r s))) (sym root_is) (sym size_is) (made_here below kind new)
 
-      pub fits_from : All FitsText (calls_for text (file (content image root size)))
-      fits_from = subst₂ (λ r s. All FitsText (calls_for text (file (content image r s)))) (sym root_is) (sym size_is) (fits_made below kind new)
+      pub fits_from : All FitsText (calls_for text (file no_attributes (content image root size)))
+      fits_from = subst₂ (λ r s. All FitsText (calls_for text (file no_attributes (content image r s)))) (sym root_is) (sym size_is) (fits_made below kind new)
 
-      pub toured_from : {T : Type 0} (r : Result T Fault) (b c : List ℕ) (t u : SinkView) → Goes (calls_for text (file (content image root size))) r b c t u → (after : Firsts) → RemembersFirsts image counts after (place.noted ++ itself image i place.tree place.path)
+      pub toured_from : {T : Type 0} (r : Result T Fault) (b c : List ℕ) (t u : SinkView) → Goes (calls_for text (file no_attributes (content image root size))) r b c t u → (after : Firsts) → RemembersFirsts image counts after (place.noted ++ itself image i place.tree place.path)
           → Tours image counts (itself image i) place r after b c t u
       toured_from {T} r b c t u goes after remembers =
           record { goes = subst (λ (l : List Call). Goes {T = T} l r b c t u) (sym made_from) goes; remembers = where_ok r }

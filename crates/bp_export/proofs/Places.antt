@@ -10,8 +10,8 @@ use Rattle.std.proofs.lemmas.List.Elements.{All-drop, All-get_or, All-take}
 use Rattle.std.proofs.lemmas.List.Folds.{flat_map-map}
 use Rattle.std.proofs.lemmas.Option.{get_or_from_slice_get, slice_get-map, slice_get_within}
 use Rattle.bp_layout.specs.Directory.{lookup_in}
-use Rattle.bp_layout.specs.Paths.{Name, Node, Path}
-use Rattle.bp_layout.specs.Inode.{IsDirectory, IsFile}
+use Rattle.bp_layout.specs.Paths.{Attributes, Name, Node, Path}
+use Rattle.bp_layout.specs.Inode.{IsDirectory, IsFile, attributes_of}
 use Rattle.bp_layout.specs.Lookup.{lookup, node_of}
 use Rattle.bp_layout.specs.Paths.Node.{dir, file}
 use Rattle.bp_layout.specs.Words.{Image}
@@ -59,37 +59,37 @@ module _ (image : Image) (tree : PathMap) (can : CanExport image tree) where
   walked : IsWalked tree
   walked = map_walked tree (shows_path_map image tree can.shows)
 
-  directory_here : (path : Path) → get tree.nodes path ≡ Some dir → entries_below tree path ≡ (path, dir) ∷ inside tree path
-  directory_here path at =
-      walked.at_dir path at ∙ ap (λ es. (path, dir) ∷ es) (sym (flat_map-map (λ name. entries_below tree (path ++ name ∷ [])) (λ entry. entry.1) (listing tree.nodes path)))
+  directory_here : (path : Path) (attributes : Attributes) → get tree.nodes path ≡ Some (dir attributes) → entries_below tree path ≡ (path, dir attributes) ∷ inside tree path
+  directory_here path attributes at =
+      walked.at_dir path attributes at ∙ ap (λ es. (path, dir attributes) ∷ es) (sym (flat_map-map (λ name. entries_below tree (path ++ name ∷ [])) (λ entry. entry.1) (listing tree.nodes path)))
 
   node_here : (path : Path) (i : ℕ) → lookup image path ≡ Some i → get tree.nodes path ≡ Some (node_of image i)
   node_here path i found = can.shows.shows path ∙ ap (option_map (node_of image)) found
 
-  node-directory : (i : ℕ) → IsDirectory image i → node_of image i ≡ dir
+  node-directory : (i : ℕ) → IsDirectory image i → node_of image i ≡ dir (attributes_of image i)
   node-directory i kind = rw kind refl
 
   -- ---- the root
 
   abbrev pub root_place : Place
-  root_place = record { tree = tree; path = []; noted = ([], dir) ∷ []; later = [] }
+  root_place = record { tree = tree; path = []; noted = ([], dir (attributes_of image 1)) ∷ []; later = [] }
 
   pub stands_at_root : (counts : List ℕ) (firsts : Firsts) → ((i : ℕ) → first_text firsts i ≡ None) → WalkStandsAt image counts inside 1 [] firsts root_place
   stands_at_root counts firsts none = record {
     can = can;
     found = refl;
     spelled = refl;
-    order = sym walked.all ∙ directory_here [] root_here ∙ ap (λ es. ([], dir) ∷ es) (sym (append-nil (inside tree [])));
+    order = sym walked.all ∙ directory_here [] (attributes_of image 1) root_here ∙ ap (λ es. ([], dir (attributes_of image 1)) ∷ es) (sym (append-nil (inside tree [])));
     remembers = record { each = λ i several. none i ∙ sym (nothing i) };
   }
     where
       kind : IsDirectory image 1
       kind = can.shows.well_formed.root_kind
 
-      root_here : get tree.nodes [] ≡ Some dir
+      root_here : get tree.nodes [] ≡ Some (dir (attributes_of image 1))
       root_here = node_here [] 1 refl ∙ ap Some (node-directory 1 kind)
 
-      nothing : (i : ℕ) → text_of_first image i (([], dir) ∷ []) ≡ None
+      nothing : (i : ℕ) → text_of_first image i (([], dir (attributes_of image 1)) ∷ []) ≡ None
       nothing i = rw (finds_none image i [] (no_file_here image [] 1 refl kind)) refl
 
 -- ---- the calls of what is next
@@ -152,15 +152,15 @@ module _ (image : Image) (counts : List ℕ) (i : ℕ) (text : List ℕ) (before
 
     -- what is below the entry
     abbrev pub below_node : Node → List Entry
-    below_node dir = inside tree child
-    below_node (file content) = []
+    below_node (dir attributes) = inside tree child
+    below_node (file attributes content) = []
 
     below_child : entries_below tree child ≡ itself image j tree child ++ below_node (node_of image j)
     below_child = go (node_of image j) refl
       where
         go : (node : Node) → node_of image j ≡ node → entries_below tree child ≡ (child, node_of image j) ∷ below_node (node_of image j)
-        go dir is = rw is (directory_here image tree stands.can child (child_there ∙ ap Some is))
-        go (file content) is = rw is ((walked image tree stands.can).at_file child content (child_there ∙ ap Some is))
+        go (dir attributes) is = rw is (directory_here image tree stands.can child attributes (child_there ∙ ap Some is))
+        go (file attributes content) is = rw is ((walked image tree stands.can).at_file child attributes content (child_there ∙ ap Some is))
 
     abbrev pub following : List Entry
     following = entries_at tree place.path (drop (k + 1) names)

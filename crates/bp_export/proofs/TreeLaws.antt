@@ -1,6 +1,6 @@
 -- The whole of a tree, and the inodes of its paths.
 use Rattle.std.proofs.Common.{◌≡◌, ℕ, zero, suc, ◌*◌, ◌/◌, ◌<◌, ◌≤◌, List, [], flat_map, None, Some, refl, sym, ◌∙◌, ap, arith, append-nil}
-use Rattle.bp_layout.specs.Inode.{IsDirectory, IsFile, inode_count, root_of, size_of}
+use Rattle.bp_layout.specs.Inode.{IsDirectory, IsFile, attributes_of, inode_count, root_of, size_of}
 use Rattle.bp_layout.specs.Lookup.{lookup, node_of}
 use Rattle.bp_layout.specs.Paths.{Path}
 use Rattle.bp_layout.specs.Paths.Node.{dir, file}
@@ -48,10 +48,10 @@ has_count image wf i n high is =
     let few : size_of image 0 / 64 ≤ 64 * block_count image = few_inodes image (root_of image 0) (size_of image 0) (wf.sound 0 inode_file) wf.full_inode_file (omega (arith, wf.formatted.sized.at_least)) wf.inode_blocks in
     omega (arith, few, high, is)
 
-pub node_of-directory : (image : Image) (i : ℕ) → IsDirectory image i → node_of image i ≡ dir
+pub node_of-directory : (image : Image) (i : ℕ) → IsDirectory image i → node_of image i ≡ dir (attributes_of image i)
 node_of-directory image i kind = rw kind refl
 
-pub node_of-file : (image : Image) (i : ℕ) → IsFile image i → node_of image i ≡ file (content image (root_of image i) (size_of image i))
+pub node_of-file : (image : Image) (i : ℕ) → IsFile image i → node_of image i ≡ file (attributes_of image i) (content image (root_of image i) (size_of image i))
 node_of-file image i kind = rw kind refl
 
 -- ---- the whole tree

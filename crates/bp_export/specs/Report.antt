@@ -3,6 +3,7 @@ use Rattle.std.specs.Prelude.{ℕ, ◌+◌, ◌*◌, min, List, [], ◌∷◌, �
 use Rattle.bp_io.specs.Causes.{HasCause}
 use Rattle.bp_io.specs.Views.{SinkView}
 use Rattle.bp_io.specs.declared.faults.Failed.{Failed}
+use Rattle.bp_layout.specs.Paths.{no_attributes}
 use Rattle.bp_layout.specs.Paths.Node.{file}
 use Rattle.bp_layout.specs.Tree.{content}
 use Rattle.bp_limits.specs.Limits.{block_size}
@@ -34,9 +35,9 @@ ReportsAmong calls result replies sink replies_now sink_now =
 abbrev pub content_in : Memory → Tree → List ℕ
 content_in memory tree = content (current_words memory) tree.root tree.size
 
--- The calls that make this file at the path with this text.
+-- The calls that make this file at the path with this text. They do not depend on its attributes.
 abbrev pub calls_to_make : List ℕ → Memory → Tree → List Call
-calls_to_make text memory tree = calls_for text (file (content_in memory tree))
+calls_to_make text memory tree = calls_for text (file no_attributes (content_in memory tree))
 
 -- The end of the write of a stretch, in a file of this size; none if the bytes of the stretch are zeros.
 abbrev pub write_end : List ℕ → ℕ → ℕ → Option ℕ

@@ -1,9 +1,10 @@
 -- Two images that differ only in words of the superblock in which no tree stands: one is a file system where the other is.
-use Rattle.std.proofs.Common.{◌≡◌, ℕ, zero, suc, ◌+◌, ◌*◌, ◌/◌, ◌%◌, ◌<◌, ◌≤◌, length, refl, sym, ◌∙◌, ap, subst, subst₂, arith, le_trans}
-use Rattle.bp_limits.specs.Limits.{greatest_height}
+use Rattle.std.proofs.Common.{◌≡◌, ℕ, zero, suc, ◌+◌, ◌*◌, ◌/◌, ◌%◌, ◌<◌, ◌≤◌, [], ◌∷◌, if◌then◌else◌, length, refl, sym, ◌∙◌, ap, subst, subst₂, arith, le_trans}
+use Rattle.bp_limits.specs.CallLimits.{allows_attributes}
+use Rattle.bp_limits.specs.Limits.{attribute_field, greatest_height}
 use Rattle.bp_layout.specs.Words.{Image, word, block_of, height_of, slot_word, byte_of}
 use Rattle.bp_layout.specs.Tree.{tree_word, content_word, byte, HasBlock, IsSound, IsFull}
-use Rattle.bp_layout.specs.Inode.{inode_word, kind_of, root_of, size_of}
+use Rattle.bp_layout.specs.Inode.{attribute, attributes_of, inode_word, kind_of, root_of, size_of}
 use Rattle.bp_layout.specs.Directory.{EntryNames, name_at}
 use Rattle.bp_layout.specs.Paths.{IsName, Path}
 use Rattle.bp_layout.specs.Reached.{IsReached}
@@ -13,7 +14,7 @@ use Rattle.bp_layout.specs.Formatted.{IsFormatted, version_of}
 use Rattle.bp_layout.specs.WellFormed.{IsWellFormed}
 use Rattle.bp_layout.proofs.Finding.{map-same}
 use Rattle.bp_layout.proofs.TreeLaws.{KeepsPointers, sound-kept, full-kept, has_block-kept}
-use Rattle.bp_layout.proofs.View.{SameView, find_one-same, shown-same}
+use Rattle.bp_layout.proofs.View.{SameDirectories, SameView, find_one-same, shown-same}
 
 -- the second image has the words of the first, except for some of the first block
 pub record SameTrees (old new : Image) : Type 0 where
@@ -107,20 +108,35 @@ module _ (old new : Image) (same : SameTrees old new) where
     names_once = λ i s q j k r n m e. wf.names_once i s q j k (reached_back i r) (names_back i s j n) (names_back i q k m) (sym (name-same i s) ∙ e ∙ name-same i q);
   }
 
-  pub view-same : SameView old new
-  view-same = record {
-    directories = record {
-      kind = λ i r. kind-same i;
-      count = λ i r kind. ap (λ z. z / 256) (size-same i);
-      ino = λ i s r kind low. content_word-same i (32 * s + 0);
-      name = λ i s j r n. name-same i s;
-    };
+  pub directories-same : SameDirectories old new
+  directories-same = record {
+    kind = λ i r. kind-same i;
+    count = λ i r kind. ap (λ z. z / 256) (size-same i);
+    ino = λ i s r kind low. content_word-same i (32 * s + 0);
+    name = λ i s j r n. name-same i s;
+  }
+
+  pub still_one : (p q : Path) → find_one new p q ≡ find_one old p q
+  still_one = find_one-same old new directories-same
+
+  -- both versions have attributes, or neither has
+  abbrev pub KeepsAttributes : Type 0
+  KeepsAttributes = allows_attributes (version_of new) ≡ allows_attributes (version_of old)
+
+  attribute-same : KeepsAttributes → (t k : ℕ) → attribute new t k ≡ attribute old t k
+  attribute-same both zero k = refl
+  attribute-same both (suc i) k = λ n. if both n then inode_word-same (suc i) (attribute_field + k) n else 0
+
+  pub attributes-same : KeepsAttributes → (t : ℕ) → attributes_of new t ≡ attributes_of old t
+  attributes-same both t = λ n. attribute-same both t 0 n ∷ attribute-same both t 1 n ∷ attribute-same both t 2 n ∷ []
+
+  pub view-same : KeepsAttributes → SameView old new
+  view-same both = record {
+    directories = directories-same;
+    attributes = λ i r. attributes-same both i;
     bytes = λ i r kind. rw (size-same i) (map-same _ _ 0 _ (λ o low high. byte-same i o));
   }
 
-  -- and shows the same
-  pub still_shown : (path : Path) → shown new path ≡ shown old path
-  still_shown = shown-same old new view-same
-
-  pub still_one : (p q : Path) → find_one new p q ≡ find_one old p q
-  still_one = find_one-same old new view-same.directories
+  -- and shows the same, if both versions have attributes or neither has
+  pub still_shown : KeepsAttributes → (path : Path) → shown new path ≡ shown old path
+  still_shown both = shown-same old new (view-same both)

@@ -1,10 +1,10 @@
 -- A formatted image is well-formed, of its version, and shows the root directory alone.
-use Rattle.std.proofs.Common.{◌≡◌, ◌⊎◌, ℕ, suc, ◌+◌, ◌*◌, ◌%◌, ◌<◌, ◌≤◌, [], ◌∷◌, false, length, None, Some, refl, sym, ◌∙◌, ap, subst, suc-ne-zero, arith, inl, inr}
+use Rattle.std.proofs.Common.{◌≡◌, ◌⊎◌, ℕ, zero, suc, ◌+◌, ◌*◌, ◌%◌, ◌<◌, ◌≤◌, [], ◌∷◌, false, true, length, None, Some, refl, sym, ◌∙◌, ap, subst, suc-ne-zero, arith, inl, inr}
 use Rattle.bp_layout.specs.Words.{Image, word, block_count, block_of, height_of, slot_word}
 use Rattle.bp_layout.specs.Tree.{HasBlock, IsSound}
-use Rattle.bp_layout.specs.Inode.{kind_of, root_of, size_of, inode_word}
+use Rattle.bp_layout.specs.Inode.{attributes_of, kind_of, root_of, size_of, inode_word}
 use Rattle.bp_layout.specs.Directory.{EntryNames, lookup_in, entry_count}
-use Rattle.bp_layout.specs.Paths.{Name, Path}
+use Rattle.bp_layout.specs.Paths.{Name, Path, no_attributes}
 use Rattle.bp_layout.specs.Reached.{IsReached}
 use Rattle.bp_layout.specs.Reached.IsReached.{inode_file, root_directory, named}
 use Rattle.bp_layout.specs.WellFormed.{IsWellFormed}
@@ -12,13 +12,15 @@ use Rattle.bp_layout.specs.Trees.{has_snapshot}
 use Rattle.bp_layout.specs.Whole.{IsFileSystem}
 use Rattle.bp_layout.proofs.NoSnapshot.{alone_file_system, has_none}
 use Rattle.bp_limits.specs.declared.version.Version.{Version}
-use Rattle.bp_limits.specs.declared.version.Version.TheVariants.{One, Two}
-use Rattle.bp_limits.specs.Limits.{greatest_height, magic, max_blocks, version_at}
-use Rattle.bp_limits.proofs.Versions.{version_of_magic}
+use Rattle.bp_limits.specs.declared.version.Version.TheVariants.{One, Two, Three}
+use Rattle.bp_limits.specs.CallLimits.{allows_snapshot}
+use Rattle.bp_limits.specs.Limits.{attribute_field, greatest_height, inode_fields, magic, max_blocks, version_at}
+use Rattle.bp_limits.proofs.Versions.{fields_most, version_of_magic}
 use Rattle.bp_layout.specs.Formatted.{version_of}
 use Rattle.bp_layout.specs.Lookup.{shown}
 use Rattle.bp_layout.specs.Paths.Node.{dir}
 use Rattle.bp_layout.specs.Format.{format_stores, formatted}
+use Rattle.bp_layout.proofs.AttributeLaws.{attributes_none}
 use Rattle.bp_layout.proofs.LastValue.{AllWithinImage, length-after_stores, word-after_stores}
 use Rattle.bp_layout.proofs.SmallTrees.{none_live, empty_sound, empty_has_none, content_word-leaf, leaf_sound, leaf_full}
 
@@ -28,11 +30,21 @@ pub record HasFormat (image : Image) (version : Version) : Type 0 where
   pub counted : word image 1 ≡ block_count image
   pub root : word image 2 ≡ 4096
   pub size : word image 3 ≡ 4096
-  pub no_second_root : version ≡ Two → word image 4 ≡ 0
-  pub no_second_size : version ≡ Two → word image 5 ≡ 0
+  pub no_second_size : allows_snapshot version ≡ true → word image 5 ≡ 0
   pub root_kind : word image 520 ≡ 2
   pub root_root : word image 521 ≡ 0
   pub root_size : word image 522 ≡ 0
+  pub root_attributes : (f : ℕ) → attribute_field ≤ f → f < inode_fields version → word image (520 + f) ≡ 0
+
+-- the three words after the size are 0
+all_cleared : (value : ℕ → ℕ) → value 523 ≡ 0 → value 524 ≡ 0 → value 525 ≡ 0 → (f : ℕ) → attribute_field ≤ f → f < inode_fields Three → value (520 + f) ≡ 0
+all_cleared value one two three zero least most = absurd (omega (arith, least))
+all_cleared value one two three (suc zero) least most = absurd (omega (arith, least))
+all_cleared value one two three (suc (suc zero)) least most = absurd (omega (arith, least))
+all_cleared value one two three (suc (suc (suc zero))) least most = one
+all_cleared value one two three (suc (suc (suc (suc zero)))) least most = two
+all_cleared value one two three (suc (suc (suc (suc (suc zero))))) least most = three
+all_cleared value one two three (suc (suc (suc (suc (suc (suc f)))))) least most = absurd (omega (arith, most))
 
 pub formatted_words : (image : Image) (version : Version) (blocks : ℕ) → length image ≡ 512 * blocks → 8 ≤ blocks → HasFormat (formatted image version blocks) version
 formatted_words image One blocks whole least =
@@ -46,11 +58,11 @@ formatted_words image One blocks whole least =
       counted = stored 1 ∙ number;
       root = stored 2;
       size = stored 3;
-      no_second_root = λ e. absurd (cc);
       no_second_size = λ e. absurd (cc);
       root_kind = stored 520;
       root_root = stored 521;
       root_size = stored 522;
+      root_attributes = λ f least most. absurd (omega (arith, least, most));
     }
 formatted_words image Two blocks whole least =
     let within : AllWithinImage (length image) (format_stores Two blocks) =
@@ -63,11 +75,28 @@ formatted_words image Two blocks whole least =
       counted = stored 1 ∙ number;
       root = stored 2;
       size = stored 3;
-      no_second_root = λ e. stored 4;
       no_second_size = λ e. stored 5;
       root_kind = stored 520;
       root_root = stored 521;
       root_size = stored 522;
+      root_attributes = λ f least most. absurd (omega (arith, least, most));
+    }
+formatted_words image Three blocks whole least =
+    let within : AllWithinImage (length image) (format_stores Three blocks) =
+    omega arith in
+    let same : length (formatted image Three blocks) ≡ length image = length-after_stores image (format_stores Three blocks) in
+    let stored = λ (place : ℕ). word-after_stores image (format_stores Three blocks) place within in
+    let number : blocks ≡ block_count (formatted image Three blocks) = omega (arith, same) in
+    record {
+      has_magic = stored 0;
+      counted = stored 1 ∙ number;
+      root = stored 2;
+      size = stored 3;
+      no_second_size = λ e. stored 5;
+      root_kind = stored 520;
+      root_root = stored 521;
+      root_size = stored 522;
+      root_attributes = all_cleared (word (formatted image Three blocks)) (stored 523) (stored 524) (stored 525);
     }
 
 module _ (image : Image) (version : Version) (has : HasFormat image version) where
@@ -80,7 +109,7 @@ module _ (image : Image) (version : Version) (has : HasFormat image version) whe
   inode_file_size : size_of image 0 ≡ 4096
   inode_file_size = has.size
 
-  inode_word-is : (f : ℕ) → f < 3 → inode_word image 1 f ≡ word image (520 + f)
+  inode_word-is : (f : ℕ) → f < 8 → inode_word image 1 f ≡ word image (520 + f)
   inode_word-is f few =
       let column : (8 * 1 + f) % 512 ≡ 8 + f = omega (arith, few) in
       let root : slot_word image (block_of (word image 2)) (8 + f) ≡ word image (512 + (8 + f)) = rw has.root refl in
@@ -174,8 +203,13 @@ module _ (image : Image) (version : Version) (has : HasFormat image version) whe
   finds_none : (name : Name) → lookup_in image 1 name ≡ None
   finds_none name = rw (root_kind-is, root_size-is) refl
 
-  shows_root : shown image [] ≡ Some dir
-  shows_root = rw root_kind-is refl
+  root_attributes-is : attributes_of image 1 ≡ no_attributes
+  root_attributes-is = attributes_none image 1 (λ i f at least most.
+      let few : f < inode_fields version = subst (λ v. f < inode_fields v) version-is most in
+      ap (λ j. inode_word image j f) (sym at) ∙ inode_word-is f (omega (arith, few, fields_most version)) ∙ has.root_attributes f least few)
+
+  shows_root : shown image [] ≡ Some (dir no_attributes)
+  shows_root = rw root_kind-is (ap (λ a. Some (dir a)) root_attributes-is)
 
   shows_no_name : (name : Name) (path : Path) → shown image (name ∷ path) ≡ None
   shows_no_name name path = rw (finds_none name) refl
@@ -196,14 +230,14 @@ module _ (image : Image) (version : Version) (blocks : ℕ) (whole : length imag
   formatted_alone =
       let has : HasFormat (formatted image version blocks) version = formatted_words image version blocks whole least in
       let is : version_of (formatted image version blocks) ≡ version = formatted_version image version blocks whole least in
-      has_none (formatted image version blocks) (λ two. has.no_second_size (sym is ∙ two))
+      has_none (formatted image version blocks) (λ allows. has.no_second_size (ap allows_snapshot (sym is) ∙ allows))
 
   -- and is a file system
   pub formatted_file_system : IsFileSystem (formatted image version blocks)
   formatted_file_system = alone_file_system (formatted image version blocks) formatted_well_formed formatted_alone
 
   -- and shows the root directory alone
-  pub shown_formatted_root : shown (formatted image version blocks) [] ≡ Some dir
+  pub shown_formatted_root : shown (formatted image version blocks) [] ≡ Some (dir no_attributes)
   shown_formatted_root = shows_root (formatted image version blocks) version (formatted_words image version blocks whole least)
 
   pub shown_formatted_else : (name : Name) (path : Path) → shown (formatted image version blocks) (name ∷ path) ≡ None

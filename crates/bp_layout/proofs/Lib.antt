@@ -34,3 +34,4 @@ pub mod Ranges
 pub mod StoredBytes
 pub mod EntryWords
 pub mod PartLaws
+pub mod AttributeLaws

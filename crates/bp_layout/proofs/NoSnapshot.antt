@@ -1,9 +1,8 @@
 -- An image that has no second tree is a file system where its first tree is well formed, and none of its blocks is in
 -- the snapshot.
 use Rattle.std.proofs.Common.{◌≡◌, ℕ, Bool, true, false, ◌&&◌, nat_lt, refl, ap}
-use Rattle.bp_limits.specs.declared.version.Version.{Version}
-use Rattle.bp_limits.specs.declared.version.Version.TheVariants.{One, Two}
-use Rattle.bp_limits.specs.CallLimits.{is_two}
+use Rattle.bp_limits.specs.declared.version.Version.TheVariants.{One}
+use Rattle.bp_limits.specs.CallLimits.{allows_snapshot}
 use Rattle.bp_layout.specs.Words.{Image, word}
 use Rattle.bp_layout.specs.Formatted.{version_of}
 use Rattle.bp_layout.specs.Thaw.{none_in_snapshot}
@@ -12,15 +11,15 @@ use Rattle.bp_layout.specs.WellFormed.{IsWellFormed}
 use Rattle.bp_layout.specs.Whole.{IsFileSystem}
 
 pub first_has_none : (image : Image) → version_of image ≡ One → has_snapshot image ≡ false
-first_has_none image e = ap (λ v. is_two v && nat_lt 0 (word image 5)) e
+first_has_none image e = ap (λ v. allows_snapshot v && nat_lt 0 (word image 5)) e
 
--- in version 2 its size is 0
-pub has_none : (image : Image) → (version_of image ≡ Two → word image 5 ≡ 0) → has_snapshot image ≡ false
-has_none image size = go (version_of image) refl
+-- from version 2 on its size is 0
+pub has_none : (image : Image) → (allows_snapshot (version_of image) ≡ true → word image 5 ≡ 0) → has_snapshot image ≡ false
+has_none image size = go (allows_snapshot (version_of image)) refl
   where
-    go : (version : Version) → version_of image ≡ version → has_snapshot image ≡ false
-    go One e = first_has_none image e
-    go Two e = λ i. is_two (e i) && nat_lt 0 (size e i)
+    go : (b : Bool) → allows_snapshot (version_of image) ≡ b → has_snapshot image ≡ false
+    go false e = ap (λ b. b && nat_lt 0 (word image 5)) e
+    go true e = λ i. e i && nat_lt 0 (size e i)
 
 pub alone_file_system : (image : Image) → IsWellFormed image → has_snapshot image ≡ false → IsFileSystem image
 alone_file_system image wf none = record { first = wf; second = λ there. absurd (cc) }

@@ -1,6 +1,7 @@
 -- An upgrade: before its magic number the image is what it was, and then one of version 2 that shows the same.
 use Rattle.std.proofs.Common.{◌≡◌, ℕ, ◌/◌, ◌≤◌, false, length, refl, sym, ◌∙◌, ap, arith, ne_eqb}
 use Rattle.bp_limits.specs.declared.version.Version.TheVariants.{One, Two}
+use Rattle.bp_limits.specs.CallLimits.{allows_attributes}
 use Rattle.bp_limits.specs.Limits.{magic, version_at}
 use Rattle.bp_limits.proofs.Versions.{height_most, version_of_magic}
 use Rattle.bp_layout.specs.Words.{Image, word}
@@ -37,7 +38,7 @@ module _ (old new : Image) (wf : IsWellFormed old) (same : SameTrees old new) (h
     old_well_formed = wf;
     new_well_formed = still_well_formed old new same wf formatted_first (rw version-stays (omega arith));
     version = version-stays;
-    shows = still_shown old new same;
+    shows = still_shown old new same (ap allows_attributes version-stays);
     one = still_one old new same;
   }
 
@@ -95,9 +96,9 @@ module _ (image : Image) (wf : IsWellFormed image) where
   pub upgraded_file_system : IsFileSystem (upgraded image)
   upgraded_file_system = alone_file_system (upgraded image) upgraded_well_formed upgraded_alone
 
-  -- and shows what it showed
-  pub upgraded_shown : (path : Path) → shown (upgraded image) path ≡ shown image path
-  upgraded_shown = still_shown image (upgraded image) same
+  -- and shows what it showed, if its version has no attributes
+  pub upgraded_shown : allows_attributes (version_of image) ≡ false → (path : Path) → shown (upgraded image) path ≡ shown image path
+  upgraded_shown none = still_shown image (upgraded image) same (ap allows_attributes upgraded_version ∙ sym none)
 
   pub upgraded_one : (p q : Path) → find_one (upgraded image) p q ≡ find_one image p q
   upgraded_one = still_one image (upgraded image) same

@@ -1,16 +1,16 @@
 -- Two images whose directories and files are alike show the same at each path.
-use Rattle.std.proofs.Common.{◌≡◌, ◌≢◌, ℕ, ◌<◌, [], ◌∷◌, Bool, true, false, not, ◌&&◌, ◌==◌, Option, None, Some, option_and_then, refl, sym, ◌∙◌, ap, subst, arith, true≢false}
+use Rattle.std.proofs.Common.{◌≡◌, ◌≢◌, ℕ, ◌<◌, [], ◌∷◌, Bool, true, false, not, ◌&&◌, ◌==◌, Option, None, Some, option_and_then, refl, sym, ◌∙◌, ap, ap₂, subst, arith, true≢false}
 use Rattle.std.proofs.lemmas.Bool.{eqb-true, eqb-false}
 use Rattle.std.specs.Option.{option_map}
 use Rattle.bp_layout.specs.Words.{Image}
 use Rattle.bp_layout.specs.Tree.{content}
-use Rattle.bp_layout.specs.Inode.{kind_of, root_of, size_of}
+use Rattle.bp_layout.specs.Inode.{attributes_of, kind_of, root_of, size_of}
 use Rattle.bp_layout.specs.Directory.{EntryNames, name_at, ino_at, entry_count, is_named, slot_named, lookup_in}
 use Rattle.bp_layout.specs.Paths.{Name, Path}
 use Rattle.bp_layout.specs.Reached.{IsReached}
 use Rattle.bp_layout.specs.Reached.IsReached.{root_directory, named}
 use Rattle.bp_layout.specs.Lookup.{lookup_from, node_of, shown, if_file, file_at, find_one, are_one}
-use Rattle.bp_layout.specs.Paths.Node.{file}
+use Rattle.bp_layout.specs.Paths.Node.{dir, file}
 use Rattle.bp_layout.proofs.Finding.{find-same, Finds, find-passes}
 
 -- the reached inodes of the first image have the same kinds and entries in the second
@@ -20,9 +20,10 @@ pub record SameDirectories (old new : Image) : Type 0 where
   pub ino : (i slot : ℕ) → IsReached old i → kind_of old i ≡ 2 → slot < entry_count old i → ino_at new i slot ≡ ino_at old i slot
   pub name : (i slot j : ℕ) → IsReached old i → EntryNames old i slot j → name_at new i slot ≡ name_at old i slot
 
--- and the same bytes
+-- and the same attributes and bytes
 pub record SameView (old new : Image) : Type 0 where
   pub directories : SameDirectories old new
+  pub attributes : (i : ℕ) → IsReached old i → attributes_of new i ≡ attributes_of old i
   pub bytes : (i : ℕ) → IsReached old i → kind_of old i ≡ 1 → content new (root_of new i) (size_of new i) ≡ content old (root_of old i) (size_of old i)
 
 is_named-same : (old new : Image) (same : SameDirectories old new) (i slot : ℕ) (name : Name) → IsReached old i → kind_of old i ≡ 2 →
@@ -96,8 +97,8 @@ node_of-same : (old new : Image) (same : SameView old new) (i : ℕ) → IsReach
 node_of-same old new same i reached = go (kind_of old i == 1) refl
   where
     go : (b : Bool) → (kind_of old i == 1) ≡ b → node_of new i ≡ node_of old i
-    go true at = rw (same.directories.kind i reached, at) (ap file (same.bytes i reached (eqb-true _ _ at)))
-    go false at = rw (same.directories.kind i reached, at) refl
+    go true at = rw (same.directories.kind i reached, at) (ap₂ file (same.attributes i reached) (same.bytes i reached (eqb-true _ _ at)))
+    go false at = rw (same.directories.kind i reached, at) (ap dir (same.attributes i reached))
 
 -- what a path finds is reached
 pub lookup_from-reached : (image : Image) (i j : ℕ) (path : Path) → IsReached image i → lookup_from image i path ≡ Some j → IsReached image j

@@ -2,26 +2,42 @@
 use Rattle.std.specs.Prelude.{ℕ, ◌+◌, List, [], ◌∷◌, ◌++◌, flat_map}
 use Rattle.bp_layout.specs.Words.{Image}
 use Rattle.bp_limits.specs.declared.version.Version.{Version}
-use Rattle.bp_limits.specs.declared.version.Version.TheVariants.{One, Two}
-use Rattle.bp_limits.specs.Limits.{block_size, directory_kind, first_inode, magic, root_field, size_field, super_blocks, super_magic, super_root, super_snapshot_root, super_snapshot_size, super_size}
+use Rattle.bp_limits.specs.declared.version.Version.TheVariants.{One, Two, Three}
+use Rattle.bp_limits.specs.Limits.{attribute_field, block_size, directory_kind, first_inode, magic, root_field, size_field, super_blocks, super_magic, super_root, super_snapshot_root, super_snapshot_size, super_size, super_spare_root, super_spare_size}
 use Rattle.bp_layout.specs.Stores.{after_stores}
 
--- the stores that record in version 2 that there is no second inode file (no snapshot)
+-- the stores that record from version 2 on that there is no second inode file (no snapshot)
 abbrev pub no_second : List (ℕ × ℕ)
 no_second = (super_snapshot_root, 0) ∷ (super_snapshot_size, 0) ∷ []
 
+-- the stores that clear the words which version 3 reserves for another inode file
+abbrev pub no_spare : List (ℕ × ℕ)
+no_spare = (super_spare_root, 0) ∷ (super_spare_size, 0) ∷ []
+
+-- the stores to the other words of the superblock that have a meaning in this version
 abbrev pub kept_words : Version → List (ℕ × ℕ)
 kept_words One = []
 kept_words Two = no_second
+kept_words Three = no_second ++ no_spare
+
+-- the stores that clear the attributes of inode 1
+abbrev pub first_attributes : Version → List (ℕ × ℕ)
+first_attributes One = []
+first_attributes Two = []
+first_attributes Three =
+    (first_inode + attribute_field, 0) ∷ (first_inode + (attribute_field + 1), 0)
+    ∷ (first_inode + (attribute_field + 2), 0) ∷ []
 
 -- the stores that make inode 1 a root directory without entries
-abbrev pub no_entries : List (ℕ × ℕ)
-no_entries = (first_inode, directory_kind) ∷ (first_inode + root_field, 0) ∷ (first_inode + size_field, 0) ∷ []
+abbrev pub no_entries : Version → List (ℕ × ℕ)
+no_entries version =
+    (first_inode, directory_kind) ∷ (first_inode + root_field, 0) ∷ (first_inode + size_field, 0) ∷ []
+    ++ first_attributes version
 
 -- the stores of an empty file system of this many blocks, except the magic number
 abbrev pub empty_words : Version → ℕ → List (ℕ × ℕ)
 empty_words version blocks = (super_blocks, blocks) ∷ (super_root, 0x1000) ∷ (super_size, block_size) ∷ []
-    ++ kept_words version ++ no_entries
+    ++ kept_words version ++ no_entries version
 
 -- The stores of a format, in three epochs: the magic number is cleared, an empty file system is stored, and the new
 -- magic number is stored.

@@ -3,7 +3,7 @@ use Rattle.std.specs.Prelude.{ℕ, List, [], ◌∷◌, ◌==◌, Bool, false, O
 use Rattle.bp_limits.specs.Limits.{root_ino, file_kind}
 use Rattle.bp_layout.specs.Words.{Image}
 use Rattle.bp_layout.specs.Tree.{content}
-use Rattle.bp_layout.specs.Inode.{kind_of, root_of, size_of}
+use Rattle.bp_layout.specs.Inode.{attributes_of, kind_of, root_of, size_of}
 use Rattle.bp_layout.specs.Directory.{lookup_in}
 use Rattle.bp_layout.specs.Paths.{Path, Node}
 use Rattle.bp_layout.specs.Paths.Node.{dir, file}
@@ -17,9 +17,11 @@ abbrev pub lookup : Image → Path → Option ℕ
 lookup image path = lookup_from image root_ino path
 
 abbrev pub node_of : Image → ℕ → Node
-node_of image i = if kind_of image i == file_kind then file (content image (root_of image i) (size_of image i)) else dir
+node_of image i = if kind_of image i == file_kind
+    then file (attributes_of image i) (content image (root_of image i) (size_of image i))
+    else dir (attributes_of image i)
 
--- the node at a path: a directory, or a file with its bytes; none if nothing is there
+-- the node at a path: a directory, or a file with its bytes, and the attributes; none if nothing is there
 abbrev pub shown : Image → Path → Option Node
 shown image path = option_map (node_of image) (lookup image path)
 

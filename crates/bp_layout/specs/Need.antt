@@ -1,7 +1,7 @@
 -- Which words a change touches, and how many blocks it needs.
 use Rattle.std.specs.Prelude.{ℕ, suc, ◌+◌, ◌-◌, ◌*◌, ◌/◌, min, max, List, [], ◌∷◌, ◌++◌, length, take, drop, map, filter, flat_map, Bool, not, ◌&&◌, ◌||◌, ◌==◌, nat_lt, nat_le, bytes_eq, Option, None, Some, if◌then◌else◌, fold}
 use Rattle.std.specs.List.{range_with_len, list_any}
-use Rattle.bp_limits.specs.Limits.{block_size, block_words, entry_size, entry_words, size_field}
+use Rattle.bp_limits.specs.Limits.{attribute_field, block_size, block_words, entry_size, entry_words, size_field}
 use Rattle.bp_layout.specs.Words.{Image, height_of}
 use Rattle.bp_layout.specs.Nodes.{TreeNode, is_present, height_with, nodes_for}
 use Rattle.bp_layout.specs.Inode.{root_of, size_of}
@@ -41,6 +41,8 @@ pub data Change : Type 0 where
   respells : ℕ → ℕ → ℕ → Change
   -- ranges of bytes of one or several files
   overwrites : List Stretch → Change
+  -- inode, attribute
+  sets : ℕ → ℕ → Change
 
 -- ---- preparation
 
@@ -121,6 +123,7 @@ touched_at heights image (moves i s j) =
 touched_at heights image (respells i s len) =
     map (entry_path_at heights i s) (range_with_len 1 (suc ((len + 7) / 8)))
 touched_at heights image (overwrites stretches) = flat_map (stretch_paths heights) stretches
+touched_at heights image (sets i k) = inode_path (heights 0) i (attribute_field + k) ∷ []
 
 -- the paths of words of inodes and of content after the preparation
 abbrev pub inode_word_path : Image → Change → ℕ → ℕ → WordPath

@@ -29,10 +29,18 @@ is_name name =
 abbrev pub Path : Type 0
 Path = List Name
 
--- a directory, or a file with its bytes
+-- the attributes of a file or a directory: three words of the caller's own, which the file system only keeps
+abbrev pub Attributes : Type 0
+Attributes = List ℕ
+
+-- the attributes of a new file or directory, and of each one before version 3
+abbrev pub no_attributes : Attributes
+no_attributes = 0 ∷ 0 ∷ 0 ∷ []
+
+-- a directory, or a file with its bytes; each with its attributes
 pub data Node : Type 0 where
-  dir : Node
-  file : List ℕ → Node
+  dir : Attributes → Node
+  file : Attributes → List ℕ → Node
 
 abbrev pub same_path : Path → Path → Bool
 same_path = pointwise bytes_eq

@@ -3,7 +3,7 @@
 -- the image in which that tree is the first.
 use Rattle.std.specs.Prelude.{◌≡◌, ℕ, ◌+◌, ◌==◌, ◌&&◌, nat_lt, Bool, true, slice_set, if◌then◌else◌}
 use Rattle.bp_limits.specs.Limits.{super_root, super_snapshot_root, super_snapshot_size, super_size}
-use Rattle.bp_limits.specs.CallLimits.{is_two}
+use Rattle.bp_limits.specs.CallLimits.{allows_snapshot}
 use Rattle.bp_layout.specs.Formatted.{version_of}
 use Rattle.bp_layout.specs.Words.{Image, word}
 use Rattle.bp_layout.specs.Reached.{IsLiveBlock}
@@ -19,7 +19,7 @@ snapshot_of image = tree_image image super_snapshot_root
 
 -- the image has a snapshot
 abbrev pub has_snapshot : Image → Bool
-has_snapshot image = is_two (version_of image) && nat_lt 0 (word image super_snapshot_size)
+has_snapshot image = allows_snapshot (version_of image) && nat_lt 0 (word image super_snapshot_size)
 
 -- a block of the snapshot
 pub record IsInSnapshot (image : Image) (block : ℕ) : Type 0 where

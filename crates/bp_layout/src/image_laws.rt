@@ -3,10 +3,11 @@
 ghost use Rattle.std.specs.Prelude.{None, Some, [], ℕ, ◌*◌, ◌∷◌, ◌↔◌, ◌≡◌, ◌≤◌, false, length};
 ghost use Rattle.bp_layout.specs.Checks.{NoneFails};
 ghost use Rattle.bp_layout.specs.Formatted.{IsFormatted, version_of};
-ghost use Rattle.bp_layout.specs.Paths.{Name, Path};
+ghost use Rattle.bp_layout.specs.Paths.{Name, Path, no_attributes};
 ghost use Rattle.bp_layout.specs.Format.{formatted, upgraded};
 ghost use Rattle.bp_limits.specs.declared.version.Version.TheVariants.{Two};
 ghost use Rattle.bp_layout.specs.Inode.{IsDirectory};
+ghost use Rattle.bp_limits.specs.CallLimits.{allows_attributes};
 ghost use Rattle.bp_limits.specs.Limits.{block_words, max_blocks, min_blocks};
 ghost use Rattle.bp_layout.specs.Lookup.{find_one, lookup, shown};
 ghost use Rattle.bp_layout.specs.Paths.Node.{dir};
@@ -36,18 +37,19 @@ pub fn format_shows_the_root(image: &[u64], version: Version, blocks: u64)
     ensures well_formed { IsFileSystem (formatted image.now version blocks) }
     ensures single { has_snapshot (formatted image.now version blocks) ≡ false }
     ensures version { version_of (formatted image.now version blocks) ≡ version }
-    ensures root { shown (formatted image.now version blocks) [] ≡ Some dir }
+    ensures root { shown (formatted image.now version blocks) [] ≡ Some (dir no_attributes) }
     ensures alone { (name : Name) (path : Path) → shown (formatted image.now version blocks) (name ∷ path) ≡ None }
 {}
 
 /// States that an upgrade makes a well-formed image a file system of version 2, without a snapshot, with the same
-/// contents at each path.
+/// contents at each path if the image's version has no attributes.
 pub fn upgrade_shows_the_same(image: &[u64])
     requires { IsWellFormed image.now }
     ensures well_formed { IsFileSystem (upgraded image.now) }
     ensures single { has_snapshot (upgraded image.now) ≡ false }
     ensures version { version_of (upgraded image.now) ≡ Two }
-    ensures shows { (path : Path) → shown (upgraded image.now) path ≡ shown image.now path }
+    ensures shows { allows_attributes (version_of image.now) ≡ false
+        → (path : Path) → shown (upgraded image.now) path ≡ shown image.now path }
     ensures one { (p q : Path) → find_one (upgraded image.now) p q ≡ find_one image.now p q }
 {}
 

@@ -1,8 +1,8 @@
 -- The limits of the format, of scripts and of the programs. CallLimits has those of calls.
-use Rattle.std.specs.Prelude.{ℕ, ◌==◌, if◌then◌else◌}
-use Rattle.bp_limits.specs.declared.TheConstants.{BLOCK_SIZE, BLOCK_WORDS, MIN_BLOCKS, MAX_BLOCKS, MAX_FILE_BLOCKS, SUPER_MAGIC, SUPER_BLOCKS, SUPER_ROOT, SUPER_SIZE, SUPER_SNAPSHOT_ROOT, SUPER_SNAPSHOT_SIZE, INODE_SIZE, INODE_WORDS, ROOT_FIELD, SIZE_FIELD, BLOCK_INODES, ROOT_INO, FIRST_INODE, FILE_KIND, DIRECTORY_KIND, ENTRY_SIZE, ENTRY_WORDS, BLOCK_ENTRIES, MAX_HEIGHT, MAX_READ, MAX_PIECES, CALL_ROOM, MAX_LINE, MAX_TEXT, MAX_INPUT, LOG_EVENTS, MAX_MASK, MAX_TURNS}
+use Rattle.std.specs.Prelude.{ℕ, ◌+◌, ◌==◌, if◌then◌else◌}
+use Rattle.bp_limits.specs.declared.TheConstants.{BLOCK_SIZE, BLOCK_WORDS, MIN_BLOCKS, MAX_BLOCKS, MAX_FILE_BLOCKS, SUPER_MAGIC, SUPER_BLOCKS, SUPER_ROOT, SUPER_SIZE, SUPER_SNAPSHOT_ROOT, SUPER_SNAPSHOT_SIZE, SUPER_SPARE_ROOT, SUPER_SPARE_SIZE, INODE_SIZE, INODE_WORDS, ROOT_FIELD, SIZE_FIELD, ATTRIBUTE_FIELD, ATTRIBUTES, BLOCK_INODES, ROOT_INO, FIRST_INODE, FILE_KIND, DIRECTORY_KIND, ENTRY_SIZE, ENTRY_WORDS, BLOCK_ENTRIES, MAX_HEIGHT, MAX_READ, MAX_PIECES, CALL_ROOM, MAX_LINE, MAX_TEXT, MAX_INPUT, LOG_EVENTS, MAX_MASK, MAX_TURNS}
 use Rattle.bp_limits.specs.declared.version.Version.{Version}
-use Rattle.bp_limits.specs.declared.version.Version.TheVariants.{One, Two}
+use Rattle.bp_limits.specs.declared.version.Version.TheVariants.{One, Two, Three}
 
 -- ---- words and blocks
 
@@ -26,14 +26,15 @@ max_file_blocks = MAX_FILE_BLOCKS
 
 -- ---- the superblock
 
--- The magic number of a version, which is word 0 of its images: the bytes `BPFSRS01` and `BPFSRS02`.
+-- The magic number of a version, which is word 0 of its images: the bytes `BPFSRS01`, `BPFSRS02` and `BPFSRS3A`.
 abbrev pub magic : Version → ℕ
 magic One = 0x3130535253465042
 magic Two = 0x3230535253465042
+magic Three = 0x4133535253465042
 
--- The version of an image with this word 0: version 1 for each word that is not the magic number of version 2.
+-- The version of an image with this word 0: version 1 for each word that is not the magic number of a later version.
 abbrev pub version_at : ℕ → Version
-version_at word = if word == magic Two then Two else One
+version_at word = if word == magic Two then Two else if word == magic Three then Three else One
 
 -- The word of the superblock with the magic number, and those with the number of blocks, the root word and the size of
 -- the inode file.
@@ -49,12 +50,19 @@ super_root = SUPER_ROOT
 abbrev pub super_size : ℕ
 super_size = SUPER_SIZE
 
--- The words of the superblock that have, in version 2, the root word and the size of a second inode file.
+-- The words of the superblock that have, from version 2 on, the root word and the size of a second inode file.
 abbrev pub super_snapshot_root : ℕ
 super_snapshot_root = SUPER_SNAPSHOT_ROOT
 
 abbrev pub super_snapshot_size : ℕ
 super_snapshot_size = SUPER_SNAPSHOT_SIZE
+
+-- The words of the superblock that are reserved in version 3 for the root word and the size of another inode file.
+abbrev pub super_spare_root : ℕ
+super_spare_root = SUPER_SPARE_ROOT
+
+abbrev pub super_spare_size : ℕ
+super_spare_size = SUPER_SPARE_SIZE
 
 -- ---- inodes and directories
 
@@ -71,6 +79,20 @@ root_field = ROOT_FIELD
 
 abbrev pub size_field : ℕ
 size_field = SIZE_FIELD
+
+-- The first of the words of an inode that are its attributes, in version 3, and the number of these words.
+abbrev pub attribute_field : ℕ
+attribute_field = ATTRIBUTE_FIELD
+
+abbrev pub attributes : ℕ
+attributes = ATTRIBUTES
+
+-- The number of words of an inode that have a meaning, by version: the kind, the root word and the size, and in version
+-- 3 the attributes.
+abbrev pub inode_fields : Version → ℕ
+inode_fields One = attribute_field
+inode_fields Two = attribute_field
+inode_fields Three = attribute_field + attributes
 
 -- The number of inodes in a block.
 abbrev pub block_inodes : ℕ
@@ -110,6 +132,7 @@ max_height = MAX_HEIGHT
 abbrev pub greatest_height : Version → ℕ
 greatest_height One = 3
 greatest_height Two = max_height
+greatest_height Three = max_height
 
 -- ---- calls
 

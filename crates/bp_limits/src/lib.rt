@@ -42,11 +42,17 @@ pub const SUPER_ROOT: u64 = 2;
 /// The word of the superblock with the size of the inode file.
 pub const SUPER_SIZE: u64 = 3;
 
-/// The word of the superblock with the root word of the snapshot's inode file, in version 2.
+/// The word of the superblock with the root word of the snapshot's inode file, from version 2 on.
 pub const SUPER_SNAPSHOT_ROOT: u64 = 4;
 
-/// The word of the superblock with the size of the snapshot's inode file, in version 2; 0 if there is no snapshot.
+/// The word of the superblock with the size of the snapshot's inode file, from version 2 on; 0 if there is no snapshot.
 pub const SUPER_SNAPSHOT_SIZE: u64 = 5;
+
+/// The word of the superblock that is reserved in version 3 for the root word of another inode file.
+pub const SUPER_SPARE_ROOT: u64 = 6;
+
+/// The word of the superblock that is reserved in version 3 for the size of that inode file.
+pub const SUPER_SPARE_SIZE: u64 = 7;
 
 // ---- inodes and directories
 
@@ -61,6 +67,12 @@ pub const ROOT_FIELD: u64 = 1;
 
 /// The word of an inode that is its size.
 pub const SIZE_FIELD: u64 = 2;
+
+/// The first word of an inode that is an attribute, in version 3.
+pub const ATTRIBUTE_FIELD: u64 = 3;
+
+/// The number of attributes of an inode, in version 3. Each is a word.
+pub const ATTRIBUTES: u64 = 3;
 
 /// The number of inodes in a block.
 pub const BLOCK_INODES: u32 = 64;

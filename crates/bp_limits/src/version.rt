@@ -14,19 +14,23 @@ pub enum Version {
     One,
     /// The version with higher trees, longer writes and a snapshot.
     Two,
+    /// The version with attributes, which are words of an inode that are the caller's own.
+    Three,
 }
 
 impl Version {
-    /// Returns the version with a number, which is 1 or 2.
+    /// Returns the version with a number, which is 1, 2 or 3.
     pub fn numbered(number: u8) -> Version
         requires least { 1 ≤ number }
-        requires most { number ≤ 2 }
+        requires most { number ≤ 3 }
         ensures { result ≡ version_numbered number }
     {
-        if number == 2 {
+        if number == 1 {
+            Version::One
+        } else if number == 2 {
             Version::Two
         } else {
-            Version::One
+            Version::Three
         }
     }
 
@@ -36,18 +40,22 @@ impl Version {
     {
         if word == Version::Two.magic() {
             Version::Two
+        } else if word == Version::Three.magic() {
+            Version::Three
         } else {
             Version::One
         }
     }
 
-    /// Returns the magic number, which is word 0 of an image: the bytes `BPFSRS01` or `BPFSRS02`, the lowest first.
+    /// Returns the magic number, which is word 0 of an image: the bytes `BPFSRS01`, `BPFSRS02` or `BPFSRS3A`, the lowest
+    /// first.
     pub fn magic(self) -> u64
         ensures { result ≡ magic self }
     {
         match self {
             Version::One => 0x3130_5352_5346_5042,
             Version::Two => 0x3230_5352_5346_5042,
+            Version::Three => 0x4133_5352_5346_5042,
         }
     }
 
@@ -58,7 +66,7 @@ impl Version {
     {
         match self {
             Version::One => 3,
-            Version::Two => MAX_HEIGHT,
+            Version::Two | Version::Three => MAX_HEIGHT,
         }
     }
 
@@ -70,7 +78,7 @@ impl Version {
     {
         match self {
             Version::One => 549_755_813_888,
-            Version::Two => MAX_SIZE,
+            Version::Two | Version::Three => MAX_SIZE,
         }
     }
 
@@ -81,7 +89,7 @@ impl Version {
     {
         match self {
             Version::One => 65_536,
-            Version::Two => MAX_WRITE,
+            Version::Two | Version::Three => MAX_WRITE,
         }
     }
 }

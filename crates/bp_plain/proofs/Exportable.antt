@@ -1,16 +1,16 @@
--- The tree of an image can be exported, where its paths can be spelled.
-use Rattle.std.proofs.Common.{◌≡◌, ℕ, zero, suc, ◌*◌, ◌^◌, ◌<◌, ◌≤◌, ◌==◌, Bool, true, false, List, [], ◌∷◌, ◌++◌, length, map, nat_lt, Option, None, Some, refl, sym, ◌∙◌, ap, subst, arith, append_assoc}
+-- The tree of an image can be exported, where its paths can be spelled. Before version 3 nothing in it has attributes.
+use Rattle.std.proofs.Common.{◌≡◌, ℕ, zero, suc, ◌*◌, ◌^◌, ◌<◌, ◌≤◌, ◌==◌, Bool, true, false, List, [], ◌∷◌, ◌++◌, length, map, nat_lt, Option, None, Some, option_map, if◌then◌else◌, refl, sym, ◌∙◌, ap, subst, arith, append_assoc}
 use Rattle.std.specs.List.{list_all, range_with_len}
 use Rattle.std.specs.FinMap.{get}
 use Rattle.std.proofs.lemmas.Bool.{lt-ltb, ltb-false, ltb-true}
 use Rattle.std.proofs.lemmas.List.FromFn.{length-map-range_with_len}
 use Rattle.bp_limits.specs.Limits.{greatest_height}
-use Rattle.bp_limits.specs.CallLimits.{greatest_size}
+use Rattle.bp_limits.specs.CallLimits.{allows_attributes, greatest_size}
 use Rattle.bp_limits.specs.declared.version.Version.{Version}
-use Rattle.bp_limits.specs.declared.version.Version.TheVariants.{One, Two}
-use Rattle.bp_layout.specs.Paths.{Name, Path, Node}
+use Rattle.bp_limits.specs.declared.version.Version.TheVariants.{One, Two, Three}
+use Rattle.bp_layout.specs.Paths.{Attributes, Name, Path, Node, no_attributes}
 use Rattle.bp_layout.specs.Formatted.{version_of}
-use Rattle.bp_layout.specs.Inode.{kind_of, root_of, size_of}
+use Rattle.bp_layout.specs.Inode.{attributes_of, inode_word, kind_of, root_of, size_of}
 use Rattle.bp_layout.specs.Lookup.{lookup, node_of, shown}
 use Rattle.bp_layout.specs.Paths.Node.{dir, file}
 use Rattle.bp_layout.specs.Reached.{IsReached}
@@ -19,7 +19,8 @@ use Rattle.bp_layout.specs.Tree.{byte, content}
 use Rattle.bp_layout.specs.WellFormed.{IsWellFormed}
 use Rattle.bp_layout.specs.Words.{Image, height_of}
 use Rattle.bp_layout.proofs.View.{lookup_from-reached}
-use Rattle.bp_plain.specs.Export.{HasShortPaths, IsExportable, IsOfBytes, are_bytes}
+use Rattle.bp_plain.specs.Export.{HasNoAttributes, HasShortPaths, IsExportable, IsOfBytes, are_bytes}
+use Rattle.bp_plain.specs.Plain.{attributes_in}
 use Rattle.bp_plain.specs.PlainTree.{FileTree, PathMap}
 use Rattle.bp_plain.specs.Stands.{Shows, Stands}
 use Rattle.bp_plain.proofs.FileTrees.{shows_path_map, stands_file_tree, step_at}
@@ -50,6 +51,13 @@ covers Two (suc (suc (suc zero))) low = omega arith
 covers Two (suc (suc (suc (suc zero)))) low = omega arith
 covers Two (suc (suc (suc (suc (suc zero))))) low = omega arith
 covers Two (suc (suc (suc (suc (suc (suc h)))))) low = absurd (omega (arith, low))
+covers Three zero low = omega arith
+covers Three (suc zero) low = omega arith
+covers Three (suc (suc zero)) low = omega arith
+covers Three (suc (suc (suc zero))) low = omega arith
+covers Three (suc (suc (suc (suc zero)))) low = omega arith
+covers Three (suc (suc (suc (suc (suc zero))))) low = omega arith
+covers Three (suc (suc (suc (suc (suc (suc h)))))) low = absurd (omega (arith, low))
 
 module _ (image : Image) (stands : (tree_map : PathMap) × Shows image tree_map) where
   abbrev now : PathMap
@@ -69,19 +77,19 @@ module _ (image : Image) (stands : (tree_map : PathMap) × Shows image tree_map)
 
   -- ---- the bytes of a file
 
-  module _ (path : Path) (found : List ℕ) (is : shown image path ≡ Some (file found)) where
+  module _ (path : Path) (attributes : Attributes) (found : List ℕ) (is : shown image path ≡ Some (file attributes found)) where
     file_is : (n : ℕ) × IsReached image n × (found ≡ content image (root_of image n) (size_of image n))
     file_is = go (lookup image path) refl
       where
-        at_inode : (n : ℕ) → (b : Bool) → (kind_of image n == 1) ≡ b → node_of image n ≡ file found → found ≡ content image (root_of image n) (size_of image n)
-        at_inode n true at same = let here : file (content image (root_of image n) (size_of image n)) ≡ file found = rw at at same in cc
-        at_inode n false at same = let other : dir ≡ file found = rw at at same in absurd (cc)
+        at_inode : (n : ℕ) → (b : Bool) → (kind_of image n == 1) ≡ b → node_of image n ≡ file attributes found → found ≡ content image (root_of image n) (size_of image n)
+        at_inode n true at same = let here : file (attributes_of image n) (content image (root_of image n) (size_of image n)) ≡ file attributes found = rw at at same in cc
+        at_inode n false at same = let other : dir (attributes_of image n) ≡ file attributes found = rw at at same in absurd (cc)
 
         go : (o : Option ℕ) → lookup image path ≡ o → (n : ℕ) × IsReached image n × (found ≡ content image (root_of image n) (size_of image n))
-        go None at = let none : ◌≡◌ {A = Option Node} None (Some (file found)) = rw at at is in absurd (cc)
+        go None at = let none : ◌≡◌ {A = Option Node} None (Some (file attributes found)) = rw at at is in absurd (cc)
         go (Some n) at =
-            let same : ◌≡◌ {A = Option Node} (Some (node_of image n)) (Some (file found)) = rw at at is in
-            let here : node_of image n ≡ file found = cc in
+            let same : ◌≡◌ {A = Option Node} (Some (node_of image n)) (Some (file attributes found)) = rw at at is in
+            let here : node_of image n ≡ file attributes found = cc in
             (n, lookup_from-reached image 1 n path root_directory at, at_inode n (kind_of image n == 1) refl here)
 
     file_fits : length found ≤ greatest_size (version_of image)
@@ -106,7 +114,9 @@ module _ (image : Image) (stands : (tree_map : PathMap) × Shows image tree_map)
 
       here : (prefix : Path) (name : Name) (rest : Path) → path ≡ prefix ++ name ∷ rest → are_bytes name ≡ true
       here prefix name [] cut = last prefix name node (ap (get now.nodes) (sym cut) ∙ at)
-      here prefix name (other ∷ rest) cut = last prefix name dir (way (prefix ++ name ∷ []) other rest (cut ∙ sym (append_assoc prefix (name ∷ []) (other ∷ rest))))
+      here prefix name (other ∷ rest) cut =
+          let above = way (prefix ++ name ∷ []) other rest (cut ∙ sym (append_assoc prefix (name ∷ []) (other ∷ rest))) in
+          last prefix name (dir above.attributes) above.is
 
       go : (prefix rest : Path) → path ≡ prefix ++ rest → list_all are_bytes rest ≡ true
       go prefix [] cut = refl
@@ -117,13 +127,32 @@ image_exportable image tree stands short = (
   record {
     is_tree = stands_file_tree image tree stands;
     spelled = short;
-    sized = λ path bytes is. subst (λ version. length bytes ≤ greatest_size version) (sym stands.version) (file_fits image shows path bytes (sym (stands.now.shows path) ∙ is));
+    sized = λ path attributes bytes is. subst (λ version. length bytes ≤ greatest_size version) (sym stands.version) (file_fits image shows path attributes bytes (sym (stands.now.shows path) ∙ is));
   },
   record {
     names = λ path node is. names_of_bytes image shows path node is;
-    contents = λ path bytes is. file_of_bytes image shows path bytes (sym (stands.now.shows path) ∙ is);
+    contents = λ path attributes bytes is. file_of_bytes image shows path attributes bytes (sym (stands.now.shows path) ∙ is);
   },
 )
   where
     shows : (tree_map : PathMap) × Shows image tree_map
     shows = (tree.now, stands.now)
+
+-- ---- attributes before version 3
+
+module _ (image : Image) (early : allows_attributes (version_of image) ≡ false) where
+  inode_has_none : (i : ℕ) → attributes_of image i ≡ no_attributes
+  inode_has_none zero = refl
+  inode_has_none (suc i) =
+      ap (λ b. (if b then inode_word image (suc i) 3 else 0) ∷ (if b then inode_word image (suc i) 4 else 0) ∷ (if b then inode_word image (suc i) 5 else 0) ∷ []) early
+
+  found_has_none : (found : Option ℕ) → attributes_in (option_map (node_of image) found) ≡ no_attributes
+  found_has_none None = refl
+  found_has_none (Some i) = go (kind_of image i == 1) ∙ inode_has_none i
+    where
+      go : (b : Bool) → attributes_in (Some (if b then file (attributes_of image i) (content image (root_of image i) (size_of image i)) else dir (attributes_of image i))) ≡ attributes_of image i
+      go true = refl
+      go false = refl
+
+  pub shows_no_attributes : (map : PathMap) → Shows image map → HasNoAttributes map
+  shows_no_attributes map shows path = ap attributes_in (shows.shows path) ∙ found_has_none (lookup image path)

@@ -9,17 +9,17 @@ use Rattle.std.proofs.lemmas.Bool.{eqb-true, lt-ltb, le-ltb, ltb-true, ltb-false
 use Rattle.bp_limits.specs.Limits.{block_size}
 use Rattle.bp_limits.specs.CallLimits.{greatest_size, greatest_write}
 use Rattle.bp_limits.specs.declared.version.Version.{Version}
-use Rattle.bp_limits.specs.declared.version.Version.TheVariants.{One, Two}
-use Rattle.bp_layout.specs.Paths.{same_path, Name, Path, Node, parse}
+use Rattle.bp_limits.specs.declared.version.Version.TheVariants.{One, Two, Three}
+use Rattle.bp_layout.specs.Paths.{Attributes, same_path, Name, Path, Node, no_attributes, parse}
 use Rattle.bp_layout.specs.Paths.Node.{dir, file}
 use Rattle.bp_layout.proofs.Below.{same_path-self}
 use Rattle.bp_plain.specs.Calls.{Call, Answer}
 use Rattle.bp_plain.specs.Calls.Call.{create, link, mkdir, write, truncate}
 use Rattle.bp_plain.specs.Calls.Answer.{done}
-use Rattle.bp_plain.specs.Plain.{alone, answer_or, bytes_at, bytes_in, is_root_path, path_named, paths_of, plain, refusal, resized, walk, walk_parent, with_bytes_at, with_content, with_dir, with_file, with_name, with_now, with_written, written}
+use Rattle.bp_plain.specs.Plain.{alone, answer_or, attributes_in, bytes_at, bytes_in, is_root_path, path_named, paths_of, plain, refusal, resized, walk, walk_parent, with_content, with_dir, with_file, with_name, with_node_at, with_now, with_written, written}
 use Rattle.bp_plain.specs.PlainTree.{FileTree, Nodes, PathMap, is_one}
 use Rattle.bp_plain.specs.Export.{AllDone, calls_for, is_zeros, path_text, size_call, stretch, stretches, write_of, writes_of}
-use Rattle.bp_plain.proofs.Kernels.{any_path, get-with_bytes_at, paths_of-any, same_by_cmp, tie_paths}
+use Rattle.bp_plain.proofs.Kernels.{any_path, get-with_node_at, paths_of-any, same_by_cmp, tie_paths}
 use Rattle.bp_plain.proofs.MadeFiles.{Made, made_whole, made_written, made_zeros}
 use Rattle.bp_plain.proofs.PathOrder.{pair_cmp-IsTotalOrder, path_cmp-IsAntisymmetric, path_cmp-IsTotalOrder}
 use Rattle.bp_plain.proofs.PathWays.{HasWay, get_inserted, insert_keeps_way, walks, walks_parent}
@@ -39,10 +39,10 @@ module _ (tree : FileTree) (text : List ℕ) (path : Path) (spells : parse text 
   named_here : path_named text ≡ path
   named_here = ap (λ o. unwrap_or o []) spells
 
-  write_goes : (made new : List ℕ) (offset : ℕ) → walk tree.now.nodes path ≡ None → get tree.now.nodes path ≡ Some (file made)
+  write_goes : (attributes : Attributes) (made new : List ℕ) (offset : ℕ) → walk tree.now.nodes path ≡ None → get tree.now.nodes path ≡ Some (file attributes made)
       → nat_lt (greatest_write tree.version) (length new) ≡ false → nat_lt (greatest_size tree.version) (offset + length new) ≡ false → nat_lt 0 (length new) ≡ true
       → plain tree (write text offset new) ≡ finished (with_now tree (with_content tree.now path (written made offset new)))
-  write_goes made new offset way at long large some =
+  write_goes attributes made new offset way at long large some =
       ap (answer_or tree (write text offset new)) refuses
       ∙ ap₂ (λ b p. finished (if b then with_now tree (with_written tree.now p offset new) else tree)) some named_here
       ∙ ap (λ o. finished (with_now tree (with_content tree.now path (written (bytes_in o) offset new)))) at
@@ -50,9 +50,9 @@ module _ (tree : FileTree) (text : List ℕ) (path : Path) (spells : parse text 
       refuses : refusal tree (write text offset new) ≡ None
       refuses = rw (spells, long, way, at, some, large) refl
 
-  truncate_goes : (made : List ℕ) (size : ℕ) → walk tree.now.nodes path ≡ None → get tree.now.nodes path ≡ Some (file made) → nat_lt (greatest_size tree.version) size ≡ false
+  truncate_goes : (attributes : Attributes) (made : List ℕ) (size : ℕ) → walk tree.now.nodes path ≡ None → get tree.now.nodes path ≡ Some (file attributes made) → nat_lt (greatest_size tree.version) size ≡ false
       → plain tree (truncate text size) ≡ finished (if not (size == length made) then with_now tree (with_content tree.now path (resized made size)) else tree)
-  truncate_goes made size way at large =
+  truncate_goes attributes made size way at large =
       ap (answer_or tree (truncate text size)) refuses
       ∙ ap (λ p. finished (if not (size == length (bytes_at tree.now.nodes p)) then with_now tree (with_content tree.now p (resized (bytes_at tree.now.nodes p) size)) else tree)) named_here
       ∙ ap (λ o. finished (if not (size == length (bytes_in o)) then with_now tree (with_content tree.now path (resized (bytes_in o) size)) else tree)) at
@@ -75,10 +75,11 @@ module _ (tree : FileTree) (text : List ℕ) (path : Path) (spells : parse text 
       refuses = rw (spells, inner, way, none) refl
 
   -- another path of a file
-  pub link_goes : (to_text : List ℕ) (to : Path) (made : List ℕ) → parse to_text ≡ Some to → walk tree.now.nodes path ≡ None → get tree.now.nodes path ≡ Some (file made)
+  pub link_goes : (to_text : List ℕ) (to : Path) (attributes : Attributes) (made : List ℕ) → parse to_text ≡ Some to → walk tree.now.nodes path ≡ None
+      → get tree.now.nodes path ≡ Some (file attributes made)
       → is_root_path to ≡ false → walk_parent tree.now.nodes to ≡ None → get tree.now.nodes to ≡ None
       → plain tree (link text to_text) ≡ finished (with_now tree (with_name tree.now path to))
-  link_goes to_text to made spells_to way at inner above none =
+  link_goes to_text to attributes made spells_to way at inner above none =
       ap (answer_or tree (link text to_text)) refuses
       ∙ ap₂ (λ p q. finished (with_now tree (with_name tree.now p q))) named_here (ap (λ o. unwrap_or o []) spells_to)
     where
@@ -91,14 +92,15 @@ module _ (tree : FileTree) (text : List ℕ) (path : Path) (spells : parse text 
 abbrev pub stage : Version → PathMap → FileTree
 stage version map = record { version = version; now = map; snap = None }
 
--- the map with a node at a new path
+-- the map with a node at a new path, without its attributes: no call sets them yet
 abbrev pub placed : PathMap → Path → Node → PathMap
-placed map path dir = with_dir map path
-placed map path (file content) = record { nodes = insert map.nodes path (file content); one = alone map.one path }
+placed map path (dir attributes) = with_dir map path
+placed map path (file attributes content) = record { nodes = insert map.nodes path (file no_attributes content); one = alone map.one path }
 
 writable : (version : Version) → 4096 ≤ greatest_write version
 writable One = omega arith
 writable Two = omega arith
+writable Three = omega arith
 
 or_false : (a : Bool) → (a || false) ≡ a
 or_false true = refl
@@ -112,15 +114,19 @@ module _ (version : Version) (before : PathMap) (name : Name) (rest : Path) (way
   abbrev text : List ℕ
   text = path_text path
 
-  -- a file with these bytes at the path
+  -- a file with these bytes
+  abbrev filled : List ℕ → Node
+  filled made = file no_attributes made
+
+  -- one at the path
   abbrev holding_map : List ℕ → PathMap
-  holding_map made = record { nodes = insert before.nodes path (file made); one = alone before.one path }
+  holding_map made = record { nodes = insert before.nodes path (filled made); one = alone before.one path }
 
   abbrev holding : List ℕ → FileTree
   holding made = stage version (holding_map made)
 
   walks_here : (made : List ℕ) → walk (holding_map made).nodes path ≡ None
-  walks_here made = walks (holding_map made).nodes path (file made) (insert_keeps_way before.nodes path (file made) way) (get_inserted before.nodes path (file made))
+  walks_here made = walks (holding_map made).nodes path (filled made) (insert_keeps_way before.nodes path (filled made) way) (get_inserted before.nodes path (filled made))
 
   -- it is at no other path
   only_here : (q : Path) → any_path q (paths_of (alone before.one path) path) ≡ same_path q path
@@ -130,27 +136,29 @@ module _ (version : Version) (before : PathMap) (name : Name) (rest : Path) (way
       ∙ rw (tie_paths path q path path, same_path-self path, fresh q) (or_false (same_path q path))
 
   put_here : (old new : List ℕ) → with_content (holding_map old) path new ≡ holding_map new
-  put_here old new = ap made (same_map path_cmp-IsTotalOrder path_cmp-IsAntisymmetric _ _ same)
+  put_here old new =
+      ap (λ attributes. made (with_node_at (paths_of (alone before.one path) path) (file attributes new) (holding_map old).nodes)) (ap attributes_in (get_inserted before.nodes path (filled old)))
+      ∙ ap made (same_map path_cmp-IsTotalOrder path_cmp-IsAntisymmetric _ _ same)
     where
       made : Nodes → PathMap
       made nodes = record { nodes = nodes; one = alone before.one path }
 
-      by : (b : Bool) (found : Option Node) → cond b (Some (file new)) (cond b (Some (file old)) found) ≡ cond b (Some (file new)) found
+      by : (b : Bool) (found : Option Node) → cond b (Some (filled new)) (cond b (Some (filled old)) found) ≡ cond b (Some (filled new)) found
       by true found = refl
       by false found = refl
 
-      same : (q : Path) → get (with_bytes_at (paths_of (alone before.one path) path) new (holding_map old).nodes) q ≡ get (holding_map new).nodes q
+      same : (q : Path) → get (with_node_at (paths_of (alone before.one path) path) (filled new) (holding_map old).nodes) q ≡ get (holding_map new).nodes q
       same q =
-          get-with_bytes_at (paths_of (alone before.one path) path) new (holding_map old).nodes q
-          ∙ ap₂ (λ b found. cond b (Some (file new)) found) (only_here q)
-          (get-insert path_cmp-IsTotalOrder before.nodes path (file old) q ∙ ap (λ b. cond b (Some (file old)) (get before.nodes q)) (same_by_cmp q path))
+          get-with_node_at (paths_of (alone before.one path) path) (filled new) (holding_map old).nodes q
+          ∙ ap₂ (λ b found. cond b (Some (filled new)) found) (only_here q)
+          (get-insert path_cmp-IsTotalOrder before.nodes path (filled old) q ∙ ap (λ b. cond b (Some (filled old)) (get before.nodes q)) (same_by_cmp q path))
           ∙ by (same_path q path) (get before.nodes q)
-          ∙ sym (get-insert path_cmp-IsTotalOrder before.nodes path (file new) q ∙ ap (λ b. cond b (Some (file new)) (get before.nodes q)) (same_by_cmp q path))
+          ∙ sym (get-insert path_cmp-IsTotalOrder before.nodes path (filled new) q ∙ ap (λ b. cond b (Some (filled new)) (get before.nodes q)) (same_by_cmp q path))
 
   write_done : (made new : List ℕ) (offset : ℕ) → 0 < length new → length new ≤ greatest_write version → offset + length new ≤ greatest_size version
       → plain (holding made) (write text offset new) ≡ (done, holding (written made offset new))
   write_done made new offset some few fits =
-      write_goes (holding made) text path spells made new offset (walks_here made) (get_inserted before.nodes path (file made))
+      write_goes (holding made) text path spells no_attributes made new offset (walks_here made) (get_inserted before.nodes path (filled made))
       (le-ltb (greatest_write version) (length new) few) (le-ltb (greatest_size version) (offset + length new) fits) (lt-ltb 0 (length new) some)
       ∙ ap (λ map. finished (stage version map)) (put_here made (written made offset new))
 
@@ -161,7 +169,7 @@ module _ (version : Version) (before : PathMap) (name : Name) (rest : Path) (way
 
   truncate_done : (made : List ℕ) (size : ℕ) → size ≤ greatest_size version → plain (holding made) (truncate text size) ≡ (done, holding (resized made size))
   truncate_done made size fits =
-      truncate_goes (holding made) text path spells made size (walks_here made) (get_inserted before.nodes path (file made)) (le-ltb (greatest_size version) size fits)
+      truncate_goes (holding made) text path spells no_attributes made size (walks_here made) (get_inserted before.nodes path (filled made)) (le-ltb (greatest_size version) size fits)
       ∙ ap finished (go (size == length made) refl)
     where
       go : (b : Bool) → (size == length made) ≡ b → (if not b then stage version (with_content (holding_map made) path (resized made size)) else holding made) ≡ holding (resized made size)
@@ -270,7 +278,7 @@ module _ (version : Version) (before : PathMap) (name : Name) (rest : Path) (way
     mkdir_done : plain (stage version before) (mkdir text) ≡ (done, stage version (with_dir before path))
     mkdir_done = mkdir_goes (stage version before) text path spells refl (walks_parent before.nodes name rest way) new
 
-    pub node_done : (node : Node) → ((content : List ℕ) → node ≡ file content → length content ≤ greatest_size version)
+    pub node_done : (node : Node) → ((attributes : Attributes) (content : List ℕ) → node ≡ file attributes content → length content ≤ greatest_size version)
         → AllDone (stage version before) (calls_for text node) (stage version (placed before path node))
-    node_done dir fits = (stage version (with_dir before path), mkdir_done, refl)
-    node_done (file content) fits = (holding [], create_done, bytes_done content (fits content refl))
+    node_done (dir attributes) fits = (stage version (with_dir before path), mkdir_done, refl)
+    node_done (file attributes content) fits = (holding [], create_done, bytes_done content (fits attributes content refl))

@@ -6,7 +6,7 @@ use Rattle.bp_limits.specs.Limits.{max_blocks}
 use Rattle.bp_limits.specs.declared.version.Version.{Version}
 use Rattle.bp_layout.specs.Words.{Image}
 use Rattle.bp_layout.specs.Lookup.{are_one, file_at, lookup, node_of, shown}
-use Rattle.bp_layout.specs.Paths.{Path, Node}
+use Rattle.bp_layout.specs.Paths.{Path, Node, no_attributes}
 use Rattle.bp_layout.specs.Paths.Node.{dir}
 use Rattle.bp_layout.specs.Format.{formatted}
 use Rattle.bp_layout.specs.WellFormed.{IsWellFormed}
@@ -41,9 +41,9 @@ module _ (image : Image) (version : Version) (blocks : ℕ) (whole : length imag
   }
     where
       shows : (path : Path) → get empty_map.nodes path ≡ shown made path
-      shows [] = get-insert path_cmp-IsTotalOrder empty [] dir [] ∙ sym (shown_formatted_root image version blocks whole least most)
+      shows [] = get-insert path_cmp-IsTotalOrder empty [] (dir no_attributes) [] ∙ sym (shown_formatted_root image version blocks whole least most)
       shows (name ∷ path) =
-          get-insert path_cmp-IsTotalOrder empty [] dir (name ∷ path) ∙ get-empty path_cmp (name ∷ path) ∙ sym (shown_formatted_else image version blocks whole least most name path)
+          get-insert path_cmp-IsTotalOrder empty [] (dir no_attributes) (name ∷ path) ∙ get-empty path_cmp (name ∷ path) ∙ sym (shown_formatted_else image version blocks whole least most name path)
 
   pub format_stands : Stands made (empty_tree version)
   format_stands = record {

@@ -1,20 +1,20 @@
 -- The maps that a program keeps: what each change makes of one, and that it may be kept.
 use Rattle.std.proofs.Common.{◌≡◌, ◌≢◌, ◌<◌, ◌+◌, ℕ, List, [], Option, None, Some, option_map, sym, ◌∙◌, ap, subst, false, true, arith}
 use Rattle.std.specs.FinMap.{get, insert, remove}
-use Rattle.bp_layout.specs.Paths.{same_path, Path, Node}
-use Rattle.bp_layout.specs.Paths.Node.{dir, file}
+use Rattle.bp_layout.specs.Paths.{same_path, Attributes, Path, Node, no_attributes}
+use Rattle.bp_layout.specs.Paths.Node.{file}
 use Rattle.bp_plain.specs.Changed.{changed, changed_files, with_bytes_in}
 use Rattle.bp_plain.specs.declared.trees.entries.Change.{Change}
 use Rattle.bp_plain.specs.declared.trees.maps.FileMap.TheInside.{Inside}
 use Rattle.bp_plain.specs.Numbered.{Numbered, NumberedFiles, map_of, number_at, number_in, plain_node, plain_nodes, root_alone}
 use Rattle.bp_plain.specs.Numbered.Numbered.{directory, numbered_file}
-use Rattle.bp_plain.specs.Plain.{file_refusal, is_empty_dir, is_root_path, move_refusal, moved, new_refusal, with_content, with_dir, with_file, with_moved, with_name, with_nothing}
-use Rattle.bp_plain.specs.PlainTree.{PathMap}
+use Rattle.bp_plain.specs.Plain.{attributes_at, file_refusal, is_empty_dir, is_root_path, move_refusal, moved, new_refusal, with_content, with_dir, with_file, with_moved, with_name, with_nothing}
+use Rattle.bp_plain.specs.PlainTree.{IsDirAt, PathMap}
 use Rattle.bp_plain.specs.SeenMap.{IsKept, map_seen}
 use Rattle.bp_plain.specs.SeenTree.{HasNoneBelow, IsRooted}
 use Rattle.bp_plain.proofs.MapLaws.{AreBelow, below_moved, below_more, below_put, below_set, below_taken, content_set, dir_made, file_made, linked_made, path_taken, paths_moved, root_below, root_rooted, rooted_set}
 use Rattle.bp_plain.proofs.Numbers.{get-plain, plain-moved, plain-put, plain-taken}
-use Rattle.bp_plain.proofs.Rooted.{IsNew, Moves, empty_below, file_below, file_there, moves_there, new_there, not_root_path, rooted_moved, rooted_put, rooted_taken}
+use Rattle.bp_plain.proofs.Rooted.{IsFileAt, IsNew, Moves, empty_below, file_below, file_no_dir, file_there, moves_there, new_there, not_root_path, rooted_moved, rooted_put, rooted_taken}
 
 -- files that may be kept under numbers below one
 pub record AreKept (files : NumberedFiles) (next : ℕ) : Type 0 where
@@ -48,30 +48,30 @@ module _ (old : Inside) (was : IsKept old) where
   are : AreKept old.files old.next
   are = kept_files old was
 
-  pub makes_file : (p : Path) → new_refusal (map_seen old).nodes p ≡ None → Becomes (insert old.files p (numbered_file old.next [])) (old.next + 1) (with_file (map_seen old) p)
+  pub makes_file : (p : Path) → new_refusal (map_seen old).nodes p ≡ None → Becomes (insert old.files p (numbered_file old.next no_attributes [])) (old.next + 1) (with_file (map_seen old) p)
   makes_file p can =
       let new : IsNew (plain_nodes old.files) p = new_there (plain_nodes old.files) p can in
       record {
         view = file_made old.files p new.nothing old.next are.below;
-        kept = put_kept old.files (old.next + 1) (record { above = are.above; below = below_more old.files old.next are.below }) p (numbered_file old.next []) new (λ id e. omega (arith, same_number old.next id e));
+        kept = put_kept old.files (old.next + 1) (record { above = are.above; below = below_more old.files old.next are.below }) p (numbered_file old.next no_attributes []) new (λ id e. omega (arith, same_number old.next id e));
       }
 
-  pub makes_dir : (p : Path) → new_refusal (map_seen old).nodes p ≡ None → Becomes (insert old.files p directory) old.next (with_dir (map_seen old) p)
+  pub makes_dir : (p : Path) → new_refusal (map_seen old).nodes p ≡ None → Becomes (insert old.files p (directory no_attributes)) old.next (with_dir (map_seen old) p)
   makes_dir p can =
       let new : IsNew (plain_nodes old.files) p = new_there (plain_nodes old.files) p can in
       record {
         view = dir_made old.files p new.nothing;
-        kept = put_kept old.files old.next are p directory new (λ id e. let wrong : ◌≡◌ {A = Option ℕ} None (Some id) = e in absurd (cc));
+        kept = put_kept old.files old.next are p (directory no_attributes) new (λ id e. let wrong : ◌≡◌ {A = Option ℕ} None (Some id) = e in absurd (cc));
       }
 
-  pub links_file : (from p : Path) (id : ℕ) (content : List ℕ) → get old.files from ≡ Some (numbered_file id content) → new_refusal (map_seen old).nodes p ≡ None →
-      Becomes (insert old.files p (numbered_file id content)) old.next (with_name (map_seen old) from p)
-  links_file from p id content is can =
+  pub links_file : (from p : Path) (id : ℕ) (attributes : Attributes) (content : List ℕ) → get old.files from ≡ Some (numbered_file id attributes content) → new_refusal (map_seen old).nodes p ≡ None →
+      Becomes (insert old.files p (numbered_file id attributes content)) old.next (with_name (map_seen old) from p)
+  links_file from p id attributes content is can =
       let new : IsNew (plain_nodes old.files) p = new_there (plain_nodes old.files) p can in
       let low : id < old.next = are.below.below from id (ap number_in is) in
       record {
-        view = linked_made old.files p new.nothing from id content is;
-        kept = put_kept old.files old.next are p (numbered_file id content) new (λ other e. omega (arith, same_number id other e, low));
+        view = linked_made old.files p new.nothing from id attributes content is;
+        kept = put_kept old.files old.next are p (numbered_file id attributes content) new (λ other e. omega (arith, same_number id other e, low));
       }
 
   takes_path : (p : Path) → p ≢ [] → HasNoneBelow (map_seen old).nodes p → Becomes (remove old.files p) old.next (with_nothing (map_seen old) p)
@@ -83,40 +83,36 @@ module _ (old : Inside) (was : IsKept old) where
     };
   }
 
-  file_at_path : (p : Path) → file_refusal (map_seen old).nodes p ≡ None → (bytes : List ℕ) × (get (plain_nodes old.files) p ≡ Some (file bytes))
+  file_at_path : (p : Path) → file_refusal (map_seen old).nodes p ≡ None → IsFileAt (plain_nodes old.files) p
   file_at_path p is = file_there (plain_nodes old.files) are.above p is
 
   pub takes_file : (p : Path) → file_refusal (map_seen old).nodes p ≡ None → Becomes (remove old.files p) old.next (with_nothing (map_seen old) p)
   takes_file p is =
       let there = file_at_path p is in
-      takes_path p (λ e. dir_or_file there.0 (sym (ap (get (plain_nodes old.files)) e ∙ are.above.root) ∙ there.1))
-      (file_below (plain_nodes old.files) are.above p there.0 there.1)
-    where
-      dir_or_file : (bytes : List ℕ) → ◌≡◌ {A = Option Node} (Some dir) (Some (file bytes)) → ⊥
-      dir_or_file bytes e = absurd (cc)
+      takes_path p (λ e. file_no_dir (plain_nodes old.files) p there (subst (IsDirAt (plain_nodes old.files)) (sym e) are.above.root))
+      (file_below (plain_nodes old.files) are.above p there)
 
   pub takes_dir : (p : Path) → is_root_path p ≡ false → is_empty_dir (map_seen old).nodes p ≡ true → Becomes (remove old.files p) old.next (with_nothing (map_seen old) p)
   takes_dir p other empty = takes_path p (not_root_path p other) (empty_below (plain_nodes old.files) p empty)
 
   pub links_node : (from p : Path) (node : Numbered) → get old.files from ≡ Some node → file_refusal (map_seen old).nodes from ≡ None → new_refusal (map_seen old).nodes p ≡ None →
       Becomes (insert old.files p node) old.next (with_name (map_seen old) from p)
-  links_node from p directory at is can =
-      let there = file_at_path from is in
-      let wrong : ◌≡◌ {A = Option Node} (Some dir) (Some (file there.0)) = sym (get-plain old.files from ∙ ap (option_map plain_node) at) ∙ there.1 in
-      absurd (cc)
-  links_node from p (numbered_file id content) at is can = links_file from p id content at can
+  links_node from p (directory attributes) at is can =
+      absurd (file_no_dir (plain_nodes old.files) from (file_at_path from is)
+      (record { attributes = attributes; is = get-plain old.files from ∙ ap (option_map plain_node) at }))
+  links_node from p (numbered_file id attributes content) at is can = links_file from p id attributes content at can
 
   pub something_there : (p : Path) → file_refusal (map_seen old).nodes p ≡ None → get old.files p ≡ None → ⊥
   something_there p is nothing =
       let there = file_at_path p is in
-      let wrong : ◌≡◌ {A = Option Node} None (Some (file there.0)) = sym (get-plain old.files p ∙ ap (option_map plain_node) nothing) ∙ there.1 in
+      let wrong : ◌≡◌ {A = Option Node} None (Some (file there.attributes there.bytes)) = sym (get-plain old.files p ∙ ap (option_map plain_node) nothing) ∙ there.is in
       absurd (cc)
 
-  pub sets_content : (p : Path) (change : Change) (id : ℕ) (bytes : List ℕ) → ((e : Path × Numbered) → changed change e ≡ Some (e.0, with_bytes_in id bytes e.1)) → number_at old.files p ≡ Some id →
-      Becomes (changed_files change old.files) old.next (with_content (map_seen old) p bytes)
-  sets_content p change id bytes each is = record {
-    view = content_set old.files change id bytes each p is;
-    kept = record { above = rooted_set old.files change id bytes each are.above; below = below_set old.files change id bytes each old.next are.below };
+  pub sets_content : (p : Path) (change : Change) (id : ℕ) (attributes : Attributes) (bytes : List ℕ) → ((e : Path × Numbered) → changed change e ≡ Some (e.0, with_bytes_in id attributes bytes e.1)) →
+      number_at old.files p ≡ Some id → attributes ≡ attributes_at (map_seen old).nodes p → Becomes (changed_files change old.files) old.next (with_content (map_seen old) p bytes)
+  sets_content p change id attributes bytes each is own = record {
+    view = content_set old.files change id attributes bytes each p is own;
+    kept = record { above = rooted_set old.files change id attributes bytes each are.above; below = below_set old.files change id attributes bytes each old.next are.below };
   }
 
   pub moves_paths : (p q : Path) → move_refusal (map_seen old).nodes p q ≡ None → same_path p q ≡ false → Becomes (moved p q old.files) old.next (with_moved (map_seen old) p q)

@@ -8,11 +8,10 @@ use Rattle.std.specs.Cmp.{eq_by_cmp_equiv}
 use Rattle.std.specs.FinMap.{get, get-insert}
 use Rattle.std.specs.FinSet.{contains, items, same_set, contains-insert, contains-items, contains-retain, contains-union, contains-from_list}
 use Rattle.bp_layout.specs.Lookup.{are_one}
-use Rattle.bp_layout.specs.Paths.{Path, Name, same_path, rest_below}
-use Rattle.bp_layout.specs.Paths.Node.{file}
+use Rattle.bp_layout.specs.Paths.{Path, Name, Node, same_path, rest_below}
 use Rattle.bp_layout.proofs.Below.{rest_below-append, rest_below-is, same_path-self, same_path-is}
 use Rattle.bp_plain.specs.PlainTree.{Nodes, Aliases, is_one, path_cmp, pair_cmp}
-use Rattle.bp_plain.specs.Plain.{alone, linked, moved_one, moved_pair, moved_path, paths_of, pairs_with, with_bytes_at, without}
+use Rattle.bp_plain.specs.Plain.{alone, linked, moved_one, moved_pair, moved_path, paths_of, pairs_with, with_node_at, without}
 use Rattle.bp_plain.specs.Kernels.{IsKernel, kernel_from, row, rows}
 use Rattle.bp_plain.proofs.PathOrder.{pair_cmp-IsAntisymmetric, pair_cmp-IsTotalOrder, path_cmp-IsTotalOrder, same_path_from, tie_same, tie_self}
 
@@ -153,15 +152,15 @@ paths_of-any one p q = paths_in p q (items one) ∙ sym (contains-items one (p, 
 pub same_by_cmp : (p q : Path) → eq_by_cmp path_cmp p q ≡ same_path p q
 same_by_cmp p q = by_bools _ _ (λ e. rw (same_path_from p q e) (same_path-self q)) (λ e. rw (same_path-is p q e) ((eq_by_cmp_equiv path_cmp-IsTotalOrder).refl q))
 
--- nodes in which each of some paths has these bytes
-pub get-with_bytes_at : (paths : List Path) (bytes : List ℕ) (nodes : Nodes) (q : Path) →
-    get (with_bytes_at paths bytes nodes) q ≡ cond (any_path q paths) (Some (file bytes)) (get nodes q)
-get-with_bytes_at [] bytes nodes q = refl
-get-with_bytes_at (p ∷ paths) bytes nodes q =
-    get-insert path_cmp-IsTotalOrder (with_bytes_at paths bytes nodes) p (file bytes) q
-    ∙ rw (same_by_cmp q p, get-with_bytes_at paths bytes nodes q) (go (same_path q p) (any_path q paths))
+-- nodes in which this one is at each of some paths
+pub get-with_node_at : (paths : List Path) (node : Node) (nodes : Nodes) (q : Path) →
+    get (with_node_at paths node nodes) q ≡ cond (any_path q paths) (Some node) (get nodes q)
+get-with_node_at [] node nodes q = refl
+get-with_node_at (p ∷ paths) node nodes q =
+    get-insert path_cmp-IsTotalOrder (with_node_at paths node nodes) p node q
+    ∙ rw (same_by_cmp q p, get-with_node_at paths node nodes q) (go (same_path q p) (any_path q paths))
   where
-    go : (x y : Bool) → cond x (Some (file bytes)) (cond y (Some (file bytes)) (get nodes q)) ≡ cond (x || y) (Some (file bytes)) (get nodes q)
+    go : (x y : Bool) → cond x (Some node) (cond y (Some node) (get nodes q)) ≡ cond (x || y) (Some node) (get nodes q)
     go true y = refl
     go false y = refl
 

@@ -68,8 +68,8 @@ once_numbered id (e ∷ es) sorted = go (has_number id e.1) refl (once_numbered 
     go false at rest = rw at rest
 
 has_is : (id : ℕ) (node : Numbered) → has_number id node ≡ are_one (Some id) (number_in (Some node))
-has_is id directory = refl
-has_is id (numbered_file other content) = are_one-back (Some other) (Some id)
+has_is id (directory attributes) = refl
+has_is id (numbered_file other attributes content) = are_one-back (Some other) (Some id)
 
 any_numbered : (id : ℕ) (es : List (Path × Numbered)) → T (is_sorted path_cmp es) → (q : Path) → any_path q (paths_numbered id es) ≡ are_one (Some id) (number_in (find path_cmp q es))
 any_numbered id [] sorted q = refl

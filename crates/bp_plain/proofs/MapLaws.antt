@@ -3,7 +3,7 @@ use Rattle.std.proofs.Common.{◌≡◌, ◌≢◌, ◌<◌, ◌==◌, ◌+◌, 
 use Rattle.std.specs.FinMap as finite
 use Rattle.std.specs.FinMap.{get, get-empty, insert, remove}
 use Rattle.std.specs.FinSet.{contains-empty}
-use Rattle.bp_layout.specs.Paths.{rest_below, Name, Path, Node}
+use Rattle.bp_layout.specs.Paths.{rest_below, Attributes, Name, Path, Node, no_attributes}
 use Rattle.bp_layout.specs.Lookup.{are_one}
 use Rattle.bp_layout.specs.Paths.Node.{dir, file}
 use Rattle.bp_layout.proofs.Below.{same_path-self}
@@ -11,10 +11,10 @@ use Rattle.bp_plain.specs.Changed.{changed, changed_files, with_bytes_in}
 use Rattle.bp_plain.specs.declared.trees.entries.Change.{Change}
 use Rattle.bp_plain.specs.Numbered.{Numbered, NumberedFiles, map_of, number_at, number_in, plain_node, plain_nodes, root_alone}
 use Rattle.bp_plain.specs.Numbered.Numbered.{directory, numbered_file}
-use Rattle.bp_plain.specs.Plain.{bytes_in, moved, paths_of, with_bytes_at, with_content, with_dir, with_file, with_moved, with_name, with_nothing}
-use Rattle.bp_plain.specs.PlainTree.{Nodes, PathMap, empty_map, pair_cmp, path_cmp}
+use Rattle.bp_plain.specs.Plain.{attributes_at, attributes_in, bytes_in, moved, paths_of, with_node_at, with_content, with_dir, with_file, with_moved, with_name, with_nothing}
+use Rattle.bp_plain.specs.PlainTree.{IsDirAt, Nodes, PathMap, empty_map, pair_cmp, path_cmp}
 use Rattle.bp_plain.specs.SeenTree.{IsRooted}
-use Rattle.bp_plain.proofs.Kernels.{any_path, are_one-back, before_move, get-with_bytes_at, kernel_alone, kernel_linked, kernel_moved, kernel_same, kernel_without, paths_of-any}
+use Rattle.bp_plain.proofs.Kernels.{any_path, are_one-back, before_move, get-with_node_at, kernel_alone, kernel_linked, kernel_moved, kernel_same, kernel_without, paths_of-any}
 use Rattle.bp_plain.proofs.Moved.{after_move, get-moved}
 use Rattle.bp_plain.proofs.Numbers.{Case, case_of, get-each, get-plain, map_is, nothing_there, pairs_of, plain-moved, plain-put, plain-taken, put_elsewhere, put_there, same_nodes, taken_elsewhere, taken_there}
 use Rattle.bp_plain.proofs.Numbers.Case.{same, other}
@@ -42,27 +42,27 @@ module _ (files : NumberedFiles) (p : Path) (nothing : get (plain_nodes files) p
   there : (node : Numbered) → number_at (insert files p node) p ≡ number_in (Some node)
   there node = ap number_in (put_there files p node)
 
-  pub file_made : (next : ℕ) → AreBelow files next → map_of (insert files p (numbered_file next [])) ≡ with_file (map_of files) p
+  pub file_made : (next : ℕ) → AreBelow files next → map_of (insert files p (numbered_file next no_attributes [])) ≡ with_file (map_of files) p
   file_made next are =
-      map_is (insert files p (numbered_file next [])) (with_file (map_of files) p) (plain-put files p (numbered_file next []))
-      (kernel_alone (number_at files) (number_at (insert files p (numbered_file next []))) (map_of files).one p next (pairs_of files)
-      (there (numbered_file next [])) (elsewhere (numbered_file next [])) (λ q e. absurd (omega (arith, are.below q next e))) unnumbered)
+      map_is (insert files p (numbered_file next no_attributes [])) (with_file (map_of files) p) (plain-put files p (numbered_file next no_attributes []))
+      (kernel_alone (number_at files) (number_at (insert files p (numbered_file next no_attributes []))) (map_of files).one p next (pairs_of files)
+      (there (numbered_file next no_attributes [])) (elsewhere (numbered_file next no_attributes [])) (λ q e. absurd (omega (arith, are.below q next e))) unnumbered)
 
-  pub dir_made : map_of (insert files p directory) ≡ with_dir (map_of files) p
+  pub dir_made : map_of (insert files p (directory no_attributes)) ≡ with_dir (map_of files) p
   dir_made =
-      map_is (insert files p directory) (with_dir (map_of files) p) (plain-put files p directory)
-      (kernel_same (number_at files) (number_at (insert files p directory)) (map_of files).one (λ q. at q (case_of q p)) (pairs_of files))
+      map_is (insert files p (directory no_attributes)) (with_dir (map_of files) p) (plain-put files p (directory no_attributes))
+      (kernel_same (number_at files) (number_at (insert files p (directory no_attributes))) (map_of files).one (λ q. at q (case_of q p)) (pairs_of files))
     where
-      at : (q : Path) → Case q p → number_at (insert files p directory) q ≡ number_at files q
-      at q (same e) = rw e (there directory ∙ sym unnumbered)
-      at q (other apart) = elsewhere directory q apart
+      at : (q : Path) → Case q p → number_at (insert files p (directory no_attributes)) q ≡ number_at files q
+      at q (same e) = rw e (there (directory no_attributes) ∙ sym unnumbered)
+      at q (other apart) = elsewhere (directory no_attributes) q apart
 
-  pub linked_made : (from : Path) (id : ℕ) (content : List ℕ) → get files from ≡ Some (numbered_file id content) → map_of (insert files p (numbered_file id content)) ≡ with_name (map_of files) from p
-  linked_made from id content is =
-      map_is (insert files p (numbered_file id content)) (with_name (map_of files) from p)
-      (plain-put files p (numbered_file id content) ∙ ap (λ bytes. insert (plain_nodes files) p (file bytes)) (sym (ap bytes_in (get-plain files from ∙ ap (option_map plain_node) is))))
-      (kernel_linked (number_at files) (number_at (insert files p (numbered_file id content))) (map_of files).one from p id (pairs_of files)
-      (ap number_in is) unnumbered (there (numbered_file id content)) (elsewhere (numbered_file id content)))
+  pub linked_made : (from : Path) (id : ℕ) (attributes : Attributes) (content : List ℕ) → get files from ≡ Some (numbered_file id attributes content) → map_of (insert files p (numbered_file id attributes content)) ≡ with_name (map_of files) from p
+  linked_made from id attributes content is =
+      map_is (insert files p (numbered_file id attributes content)) (with_name (map_of files) from p)
+      (plain-put files p (numbered_file id attributes content) ∙ ap (λ node. insert (plain_nodes files) p (file (attributes_in node) (bytes_in node))) (sym (get-plain files from ∙ ap (option_map plain_node) is)))
+      (kernel_linked (number_at files) (number_at (insert files p (numbered_file id attributes content))) (map_of files).one from p id (pairs_of files)
+      (ap number_in is) unnumbered (there (numbered_file id attributes content)) (elsewhere (numbered_file id attributes content)))
 
   pub below_put : (node : Numbered) (next : ℕ) → AreBelow files next → ((id : ℕ) → number_in (Some node) ≡ Some id → id < next) → AreBelow (insert files p node) next
   below_put node next are is = record { below = λ q id e. at q id e (case_of q p) }
@@ -90,51 +90,54 @@ module _ (files : NumberedFiles) (p : Path) where
       at q id e (same here) = absurd (not_some id (sym (ap (λ x. number_at (remove files p) x) here ∙ ap number_in (taken_there files p)) ∙ e))
       at q id e (other apart) = are.below q id (sym (ap number_in (taken_elsewhere files p q apart)) ∙ e)
 
--- ---- other bytes
+-- ---- other attributes and bytes
 
-same_number : (id : ℕ) (bytes : List ℕ) (o : Option Numbered) → number_in (option_map (with_bytes_in id bytes) o) ≡ number_in o
-same_number id bytes None = refl
-same_number id bytes (Some directory) = refl
-same_number id bytes (Some (numbered_file i content)) = refl
+same_number : (id : ℕ) (attributes : Attributes) (bytes : List ℕ) (o : Option Numbered) → number_in (option_map (with_bytes_in id attributes bytes) o) ≡ number_in o
+same_number id attributes bytes None = refl
+same_number id attributes bytes (Some (directory own)) = refl
+same_number id attributes bytes (Some (numbered_file i own content)) = refl
 
-module _ (files : NumberedFiles) (change : Change) (id : ℕ) (bytes : List ℕ) (each : (e : Path × Numbered) → changed change e ≡ Some (e.0, with_bytes_in id bytes e.1)) where
-  at_path : (q : Path) → get (changed_files change files) q ≡ option_map (with_bytes_in id bytes) (get files q)
-  at_path q = get-each change (with_bytes_in id bytes) each files q
+module _ (files : NumberedFiles) (change : Change) (id : ℕ) (attributes : Attributes) (bytes : List ℕ)
+    (each : (e : Path × Numbered) → changed change e ≡ Some (e.0, with_bytes_in id attributes bytes e.1)) where
+  at_path : (q : Path) → get (changed_files change files) q ≡ option_map (with_bytes_in id attributes bytes) (get files q)
+  at_path q = get-each change (with_bytes_in id attributes bytes) each files q
 
   pub numbers_stay : (q : Path) → number_at (changed_files change files) q ≡ number_at files q
-  numbers_stay q = ap number_in (at_path q) ∙ same_number id bytes (get files q)
+  numbers_stay q = ap number_in (at_path q) ∙ same_number id attributes bytes (get files q)
 
-  plain_at : (q : Path) → get (plain_nodes (changed_files change files)) q ≡ option_map plain_node (option_map (with_bytes_in id bytes) (get files q))
+  plain_at : (q : Path) → get (plain_nodes (changed_files change files)) q ≡ option_map plain_node (option_map (with_bytes_in id attributes bytes) (get files q))
   plain_at q = get-plain (changed_files change files) q ∙ ap (option_map plain_node) (at_path q)
 
-  pub content_set : (p : Path) → number_at files p ≡ Some id → map_of (changed_files change files) ≡ with_content (map_of files) p bytes
-  content_set p is =
-      map_is (changed_files change files) (with_content (map_of files) p bytes)
+  pub content_set : (p : Path) → number_at files p ≡ Some id → attributes ≡ attributes_at (plain_nodes files) p → map_of (changed_files change files) ≡ with_content (map_of files) p bytes
+  content_set p is own =
+      let made : Attributes → PathMap = λ (a : Attributes). record { nodes = with_node_at (paths_of (map_of files).one p) (file a bytes) (plain_nodes files); one = (map_of files).one } in
+      map_is (changed_files change files) (made attributes)
       (same_nodes _ _ (λ q.
       plain_at q ∙ at q (get files q) refl
-      ∙ sym (get-with_bytes_at (paths_of (map_of files).one p) bytes (plain_nodes files) q
-      ∙ ap (λ b. cond b (Some (file bytes)) (get (plain_nodes files) q))
+      ∙ sym (get-with_node_at (paths_of (map_of files).one p) (file attributes bytes) (plain_nodes files) q
+      ∙ ap (λ b. cond b (Some (file attributes bytes)) (get (plain_nodes files) q))
       (paths_of-any (map_of files).one p q ∙ (pairs_of files).each p q ∙ ap (λ x. are_one x (number_at files q)) is))))
       (kernel_same (number_at files) (number_at (changed_files change files)) (map_of files).one numbers_stay (pairs_of files))
+      ∙ ap made own
     where
-      at : (q : Path) (o : Option Numbered) → get files q ≡ o → option_map plain_node (option_map (with_bytes_in id bytes) (get files q)) ≡ cond (are_one (Some id) (number_at files q)) (Some (file bytes)) (get (plain_nodes files) q)
+      at : (q : Path) (o : Option Numbered) → get files q ≡ o → option_map plain_node (option_map (with_bytes_in id attributes bytes) (get files q)) ≡ cond (are_one (Some id) (number_at files q)) (Some (file attributes bytes)) (get (plain_nodes files) q)
       at q None e = rw (get-plain files q, e) refl
-      at q (Some directory) e = rw (get-plain files q, e) refl
-      at q (Some (numbered_file i content)) e = rw (get-plain files q, e) (by_number (i == id) refl)
+      at q (Some (directory own)) e = rw (get-plain files q, e) refl
+      at q (Some (numbered_file i own content)) e = rw (get-plain files q, e) (by_number (i == id) refl)
         where
-          by_number : (b : Bool) → (i == id) ≡ b → Some (file (if i == id then bytes else content)) ≡ cond (id == i) (Some (file bytes)) (Some (file content))
+          by_number : (b : Bool) → (i == id) ≡ b → Some (file (if i == id then attributes else own) (if i == id then bytes else content)) ≡ cond (id == i) (Some (file attributes bytes)) (Some (file own content))
           by_number true f = rw (f, are_one-back (Some id) (Some i) ∙ f) refl
           by_number false f = rw (f, are_one-back (Some id) (Some i) ∙ f) refl
 
   pub rooted_set : IsRooted (plain_nodes files) → IsRooted (plain_nodes (changed_files change files))
   rooted_set rooted = rooted_same (plain_nodes files) rooted (plain_nodes (changed_files change files))
-      (λ q e. plain_at q ∙ dirs (get files q) (sym (get-plain files q) ∙ e))
-      (λ q e. plain_at q ∙ ap (λ o. option_map plain_node (option_map (with_bytes_in id bytes) o)) (nothing_there files q e))
+      (λ q e. record { attributes = e.attributes; is = plain_at q ∙ dirs e.attributes (get files q) (sym (get-plain files q) ∙ e.is) })
+      (λ q e. plain_at q ∙ ap (λ o. option_map plain_node (option_map (with_bytes_in id attributes bytes) o)) (nothing_there files q e))
     where
-      dirs : (o : Option Numbered) → option_map plain_node o ≡ Some dir → option_map plain_node (option_map (with_bytes_in id bytes) o) ≡ Some dir
-      dirs None e = let wrong : ◌≡◌ {A = Option Node} None (Some dir) = e in absurd (cc)
-      dirs (Some directory) e = refl
-      dirs (Some (numbered_file i content)) e = let wrong : ◌≡◌ {A = Option Node} (Some (file content)) (Some dir) = e in absurd (cc)
+      dirs : (a : Attributes) (o : Option Numbered) → option_map plain_node o ≡ Some (dir a) → option_map plain_node (option_map (with_bytes_in id attributes bytes) o) ≡ Some (dir a)
+      dirs a None e = let wrong : ◌≡◌ {A = Option Node} None (Some (dir a)) = e in absurd (cc)
+      dirs a (Some (directory own)) e = e
+      dirs a (Some (numbered_file i own content)) e = let wrong : ◌≡◌ {A = Option Node} (Some (file own content)) (Some (dir a)) = e in absurd (cc)
 
   pub below_set : (next : ℕ) → AreBelow files next → AreBelow (changed_files change files) next
   below_set next are = record { below = λ q i e. are.below q i (sym (numbers_stay q) ∙ e) }
@@ -146,7 +149,7 @@ no_paths (p ∷ paths) none = absurd (true≢false (sym (ap (λ b. b || any_path
 
 pub no_content_set : (files : NumberedFiles) (p : Path) (bytes : List ℕ) → number_at files p ≡ None → with_content (map_of files) p bytes ≡ map_of files
 no_content_set files p bytes none =
-    let made : List Path → PathMap = λ paths. record { nodes = with_bytes_at paths bytes (plain_nodes files); one = (map_of files).one } in
+    let made : List Path → PathMap = λ paths. record { nodes = with_node_at paths (file (attributes_at (plain_nodes files) p) bytes) (plain_nodes files); one = (map_of files).one } in
     ap made
     (no_paths (paths_of (map_of files).one p) (λ q. paths_of-any (map_of files).one p q ∙ (pairs_of files).each p q ∙ ap (λ x. are_one x (number_at files q)) none))
 
@@ -186,24 +189,24 @@ root_unnumbered : (p : Path) → number_at root_alone p ≡ None
 root_unnumbered p = go (case_of p [])
   where
     go : Case p [] → number_at root_alone p ≡ None
-    go (same e) = rw e (ap number_in (put_there finite.empty [] directory))
-    go (other apart) = ap number_in (put_elsewhere finite.empty [] directory p apart ∙ get-empty path_cmp p)
+    go (same e) = rw e (ap number_in (put_there finite.empty [] (directory no_attributes)))
+    go (other apart) = ap number_in (put_elsewhere finite.empty [] (directory no_attributes) p apart ∙ get-empty path_cmp p)
 
 pub root_map : map_of root_alone ≡ empty_map
 root_map =
-    map_is root_alone empty_map (plain-put finite.empty [] directory ∙ ap (λ (nodes : Nodes). insert nodes [] dir) empty_plain)
+    map_is root_alone empty_map (plain-put finite.empty [] (directory no_attributes) ∙ ap (λ (nodes : Nodes). insert nodes [] (dir no_attributes)) empty_plain)
     (record { each = λ p q. contains-empty pair_cmp (p, q) ∙ sym (ap (λ x. are_one x (number_at root_alone q)) (root_unnumbered p)) })
 
 pub root_rooted : IsRooted (plain_nodes root_alone)
 root_rooted = record {
-  root = get-plain root_alone [] ∙ ap (option_map plain_node) (put_there finite.empty [] directory);
+  root = record { attributes = no_attributes; is = get-plain root_alone [] ∙ ap (option_map plain_node) (put_there finite.empty [] (directory no_attributes)) };
   parents = λ path name node e. at path name node e;
 }
   where
-    at : (path : Path) (name : Name) (node : Node) → get (plain_nodes root_alone) (path ++ name ∷ []) ≡ Some node → get (plain_nodes root_alone) path ≡ Some dir
+    at : (path : Path) (name : Name) (node : Node) → get (plain_nodes root_alone) (path ++ name ∷ []) ≡ Some node → IsDirAt (plain_nodes root_alone) path
     at path name node e =
         let nothing : get (plain_nodes root_alone) (path ++ name ∷ []) ≡ None =
-        get-plain root_alone (path ++ name ∷ []) ∙ ap (option_map plain_node) (put_elsewhere finite.empty [] directory (path ++ name ∷ []) (not_empty_path path name) ∙ get-empty path_cmp (path ++ name ∷ [])) in
+        get-plain root_alone (path ++ name ∷ []) ∙ ap (option_map plain_node) (put_elsewhere finite.empty [] (directory no_attributes) (path ++ name ∷ []) (not_empty_path path name) ∙ get-empty path_cmp (path ++ name ∷ [])) in
         let wrong : ◌≡◌ {A = Option Node} None (Some node) = sym nothing ∙ e in absurd (cc)
 
 pub root_below : (next : ℕ) → AreBelow root_alone next

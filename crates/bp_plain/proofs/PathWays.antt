@@ -10,7 +10,7 @@ use Rattle.std.specs.FinMap.Entries.{below_all, find, is_sorted}
 use Rattle.bp_layout.specs.Paths.{Name, Path, Node, is_name}
 use Rattle.bp_layout.specs.Paths.Node.{dir}
 use Rattle.bp_plain.specs.Plain.{first_refusal_from, parent_of, walk, walk_parent}
-use Rattle.bp_plain.specs.PlainTree.{IsPathMap, Nodes, PathMap, path_cmp}
+use Rattle.bp_plain.specs.PlainTree.{IsDirAt, IsPathMap, Nodes, PathMap, path_cmp}
 use Rattle.bp_plain.proofs.PathOrder.{path_cmp-IsTotalOrder}
 use Rattle.bp_plain.proofs.PathTexts.{both_true, name_passes}
 
@@ -98,15 +98,16 @@ below_longer (x ∷ p) name rest = rw (tied_itself nat_list_cmp_total x) (below_
 
 -- there is a directory at each path above
 abbrev pub HasWay : Nodes → Path → Type 0
-HasWay nodes path = (p : Path) (name : Name) (rest : Path) → path ≡ p ++ name ∷ rest → get nodes p ≡ Some dir
+HasWay nodes path = (p : Path) (name : Name) (rest : Path) → path ≡ p ++ name ∷ rest → IsDirAt nodes p
 
 pub map_has_way : (map : PathMap) → IsPathMap map → (path : Path) (node : Node) → get map.nodes path ≡ Some node → HasWay map.nodes path
 map_has_way map is path node at p name rest cut = go p name rest node (ap (get map.nodes) (sym cut) ∙ at)
   where
-    go : (p : Path) (name : Name) (rest : Path) (node : Node) → get map.nodes (p ++ name ∷ rest) ≡ Some node → get map.nodes p ≡ Some dir
+    go : (p : Path) (name : Name) (rest : Path) (node : Node) → get map.nodes (p ++ name ∷ rest) ≡ Some node → IsDirAt map.nodes p
     go p name [] node there = is.parents p name node there
     go p name (other ∷ rest) node there =
-        is.parents p name dir (go (p ++ name ∷ []) other rest node (ap (get map.nodes) (append_assoc p (name ∷ []) (other ∷ rest)) ∙ there))
+        let next : IsDirAt map.nodes (p ++ name ∷ []) = go (p ++ name ∷ []) other rest node (ap (get map.nodes) (append_assoc p (name ∷ []) (other ∷ rest)) ∙ there) in
+        is.parents p name (dir next.attributes) next.is
 
 -- each name of a path that is there can be spelled
 pub all_named : (map : PathMap) → IsPathMap map → (path : Path) (node : Node) → get map.nodes path ≡ Some node → list_all is_name path ≡ true
@@ -118,7 +119,8 @@ all_named map is path node at = go [] path refl
     here : (prefix : Path) (name : Name) (rest : Path) → path ≡ prefix ++ name ∷ rest → is_name name ≡ true
     here prefix name [] cut = name_passes name (is.names prefix name node (ap (get map.nodes) (sym cut) ∙ at))
     here prefix name (other ∷ rest) cut =
-        name_passes name (is.names prefix name dir (way (prefix ++ name ∷ []) other rest (cut ∙ sym (append_assoc prefix (name ∷ []) (other ∷ rest)))))
+        let next : IsDirAt map.nodes (prefix ++ name ∷ []) = way (prefix ++ name ∷ []) other rest (cut ∙ sym (append_assoc prefix (name ∷ []) (other ∷ rest))) in
+        name_passes name (is.names prefix name (dir next.attributes) next.is)
 
     go : (prefix rest : Path) → path ≡ prefix ++ rest → list_all is_name rest ≡ true
     go prefix [] cut = refl
@@ -129,12 +131,12 @@ walks nodes path node way at = go [] path refl
   where
     there : (here : Path) (name : Name) (rest : Path) → path ≡ here ++ name ∷ rest → is_none (get nodes (here ++ name ∷ [])) ≡ false
     there here name [] cut = ap (λ p. is_none (get nodes p)) (sym cut) ∙ ap is_none at
-    there here name (other ∷ rest) cut = ap is_none (way (here ++ name ∷ []) other rest (cut ∙ sym (append_assoc here (name ∷ []) (other ∷ rest))))
+    there here name (other ∷ rest) cut = ap is_none (way (here ++ name ∷ []) other rest (cut ∙ sym (append_assoc here (name ∷ []) (other ∷ rest)))).is
 
     go : (here rest : Path) → path ≡ here ++ rest → first_refusal_from nodes here rest ≡ None
     go here [] cut = refl
     go here (name ∷ rest) cut =
-        rw (way here name rest cut, there here name rest cut, go (here ++ name ∷ []) rest (cut ∙ sym (append_assoc here (name ∷ []) rest))) refl
+        rw ((way here name rest cut).is, there here name rest cut, go (here ++ name ∷ []) rest (cut ∙ sym (append_assoc here (name ∷ []) rest))) refl
 
 -- a path without its last name, and that name
 parent_cut : (name : Name) (path : Path) → (last : Name) × (name ∷ path ≡ parent_of (name ∷ path) ++ last ∷ [])
@@ -144,15 +146,19 @@ parent_cut name (other ∷ path) = let rest = parent_cut other path in (rest.0, 
 pub walks_parent : (nodes : Nodes) (name : Name) (path : Path) → HasWay nodes (name ∷ path) → walk_parent nodes (name ∷ path) ≡ None
 walks_parent nodes name path way =
     let cut = parent_cut name path in
-    let here : get nodes (parent_of (name ∷ path)) ≡ Some dir = way (parent_of (name ∷ path)) cut.0 [] cut.1 in
+    let here : IsDirAt nodes (parent_of (name ∷ path)) = way (parent_of (name ∷ path)) cut.0 [] cut.1 in
     let above : HasWay nodes (parent_of (name ∷ path)) = λ p n rest is. way p n (rest ++ cut.0 ∷ []) (cut.1 ∙ ap (λ x. x ++ cut.0 ∷ []) is ∙ append_assoc p (n ∷ rest) (cut.0 ∷ [])) in
-    rw (walks nodes (parent_of (name ∷ path)) dir above here, here) refl
+    rw (walks nodes (parent_of (name ∷ path)) (dir here.attributes) above here.is, here.is) refl
 
 -- a node at the path itself is none above it
 pub insert_keeps_way : (nodes : Nodes) (path : Path) (node : Node) → HasWay nodes path → HasWay (insert nodes path node) path
 insert_keeps_way nodes path node way p name rest cut =
     let other : eq_by_cmp path_cmp p path ≡ false = ap (λ q. is_eq (path_cmp p q)) cut ∙ ap is_eq (below_longer p name rest) in
-    get-insert path_cmp-IsTotalOrder nodes path node p ∙ ap (λ b. cond b (Some node) (get nodes p)) other ∙ way p name rest cut
+    let here : IsDirAt nodes p = way p name rest cut in
+    record {
+      attributes = here.attributes;
+      is = get-insert path_cmp-IsTotalOrder nodes path node p ∙ ap (λ b. cond b (Some node) (get nodes p)) other ∙ here.is;
+    }
 
 pub get_inserted : (nodes : Nodes) (path : Path) (node : Node) → get (insert nodes path node) path ≡ Some node
 get_inserted nodes path node = get-insert path_cmp-IsTotalOrder nodes path node path ∙ ap (λ r. cond (is_eq r) (Some node) (get nodes path)) (tied_itself path_cmp-IsTotalOrder path)

@@ -8,12 +8,12 @@ use Rattle.std.specs.Cmp.Lexicographic.{slice_cmp, nat_list_cmp_total}
 use Rattle.std.specs.FinMap.{get, entries, entries_sorted, get-entries}
 use Rattle.std.specs.FinMap.Entries.{below_all, find, find-where_key, is_sorted, is_sorted-where_key, same_entries, where_key}
 use Rattle.bp_layout.proofs.Below.{bytes_eq_self, rest_below-append, rest_below-is}
-use Rattle.bp_layout.specs.Paths.{rest_below, Name, Path, Node}
+use Rattle.bp_layout.specs.Paths.{rest_below, Attributes, Name, Path, Node}
 use Rattle.bp_layout.specs.Paths.Node.{dir, file}
 use Rattle.bp_layout.specs.declared.fields.Kind.{Kind}
 use Rattle.bp_plain.specs.Export.{IsWalked, entries_below}
 use Rattle.bp_plain.specs.Plain.{listed_in, listing, only_name}
-use Rattle.bp_plain.specs.PlainTree.{IsPathMap, PathMap, path_cmp}
+use Rattle.bp_plain.specs.PlainTree.{IsDirAt, IsPathMap, PathMap, path_cmp}
 use Rattle.bp_plain.proofs.PathWays.{Entry, below_longer, both_hold, find_back, is_less, left_holds, less_than, right_holds, map_has_way}
 use Rattle.bp_plain.proofs.PathOrder.{path_cmp-IsTotalOrder, path_cmp-IsAntisymmetric, same_path_from}
 
@@ -249,29 +249,30 @@ module _ (map : PathMap) (is : IsPathMap map) (p : Path) where
   longer n r e =
       let none : ◌≡◌ {A = Option Path} (Some (n ∷ r)) (Some []) = sym (rest_below-append p (n ∷ r)) ∙ ap (rest_below p) (e ∙ sym (append-nil p)) ∙ rest_below-append p [] in absurd (cc)
 
-  walked_file : (content : List ℕ) → get map.nodes p ≡ Some (file content) → entries_below map p ≡ (p, file content) ∷ []
-  walked_file content at = same_entries path_cmp path_cmp-IsTotalOrder path_cmp-IsAntisymmetric (entries_below map p) ((p, file content) ∷ []) sorted_own tt (λ q. own q ∙ go q (rest_below p q) refl)
+  walked_file : (attributes : Attributes) (content : List ℕ) → get map.nodes p ≡ Some (file attributes content) → entries_below map p ≡ (p, file attributes content) ∷ []
+  walked_file attributes content at = same_entries path_cmp path_cmp-IsTotalOrder path_cmp-IsAntisymmetric (entries_below map p) ((p, file attributes content) ∷ []) sorted_own tt (λ q. own q ∙ go q (rest_below p q) refl)
     where
-      go : (q : Path) (o : Option Path) → rest_below p q ≡ o → cond (is_some o) (get map.nodes q) None ≡ cond (eq_by_cmp path_cmp q p) (Some (file content)) None
+      go : (q : Path) (o : Option Path) → rest_below p q ≡ o → cond (is_some o) (get map.nodes q) None ≡ cond (eq_by_cmp path_cmp q p) (Some (file attributes content)) None
       go q None apart =
           let other : eq_by_cmp path_cmp q p ≡ false = differ q p (λ e. let some : ◌≡◌ {A = Option Path} None (Some []) = sym apart ∙ ap (rest_below p) (e ∙ sym (append-nil p)) ∙ rest_below-append p [] in absurd (cc)) in
-          ap (λ b. cond b (Some (file content)) None) (sym other)
+          ap (λ b. cond b (Some (file attributes content)) None) (sym other)
       go q (Some []) here =
           let same : q ≡ p = itself q (rest_below-is p q [] here) in
-          ap (get map.nodes) same ∙ at ∙ sym (ap (λ b. cond b (Some (file content)) None) (ap (λ x. eq_by_cmp path_cmp x p) same ∙ ties p))
+          ap (get map.nodes) same ∙ at ∙ sym (ap (λ b. cond b (Some (file attributes content)) None) (ap (λ x. eq_by_cmp path_cmp x p) same ∙ ties p))
       go q (Some (n ∷ r)) below =
           let cut : q ≡ p ++ n ∷ r = rest_below-is p q (n ∷ r) below in
           let other : eq_by_cmp path_cmp q p ≡ false = differ q p (λ e. longer n r (sym cut ∙ e)) in
-          none q n r cut (get map.nodes q) refl ∙ ap (λ b. cond b (Some (file content)) None) (sym other)
+          none q n r cut (get map.nodes q) refl ∙ ap (λ b. cond b (Some (file attributes content)) None) (sym other)
         where
           none : (q : Path) (n : Name) (r : Path) → q ≡ p ++ n ∷ r → (o : Option Node) → get map.nodes q ≡ o → get map.nodes q ≡ None
           none q n r cut None is_none = is_none
           none q n r cut (Some node) there =
-              let two : ◌≡◌ {A = Option Node} (Some (file content)) (Some dir) = sym at ∙ map_has_way map is q node there p n r cut in absurd (cc)
+              let above : IsDirAt map.nodes p = map_has_way map is q node there p n r cut in
+              let two : ◌≡◌ {A = Option Node} (Some (file attributes content)) (Some (dir above.attributes)) = sym at ∙ above.is in absurd (cc)
 
-  walked_dir : get map.nodes p ≡ Some dir → entries_below map p ≡ (p, dir) ∷ flat_map (λ entry. entries_below map (p ++ entry.1 ∷ [])) (listing map.nodes p)
-  walked_dir at =
-      same_entries path_cmp path_cmp-IsTotalOrder path_cmp-IsAntisymmetric (entries_below map p) ((p, dir) ∷ blocks map p ks) sorted_own
+  walked_dir : (attributes : Attributes) → get map.nodes p ≡ Some (dir attributes) → entries_below map p ≡ (p, dir attributes) ∷ flat_map (λ entry. entries_below map (p ++ entry.1 ∷ [])) (listing map.nodes p)
+  walked_dir attributes at =
+      same_entries path_cmp path_cmp-IsTotalOrder path_cmp-IsAntisymmetric (entries_below map p) ((p, dir attributes) ∷ blocks map p ks) sorted_own
       (both_hold _ _ (first_below map p ks) (blocks_sorted map p ks (listing_sorted p (entries map.nodes) (entries_sorted map.nodes)))) (λ q. own q ∙ go q (rest_below p q) refl)
     where
       ks : List Listed
@@ -280,15 +281,16 @@ module _ (map : PathMap) (is : IsPathMap map) (p : Path) where
       named : (q : Path) (n : Name) (r : Path) → q ≡ p ++ n ∷ r → (node : Node) → get map.nodes q ≡ Some node → list_any (λ k. bytes_eq k.1 n) (listing map.nodes p) ≡ true
       named q n [] cut node there = has_name p n (entries map.nodes) node (sym (get-entries map.nodes (p ++ n ∷ [])) ∙ ap (get map.nodes) (sym cut) ∙ there)
       named q n (m ∷ r) cut node there =
-          has_name p n (entries map.nodes) dir (sym (get-entries map.nodes (p ++ n ∷ [])) ∙ map_has_way map is q node there (p ++ n ∷ []) m r (cut ∙ sym (append_assoc p (n ∷ []) (m ∷ r))))
+          let next : IsDirAt map.nodes (p ++ n ∷ []) = map_has_way map is q node there (p ++ n ∷ []) m r (cut ∙ sym (append_assoc p (n ∷ []) (m ∷ r))) in
+          has_name p n (entries map.nodes) (dir next.attributes) (sym (get-entries map.nodes (p ++ n ∷ [])) ∙ next.is)
 
-      go : (q : Path) (o : Option Path) → rest_below p q ≡ o → cond (is_some o) (get map.nodes q) None ≡ cond (eq_by_cmp path_cmp q p) (Some dir) (find path_cmp q (blocks map p (listing map.nodes p)))
+      go : (q : Path) (o : Option Path) → rest_below p q ≡ o → cond (is_some o) (get map.nodes q) None ≡ cond (eq_by_cmp path_cmp q p) (Some (dir attributes)) (find path_cmp q (blocks map p (listing map.nodes p)))
       go q None apart =
           let other : eq_by_cmp path_cmp q p ≡ false = differ q p (λ e. let some : ◌≡◌ {A = Option Path} None (Some []) = sym apart ∙ ap (rest_below p) (e ∙ sym (append-nil p)) ∙ rest_below-append p [] in absurd (cc)) in
           rw other (sym (find_no_blocks map p q (listing map.nodes p) apart))
       go q (Some []) here =
           let same : q ≡ p = itself q (rest_below-is p q [] here) in
-          ap (get map.nodes) same ∙ at ∙ sym (ap (λ b. cond b (Some dir) (find path_cmp q (blocks map p (listing map.nodes p)))) (ap (λ x. eq_by_cmp path_cmp x p) same ∙ ties p))
+          ap (get map.nodes) same ∙ at ∙ sym (ap (λ b. cond b (Some (dir attributes)) (find path_cmp q (blocks map p (listing map.nodes p)))) (ap (λ x. eq_by_cmp path_cmp x p) same ∙ ties p))
       go q (Some (n ∷ r)) below =
           let cut : q ≡ p ++ n ∷ r = rest_below-is p q (n ∷ r) below in
           let other : eq_by_cmp path_cmp q p ≡ false = differ q p (λ e. longer n r (sym cut ∙ e)) in
@@ -309,6 +311,6 @@ all_below_root (e ∷ es) = ap (λ rest. e ∷ rest) (all_below_root es)
 pub map_walked : (map : PathMap) → IsPathMap map → IsWalked map
 map_walked map is = record {
   all = all_below_root (entries map.nodes);
-  at_file = λ path content at. walked_file map is path content at;
-  at_dir = λ path at. walked_dir map is path at;
+  at_file = λ path attributes content at. walked_file map is path attributes content at;
+  at_dir = λ path attributes at. walked_dir map is path attributes at;
 }

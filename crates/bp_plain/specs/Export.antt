@@ -4,12 +4,12 @@ use Rattle.std.specs.List.{filter, list_all, range_with_len}
 use Rattle.std.specs.FinMap.{get, entries, keys}
 use Rattle.bp_limits.specs.Limits.{block_size}
 use Rattle.bp_limits.specs.CallLimits.{greatest_size, max_path}
-use Rattle.bp_layout.specs.Paths.{rest_below, same_path, Path, Node}
+use Rattle.bp_layout.specs.Paths.{Attributes, rest_below, same_path, Path, Node, no_attributes}
 use Rattle.bp_layout.specs.Paths.Node.{dir, file}
 use Rattle.bp_plain.specs.Calls.{Call}
 use Rattle.bp_plain.specs.Calls.Call.{create, link, mkdir, write, truncate}
 use Rattle.bp_plain.specs.Calls.Answer.{done}
-use Rattle.bp_plain.specs.Plain.{is_root_path, listing, plain}
+use Rattle.bp_plain.specs.Plain.{attributes_at, is_root_path, listing, plain}
 use Rattle.bp_plain.specs.PlainTree.{FileTree, IsFileTree, PathMap, is_one}
 
 -- the path text of a path: `/` and a name, for each name of the path
@@ -46,8 +46,8 @@ size_call text content =
 -- ---- the calls that make a tree
 
 abbrev pub calls_for : List ℕ → Node → List Call
-calls_for text dir = mkdir text ∷ []
-calls_for text (file content) = create text ∷ writes_of text content ++ size_call text content
+calls_for text (dir attributes) = mkdir text ∷ []
+calls_for text (file attributes content) = create text ∷ writes_of text content ++ size_call text content
 
 -- the first path of the file at this path, in the order of paths; for a directory, the path itself
 abbrev pub first_of : PathMap → Path → Path
@@ -86,8 +86,12 @@ HasShortPaths tree =
 pub record IsExportable (tree : FileTree) : Type 0 where
   pub is_tree : IsFileTree tree
   pub spelled : HasShortPaths tree
-  pub sized : (path : Path) (content : List ℕ) → get tree.now.nodes path ≡ Some (file content)
-      → length content ≤ greatest_size tree.version
+  pub sized : (path : Path) (attributes : Attributes) (content : List ℕ)
+      → get tree.now.nodes path ≡ Some (file attributes content) → length content ≤ greatest_size tree.version
+
+-- No file or directory has attributes. An exported tree must have none to be made again: no call sets attributes yet.
+abbrev pub HasNoAttributes : PathMap → Type 0
+HasNoAttributes map = (path : Path) → attributes_at map.nodes path ≡ no_attributes
 
 -- Names and file contents are lists of bytes, numbers below 256.
 abbrev pub are_bytes : List ℕ → Bool
@@ -95,8 +99,8 @@ are_bytes xs = list_all (λ b. nat_lt b 256) xs
 
 pub record IsOfBytes (tree : FileTree) : Type 0 where
   pub names : (path : Path) (node : Node) → get tree.now.nodes path ≡ Some node → list_all are_bytes path ≡ true
-  pub contents : (path : Path) (content : List ℕ) → get tree.now.nodes path ≡ Some (file content)
-      → are_bytes content ≡ true
+  pub contents : (path : Path) (attributes : Attributes) (content : List ℕ)
+      → get tree.now.nodes path ≡ Some (file attributes content) → are_bytes content ≡ true
 
 -- ---- a tree in the order of a directory walk
 
@@ -107,8 +111,9 @@ entries_below map path = filter (λ entry. is_some (rest_below path entry.0)) (e
 -- The entries at and below a directory are its own entry and then, name by name, those at and below each name in it.
 pub record IsWalked (map : PathMap) : Type 0 where
   pub all : entries_below map [] ≡ entries map.nodes
-  pub at_file : (path : Path) (content : List ℕ) → get map.nodes path ≡ Some (file content)
-      → entries_below map path ≡ (path, file content) ∷ []
-  pub at_dir : (path : Path) → get map.nodes path ≡ Some dir
-      → entries_below map path
-      ≡ (path, dir) ∷ flat_map (λ entry. entries_below map (path ++ entry.1 ∷ [])) (listing map.nodes path)
+  pub at_file : (path : Path) (attributes : Attributes) (content : List ℕ)
+      → get map.nodes path ≡ Some (file attributes content)
+      → entries_below map path ≡ (path, file attributes content) ∷ []
+  pub at_dir : (path : Path) (attributes : Attributes) → get map.nodes path ≡ Some (dir attributes)
+      → entries_below map path ≡ (path, dir attributes)
+      ∷ flat_map (λ entry. entries_below map (path ++ entry.1 ∷ [])) (listing map.nodes path)

@@ -4,9 +4,9 @@ use Rattle.std.specs.Prelude.{ℕ, ◌+◌, ◌-◌, List, [], ◌∷◌, ◌++�
 use Rattle.std.specs.List.{filter_map, list_any, sum_by}
 use Rattle.std.specs.FinMap.{FinMap, get, insert, remove, entries, from_entries}
 use Rattle.std.specs.FinSet as set
-use Rattle.bp_layout.specs.Paths.{Name, Path, Node, same_path, rest_below, parse}
+use Rattle.bp_layout.specs.Paths.{Attributes, Name, Path, Node, no_attributes, same_path, rest_below, parse}
 use Rattle.bp_layout.specs.Paths.Node.{dir, file}
-use Rattle.bp_limits.specs.CallLimits.{greatest_size, greatest_write, is_two, max_batch}
+use Rattle.bp_limits.specs.CallLimits.{greatest_size, greatest_write, allows_snapshot, max_batch}
 use Rattle.bp_plain.specs.PlainTree.{FileTree, Nodes, Aliases, PathMap, is_one, path_cmp}
 use Rattle.bp_layout.specs.declared.fields.Kind.{Kind}
 use Rattle.bp_layout.specs.declared.fields.Kind.TheVariants.{File, Dir}
@@ -26,12 +26,17 @@ parent_of (name ∷ other ∷ path) = name ∷ parent_of (other ∷ path)
 -- ---- the node at a path
 
 abbrev pub is_a_dir : Option Node → Bool
-is_a_dir (Some dir) = true
+is_a_dir (Some (dir attributes)) = true
 is_a_dir _ = false
 
 abbrev pub bytes_in : Option Node → List ℕ
-bytes_in (Some (file content)) = content
+bytes_in (Some (file attributes content)) = content
 bytes_in _ = []
+
+abbrev pub attributes_in : Option Node → Attributes
+attributes_in None = no_attributes
+attributes_in (Some (dir attributes)) = attributes
+attributes_in (Some (file attributes content)) = attributes
 
 abbrev pub is_dir_at : Nodes → Path → Bool
 is_dir_at nodes path = is_a_dir (get nodes path)
@@ -39,9 +44,12 @@ is_dir_at nodes path = is_a_dir (get nodes path)
 abbrev pub bytes_at : Nodes → Path → List ℕ
 bytes_at nodes path = bytes_in (get nodes path)
 
+abbrev pub attributes_at : Nodes → Path → Attributes
+attributes_at nodes path = attributes_in (get nodes path)
+
 abbrev pub kind_of_node : Node → Kind
-kind_of_node dir = Dir
-kind_of_node (file content) = File
+kind_of_node (dir attributes) = Dir
+kind_of_node (file attributes content) = File
 
 abbrev pub only_name : Option Path → Option Name
 only_name (Some (name ∷ [])) = Some name
@@ -126,10 +134,6 @@ with_node nodes path node = insert nodes path node
 abbrev pub with_nothing_at : Nodes → Path → Nodes
 with_nothing_at nodes path = remove nodes path
 
--- the nodes with a file of these bytes at the path
-abbrev pub with_bytes : Nodes → Path → List ℕ → Nodes
-with_bytes nodes path content = with_node nodes path (file content)
-
 -- a path after the move of p to q: a path at or below p gets q in place of the prefix p; others do not change
 abbrev pub moved_path : Path → Path → Path → Path
 moved_path p q path = unwrap_or (option_map (λ rest. q ++ rest) (rest_below p path)) path
@@ -142,10 +146,10 @@ moved_entry p q entry = if same_path entry.0 q then None else Some (moved_path p
 abbrev pub moved : {A : Type 0} → Path → Path → FinMap path_cmp A → FinMap path_cmp A
 moved p q nodes = from_entries (filter_map (moved_entry p q) (entries nodes))
 
--- the nodes with a file of these bytes at each of the paths
-abbrev pub with_bytes_at : List Path → List ℕ → Nodes → Nodes
-with_bytes_at [] content nodes = nodes
-with_bytes_at (path ∷ paths) content nodes = with_bytes (with_bytes_at paths content nodes) path content
+-- the nodes with this node at each of the paths
+abbrev pub with_node_at : List Path → Node → Nodes → Nodes
+with_node_at [] node nodes = nodes
+with_node_at (path ∷ paths) node nodes = with_node (with_node_at paths node nodes) path node
 
 -- ---- which paths are one file
 
@@ -184,19 +188,31 @@ moved_one p q one = set.from_list (filter_map (moved_pair p q) (set.items one))
 -- ---- the map after a change
 
 abbrev pub with_file : PathMap → Path → PathMap
-with_file map path = record { nodes = with_bytes map.nodes path []; one = alone map.one path }
+with_file map path = record { nodes = with_node map.nodes path (file no_attributes []); one = alone map.one path }
 
 abbrev pub with_dir : PathMap → Path → PathMap
-with_dir map path = record { nodes = with_node map.nodes path dir; one = map.one }
+with_dir map path = record { nodes = with_node map.nodes path (dir no_attributes); one = map.one }
 
 -- the map with the content of the file at a path replaced, at each path of the file
 abbrev pub with_content : PathMap → Path → List ℕ → PathMap
-with_content map path content =
-    record { nodes = with_bytes_at (paths_of map.one path) content map.nodes; one = map.one }
+with_content map path content = record {
+  nodes = with_node_at (paths_of map.one path) (file (attributes_at map.nodes path) content) map.nodes;
+  one = map.one;
+}
+
+-- the map with other attributes of the file or directory at a path, at each path of the file
+abbrev pub with_attributes : PathMap → Path → Attributes → PathMap
+with_attributes map path attributes = record {
+  nodes = if is_dir_at map.nodes path then with_node map.nodes path (dir attributes)
+      else with_node_at (paths_of map.one path) (file attributes (bytes_at map.nodes path)) map.nodes;
+  one = map.one;
+}
 
 abbrev pub with_name : PathMap → Path → Path → PathMap
-with_name map path new =
-    record { nodes = with_bytes map.nodes new (bytes_at map.nodes path); one = linked map.one path new }
+with_name map path new = record {
+  nodes = with_node map.nodes new (file (attributes_at map.nodes path) (bytes_at map.nodes path));
+  one = linked map.one path new;
+}
 
 abbrev pub with_nothing : PathMap → Path → PathMap
 with_nothing map path = record { nodes = with_nothing_at map.nodes path; one = without map.one path }
@@ -278,7 +294,7 @@ refusal tree (link from to) = on_path from (λ p. on_path to (λ q. first (
     file_refusal tree.now.nodes p ∷ new_refusal tree.now.nodes q ∷ [])))
 refusal tree (links text) = on_path text (file_refusal tree.now.nodes)
 refusal tree upgrade = None
-refusal tree snap = first (when (not (is_two tree.version)) old_version ∷ when (is_some tree.snap) has_snap ∷ [])
+refusal tree snap = first (when (not (allows_snapshot tree.version)) old_version ∷ when (is_some tree.snap) has_snap ∷ [])
 refusal tree unsnap = when (is_none tree.snap) no_snap
 refusal tree (snap_list text) = on_path text (λ p. on_snap tree.snap (λ nodes. dir_refusal nodes p))
 refusal tree (snap_stat text) = on_path text (λ p. on_snap tree.snap (λ nodes. walk nodes p))
@@ -320,7 +336,7 @@ changes tree (truncate text size) = not (size == length (bytes_at tree.now.nodes
 changes tree (rename from to) = not (same_path (path_named from) (path_named to))
     && not (is_one tree.now.one (path_named from) (path_named to))
 changes tree (link from to) = true
-changes tree upgrade = not (is_two tree.version)
+changes tree upgrade = not (allows_snapshot tree.version)
 changes tree snap = true
 changes tree unsnap = true
 changes tree (batch pieces) = list_any (λ piece. nat_lt 0 (length piece.bytes)) pieces
@@ -335,7 +351,7 @@ abbrev pub read_answer : Nodes → List ℕ → ℕ → ℕ → Answer
 read_answer nodes text offset len = bytes (take len (drop offset (bytes_at nodes (path_named text))))
 
 abbrev pub stat_answer : Nodes → Path → Option Node → Answer
-stat_answer nodes path (Some (file content)) = file_of (length content)
+stat_answer nodes path (Some (file attributes content)) = file_of (length content)
 stat_answer nodes path _ = dir_of (length (listing nodes path))
 
 -- the nodes of the snapshot; no nodes if there is no snapshot

@@ -7,10 +7,10 @@ use Rattle.std.specs.FinMap as finite
 use Rattle.std.specs.FinSet.{FinSet, contains}
 use Rattle.std.specs.FinSet as set
 use Rattle.std.specs.Cmp.Lexicographic.{slice_cmp}
-use Rattle.bp_layout.specs.Paths.{IsName, Name, Path, Node}
+use Rattle.bp_layout.specs.Paths.{Attributes, IsName, Name, Path, Node, no_attributes}
 use Rattle.bp_layout.specs.Paths.Node.{dir, file}
 use Rattle.bp_limits.specs.declared.version.Version.{Version}
-use Rattle.bp_limits.specs.declared.version.Version.TheVariants.{Two}
+use Rattle.bp_limits.specs.CallLimits.{allows_snapshot}
 
 -- the order of paths: name by name, and names byte by byte
 abbrev pub path_cmp : Path → Path → Ordering
@@ -43,26 +43,38 @@ pub record FileTree : Type 0 where
   pub now : PathMap
   pub snap : Option PathMap
 
+-- a directory is at this path
+pub record IsDirAt (nodes : Nodes) (path : Path) : Type 0 where
+  pub attributes : Attributes
+  pub is : get nodes path ≡ Some (dir attributes)
+
+-- a file with these bytes is at both paths, with the same attributes
+pub record IsFileAtBoth (nodes : Nodes) (p q : Path) : Type 0 where
+  pub attributes : Attributes
+  pub bytes : List ℕ
+  pub one : get nodes p ≡ Some (file attributes bytes)
+  pub other : get nodes q ≡ Some (file attributes bytes)
+
 -- A map that is a file tree: the root and each path's parent are directories. The pairs are an equivalence relation on
--- the paths of files, and the two paths of a pair have the same bytes.
+-- the paths of files, and the two paths of a pair have the same bytes and attributes.
 pub record IsPathMap (map : PathMap) : Type 0 where
-  pub root : get map.nodes [] ≡ Some dir
+  pub root : IsDirAt map.nodes []
   pub parents : (path : Path) (name : Name) (node : Node) → get map.nodes (path ++ name ∷ []) ≡ Some node
-      → get map.nodes path ≡ Some dir
+      → IsDirAt map.nodes path
   pub names : (path : Path) (name : Name) (node : Node) → get map.nodes (path ++ name ∷ []) ≡ Some node → IsName name
-  pub itself : (p : Path) (bytes : List ℕ) → get map.nodes p ≡ Some (file bytes) → is_one map.one p p ≡ true
+  pub itself : (p : Path) (attributes : Attributes) (bytes : List ℕ) → get map.nodes p ≡ Some (file attributes bytes)
+      → is_one map.one p p ≡ true
   pub back : (p q : Path) → is_one map.one p q ≡ true → is_one map.one q p ≡ true
   pub chain : (p q r : Path) → is_one map.one p q ≡ true → is_one map.one q r ≡ true → is_one map.one p r ≡ true
-  pub files : (p q : Path) → is_one map.one p q ≡ true → (bytes : List ℕ) × (get map.nodes p ≡ Some (file bytes))
-      × (get map.nodes q ≡ Some (file bytes))
+  pub files : (p q : Path) → is_one map.one p q ≡ true → IsFileAtBoth map.nodes p q
 
 pub record IsFileTree (tree : FileTree) : Type 0 where
   pub now : IsPathMap tree.now
-  pub snap : (map : PathMap) → tree.snap ≡ Some map → (tree.version ≡ Two) × IsPathMap map
+  pub snap : (map : PathMap) → tree.snap ≡ Some map → (allows_snapshot tree.version ≡ true) × IsPathMap map
 
 -- the map that has only the root directory
 abbrev pub empty_map : PathMap
-empty_map = record { nodes = finite.insert finite.empty [] dir; one = set.empty }
+empty_map = record { nodes = finite.insert finite.empty [] (dir no_attributes); one = set.empty }
 
 abbrev pub empty_tree : Version → FileTree
 empty_tree version = record { version = version; now = empty_map; snap = None }

@@ -6,7 +6,6 @@ use Rattle.std.specs.FinMap.{from_sorted, get}
 use Rattle.std.specs.FinMap.Entries.{is_sorted}
 use Rattle.arrayvec.specs.ArrayVec.{ArrayVec}
 use Rattle.bp_layout.specs.Paths.{Name, Path, Node, is_name}
-use Rattle.bp_layout.specs.Paths.Node.{dir}
 use Rattle.bp_plain.specs.declared.trees.entries.Node.{Node as Kept}
 use Rattle.bp_plain.specs.declared.trees.entries.Node.TheVariants as kept
 use Rattle.bp_plain.specs.declared.trees.entries.Files.TheInside.{Inside}
@@ -14,14 +13,14 @@ use Rattle.bp_plain.specs.Calls.{Call, Answer}
 use Rattle.bp_plain.specs.Numbered.{Numbered, NumberedFiles, plain_node}
 use Rattle.bp_plain.specs.Numbered.Numbered.{directory, numbered_file}
 use Rattle.bp_plain.specs.Plain.{answer_or}
-use Rattle.bp_plain.specs.PlainTree.{FileTree, Nodes, path_cmp}
+use Rattle.bp_plain.specs.PlainTree.{FileTree, IsDirAt, Nodes, path_cmp}
 
 abbrev pub names_of : List (ArrayVec ℕ) → Path
 names_of names = map (λ name. name.items) names
 
 abbrev pub numbered : Kept → Numbered
-numbered kept.Dir = directory
-numbered (kept.File id content) = numbered_file id content.items
+numbered (kept.Dir attributes) = directory attributes
+numbered (kept.File id attributes content) = numbered_file id attributes content.items
 
 abbrev pub node_seen : Kept → Node
 node_seen node = plain_node (numbered node)
@@ -40,9 +39,9 @@ AreInOrder files = is_sorted path_cmp (entries_kept files) ≡ true
 
 -- the root is a directory, and so is the parent of each other path
 pub record IsRooted (nodes : Nodes) : Type 0 where
-  pub root : get nodes [] ≡ Some dir
+  pub root : IsDirAt nodes []
   pub parents : (path : Path) (name : Name) (node : Node) → get nodes (path ++ name ∷ []) ≡ Some node
-      → get nodes path ≡ Some dir
+      → IsDirAt nodes path
 
 -- no path of the nodes is this path with one more name
 pub record HasNoneBelow (nodes : Nodes) (path : Path) : Type 0 where

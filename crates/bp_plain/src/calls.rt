@@ -76,7 +76,7 @@ pub enum Call<'a> {
     },
     /// Returns the number of paths (links) of the file at a path.
     Links(&'a [u8]),
-    /// Changes the format to version 2.
+    /// Changes the format from version 1 to version 2. Later versions stay.
     Upgrade,
     /// Takes a snapshot: keeps the files and directories as they are now, for later calls to read.
     Snap,

@@ -1,7 +1,7 @@
 //! The abstract file tree as a program. It is slow and easy to understand; tests compare a volume with it.
 
 ghost use Rattle.bp_limits.specs.Limits.{max_read};
-ghost use Rattle.bp_limits.specs.CallLimits.{is_two};
+ghost use Rattle.bp_limits.specs.CallLimits.{allows_snapshot};
 ghost use Rattle.bp_plain.specs.Calls.Call.{create, link, links, list, mkdir, read, rmdir, snap, snap_list, snap_read, snap_stat, stat, truncate, unlink, unsnap, upgrade, write};
 ghost use Rattle.bp_plain.specs.Plain as plain;
 ghost use Rattle.bp_plain.specs.PlainTree.{empty_tree};
@@ -531,7 +531,9 @@ impl Plain {
         ensures done { OnOk result ((reply.new.answer, self.new) ≡ carried_out self.old upgrade) }
         ensures kept { OnErr result (self.new ≡ self.old) }
     {
-        self.version = Version::Two;
+        if is_old(self.version) {
+            self.version = Version::Two;
+        }
         reply.set_done();
         Ok(())
     }
@@ -595,10 +597,10 @@ impl Plain {
 
 /// Returns whether a version has no snapshots.
 fn is_old(version: Version) -> bool
-    ensures { result ≡ not (is_two version) }
+    ensures { result ≡ not (allows_snapshot version) }
 {
     match version {
         Version::One => true,
-        Version::Two => false,
+        Version::Two | Version::Three => false,
     }
 }

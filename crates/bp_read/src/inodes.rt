@@ -1,10 +1,10 @@
 //! Inodes: records of eight words in the content of the inode file.
 //!
-//! Word 0 of an inode is its kind, word 1 the root word of its tree, and word 2 its size in bytes. The others are
-//! unused.
+//! Word 0 of an inode is its kind, word 1 the root word of its tree, and word 2 its size in bytes. In version 3 words 3
+//! to 5 are its attributes. The others are unused.
 
-ghost use Rattle.std.specs.Prelude.{◌≡◌, ◌+◌, ◌*◌, ◌<◌, ◌≤◌, length};
-ghost use Rattle.bp_limits.specs.Limits.{inode_words};
+ghost use Rattle.std.specs.Prelude.{◌≡◌, ◌+◌, ◌-◌, ◌*◌, ◌<◌, ◌≤◌, length};
+ghost use Rattle.bp_limits.specs.Limits.{attribute_field, attributes, inode_fields, inode_words};
 ghost use Rattle.bp_layout.specs.Reached.{IsReached};
 ghost use Rattle.bp_layout.specs.WordPaths.{inode_path};
 ghost use Rattle.bp_layout.specs.Words.{height_of};
@@ -13,18 +13,19 @@ ghost use Rattle.bp_layout.specs.Inode.{ContentStandsAt, inode_count, kind_of, r
 ghost use Rattle.bp_layout.specs.Fields.{kind_word};
 ghost use Rattle.bp_layout.specs.Free.{IsFreeInode};
 ghost use Rattle.bp_layout.specs.WellFormed.{IsWellFormed};
-ghost use Rattle.bp_read.specs.Filled.{FillsInode, HasInodeAt};
+ghost use Rattle.bp_read.specs.Filled.{AreClear, FillsInode, HasInodeAt};
 ghost use Rattle.bp_read.specs.Within.{IsWithin};
 ghost use Rattle.pm_epochs.specs.May.{AnyAt};
 ghost use Rattle.pm_region.specs.Memory.{words_in, room_in};
 ghost use Rattle.pm_region.specs.Safe.{AddsMay};
 
+use crate::magic;
 use crate::paths::{Slots, word_path};
 use crate::tree::{Tree, content_place, leaf_block};
 use bp_layout::{Inode, Kind};
 use bp_limits::{
-    BLOCK_INODES, BLOCK_WORDS, INODE_SIZE, INODE_WORDS, ROOT_FIELD, SIZE_FIELD, SUPER_ROOT,
-    SUPER_SIZE, WORD_SIZE,
+    ATTRIBUTE_FIELD, BLOCK_INODES, BLOCK_WORDS, INODE_SIZE, INODE_WORDS, ROOT_FIELD, SIZE_FIELD,
+    SUPER_ROOT, SUPER_SIZE, Version, WORD_SIZE,
 };
 use pm_region::Region;
 
@@ -72,29 +73,67 @@ pub fn place<R: Region>(region: &R, ino: u32, field: u64) -> u64
     content_place(region, inode_file(region), INODE_WORDS * ino as u64 + field)
 }
 
-/// Makes the inode at a place of the region a file or a directory without bytes.
-fn put<R: Region>(region: &mut R, place: u64, kind: Kind)
-    requires in_range { place + 3 ≤ length (R.memory region.old).base }
-    requires room { 3 ≤ room_in (R.memory region.old) }
-    ensures stores { AddsMay (AnyAt (IsWithin place 3)) 0 3 (R.memory region.old) (R.memory region.new) }
-    ensures inode { HasInodeAt (words_in R.memory region.new) place (kind_word kind) }
+/// Sets the three words from `first` on to 0.
+fn clear<R: Region>(region: &mut R, first: u64)
+    requires in_range { first + attributes ≤ length (R.memory region.old).base }
+    requires room { attributes ≤ room_in (R.memory region.old) }
+    ensures stores { AddsMay (AnyAt (IsWithin first attributes)) 0 attributes
+        (R.memory region.old) (R.memory region.new) }
+    ensures cleared { AreClear (words_in R.memory region.new) first attributes }
+{
+    // A region has fewer than 2^41 words, so the last place fits.
+    let _words = region.words();
+    region.store(first, 0);
+    region.store(first + 1, 0);
+    region.store(first + 2, 0);
+}
+
+/// Sets the attributes of the inode at a place of the region to 0, if the version has attributes.
+fn clear_attributes<R: Region>(region: &mut R, place: u64, version: Version)
+    requires in_range { place + inode_fields version ≤ length (R.memory region.old).base }
+    requires room { inode_fields version ≤ room_in (R.memory region.old) + attribute_field }
+    ensures stores { let count = inode_fields version - attribute_field in
+        AddsMay (AnyAt (IsWithin (place + attribute_field) count)) 0 count
+        (R.memory region.old) (R.memory region.new) }
+    ensures cleared { AreClear (words_in R.memory region.new) (place + attribute_field)
+        (inode_fields version - attribute_field) }
+{
+    match version {
+        Version::One | Version::Two => {}
+        Version::Three => {
+            // A region has fewer than 2^41 words, so the place fits.
+            let _words = region.words();
+            clear(region, place + ATTRIBUTE_FIELD);
+        }
+    }
+}
+
+/// Makes the inode at a place of the region a file or a directory without bytes, whose attributes are 0.
+fn put<R: Region>(region: &mut R, place: u64, kind: Kind, version: Version)
+    requires in_range { place + inode_fields version ≤ length (R.memory region.old).base }
+    requires room { inode_fields version ≤ room_in (R.memory region.old) }
+    ensures stores { AddsMay (AnyAt (IsWithin place (inode_fields version))) 0 (inode_fields version)
+        (R.memory region.old) (R.memory region.new) }
+    ensures inode { HasInodeAt version (words_in R.memory region.new) place (kind_word kind) }
 {
     // A region has fewer than 2^41 words, so the last place fits.
     let _words = region.words();
     region.store(place, kind.word());
     region.store(place + ROOT_FIELD, 0);
     region.store(place + SIZE_FIELD, 0);
+    clear_attributes(region, place, version);
 }
 
-/// Makes an unreachable inode a file or a directory without bytes, by stores to its words only.
+/// Makes an unreachable inode a file or a directory without bytes, whose attributes are 0, by stores to its words only.
 pub fn fill<R: Region>(region: &mut R, ino: u32, kind: Kind)
     requires well_formed { IsWellFormed (words_in R.memory region.old) }
     requires free { IsFreeInode (words_in R.memory region.old) ino }
-    requires room { 3 ≤ room_in (R.memory region.old) }
+    requires room { inode_words ≤ room_in (R.memory region.old) }
     ensures { FillsInode (R.memory region.old) (R.memory region.new) ino (kind_word kind) }
 {
     let at = place(region, ino, 0);
-    put(region, at, kind);
+    let version = magic::version(region);
+    put(region, at, kind, version);
 }
 
 /// Returns the tree of an inode.

@@ -4,9 +4,9 @@ use Rattle.std.proofs.Common.{◌≡◌, ◌≢◌, ℕ, ◌≤◌, Bool, true, 
 use Rattle.std.proofs.lemmas.Bool.{lt-ltb}
 use Rattle.std.proofs.lemmas.List.{length-set}
 use Rattle.pm_epochs.specs.Log.{words_after}
-use Rattle.bp_limits.specs.CallLimits.{is_two}
+use Rattle.bp_limits.specs.CallLimits.{allows_snapshot}
 use Rattle.bp_limits.specs.Limits.{magic, version_at}
-use Rattle.bp_limits.specs.declared.version.Version.TheVariants.{Two}
+use Rattle.bp_limits.specs.declared.version.Version.TheVariants.{Three}
 use Rattle.bp_layout.specs.Same.{Same}
 use Rattle.bp_layout.specs.Trees.{has_snapshot, snapshot_of}
 use Rattle.bp_layout.specs.WellFormed.{IsWellFormed}
@@ -96,7 +96,7 @@ module _ (is_b : Bool) (image after : Image) (wide : 8 ≤ length image) (marked
       (same_but_slots (seen_words (outside is_b) after) (snapshot_of (seen_words (inside is_b) after)) still.new_well_formed
       (slots_back (snapshot_of (seen_words (inside is_b) after)) (seen_words (outside is_b) after) (kept_is_outside is_b after after_wide)))
 
-  magic_is : word (seen_words (inside is_b) after) 0 ≡ magic Two
+  magic_is : word (seen_words (inside is_b) after) 0 ≡ magic Three
   magic_is = inside-magic is_b after after_wide ∙ at 0 (λ e. omega (arith, e)) (λ e. omega (arith, e)) ∙ outside_magic is_b image wide marked
 
   size_is : word (seen_words (inside is_b) after) 5 ≡ word old 3
@@ -106,7 +106,7 @@ module _ (is_b : Bool) (image after : Image) (wide : 8 ≤ length image) (marked
   some n low = lt-ltb 0 n (omega (arith, low))
 
   there : has_snapshot (seen_words (inside is_b) after) ≡ true
-  there = (λ i. is_two (version_at (magic_is i)) && nat_lt 0 (size_is i)) ∙ some (word old 3) wf.some_inodes
+  there = (λ i. allows_snapshot (version_at (magic_is i)) && nat_lt 0 (size_is i)) ∙ some (word old 3) wf.some_inodes
 
   pub begins_inside : BeginsInside old (seen_words (inside is_b) after)
   begins_inside = record {

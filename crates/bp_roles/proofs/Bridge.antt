@@ -3,7 +3,7 @@ use Rattle.std.proofs.Common.{◌≡◌, inl, inr, ℕ, zero, suc, ◌<◌, ◌�
 use Rattle.std.proofs.lemmas.List.{get_or_past}
 use Rattle.std.proofs.lemmas.Bool.{cases_lt}
 use Rattle.bp_limits.specs.Limits.{magic}
-use Rattle.bp_limits.specs.declared.version.Version.TheVariants.{Two}
+use Rattle.bp_limits.specs.declared.version.Version.TheVariants.{Three}
 use Rattle.bp_layout.specs.Inode.{StandsAt}
 use Rattle.bp_layout.specs.Same.{Same}
 use Rattle.bp_layout.specs.Trees.{snapshot_of}
@@ -51,7 +51,7 @@ outside_place-zero = refl
 
 same_swap : (is_b : Bool) (i value : ℕ) → swapped (inside is_b) i value ≡ swapped (outside is_b) (outside_place i) value
 same_swap is_b zero value =
-    swapped-first (inside is_b) value ∙ ap (λ number. exchanged number (magic Two) value) (same_magic is_b) ∙ sym (swapped-first (outside is_b) value)
+    swapped-first (inside is_b) value ∙ ap (λ number. exchanged number (magic Three) value) (same_magic is_b) ∙ sym (swapped-first (outside is_b) value)
     ∙ ap (λ w. swapped (outside is_b) w value) (sym outside_place-zero)
 same_swap is_b (suc i) value =
     swapped-past (inside is_b) (suc i) value (omega arith) ∙ sym (swapped-past (outside is_b) (outside_place (suc i)) value (outside_place-some (suc i) (omega arith)))

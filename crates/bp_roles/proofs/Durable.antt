@@ -13,9 +13,9 @@ use Rattle.pm_epochs.proofs.CrashLaws.{crash_right-append, crash_right_commit, l
 use Rattle.pm_epochs.proofs.Cuts.{kept_stores_right}
 use Rattle.pm_epochs.proofs.MayLaws.{EachMay-stored, StoresMay-stores_of}
 use Rattle.pm_epochs.proofs.PieceLaws.{StoresMay-IsStoredIn}
-use Rattle.bp_limits.specs.CallLimits.{is_two}
+use Rattle.bp_limits.specs.CallLimits.{allows_snapshot}
 use Rattle.bp_limits.specs.Limits.{magic, version_at}
-use Rattle.bp_limits.specs.declared.version.Version.TheVariants.{Two}
+use Rattle.bp_limits.specs.declared.version.Version.TheVariants.{Three}
 use Rattle.bp_layout.specs.Same.{Same}
 use Rattle.bp_layout.specs.Trees.{AreInSnapshot, has_snapshot, snapshot_of}
 use Rattle.bp_layout.specs.WellFormed.{IsWellFormed}
@@ -109,7 +109,7 @@ module _ (is_b : Bool) (image : Image) (events : List Event) (in_snapshot : ℕ 
 
     second : has_snapshot (seen_words (outside is_b) left) ≡ has_snapshot (seen_words (outside is_b) image)
     second =
-        λ i. is_two (version_at (outside_word 0 0 outside_place_zero (omega arith) (λ e. omega (arith, e)) (λ e. omega (arith, e)) i))
+        λ i. allows_snapshot (version_at (outside_word 0 0 outside_place_zero (omega arith) (λ e. omega (arith, e)) (λ e. omega (arith, e)) i))
         && nat_lt 0 (outside_word 7 5 outside_place_seven (omega arith) (λ e. omega (arith, e)) (λ e. omega (arith, e)) i)
 
     files : SameFiles (seen_words (outside is_b) left) (seen_words (outside is_b) image)
@@ -201,16 +201,16 @@ module _ (is_b : Bool) (image : Image) (wide : 8 ≤ length image) (marked : wor
   stored_magic : word committed 0 ≡ magic_of (outside (not is_b))
   stored_magic = get_or-set_same image 0 (magic_of (outside (not is_b))) 0 (omega (arith, wide))
 
-  after_magic : word committed_seen 0 ≡ magic Two
+  after_magic : word committed_seen 0 ≡ magic Three
   after_magic =
       seen-word (outside (not is_b)) committed 0 committed_wide
       ∙ ap (λ p. swapped (outside (not is_b)) 0 (word committed p)) (stored_at-zero (outside (not is_b)))
-      ∙ ap (swapped (outside (not is_b)) 0) stored_magic ∙ swapped-first (outside (not is_b)) (magic_of (outside (not is_b))) ∙ exchanged-one (magic_of (outside (not is_b))) (magic Two)
+      ∙ ap (swapped (outside (not is_b)) 0) stored_magic ∙ swapped-first (outside (not is_b)) (magic_of (outside (not is_b))) ∙ exchanged-one (magic_of (outside (not is_b))) (magic Three)
 
-  before_magic : word (seen_words (inside is_b) image) 0 ≡ magic Two
+  before_magic : word (seen_words (inside is_b) image) 0 ≡ magic Three
   before_magic =
       seen-word (inside is_b) image 0 wide ∙ ap (λ p. swapped (inside is_b) 0 (word image p)) (stored_at-zero (inside is_b)) ∙ ap (swapped (inside is_b) 0) marked
-      ∙ swapped-first (inside is_b) (magic_of (outside is_b)) ∙ ap (λ m. exchanged m (magic Two) (magic_of (outside is_b))) (same_magic is_b) ∙ exchanged-one (magic_of (outside is_b)) (magic Two)
+      ∙ swapped-first (inside is_b) (magic_of (outside is_b)) ∙ ap (λ m. exchanged m (magic Three) (magic_of (outside is_b))) (same_magic is_b) ∙ exchanged-one (magic_of (outside is_b)) (magic Three)
 
   after_word : (i : ℕ) → 0 < i → i < 4 → word committed_seen i ≡ word (seen_words (inside is_b) image) i
   after_word i some low =
@@ -247,7 +247,7 @@ module _ (is_b : Bool) (image : Image) (wide : 8 ≤ length image) (marked : wor
   five false = refl
   five true = refl
 
-  pub outside_magic : word (seen_words (outside is_b) image) 0 ≡ magic Two
+  pub outside_magic : word (seen_words (outside is_b) image) 0 ≡ magic Three
   outside_magic = sym (inside-magic is_b image wide) ∙ before_magic
 
   outside_five : (u : Bool) (other : Image) → 8 ≤ length other → word (seen_words (outside u) other) 5 ≡ word other 5
@@ -258,7 +258,7 @@ module _ (is_b : Bool) (image : Image) (wide : 8 ≤ length image) (marked : wor
       let first_word : word committed_seen 0 ≡ word (seen_words (outside is_b) image) 0 = after_magic ∙ sym outside_magic in
       let size : word committed_seen 5 ≡ word (seen_words (outside is_b) image) 5 =
       outside_five (not is_b) committed committed_wide ∙ get_or-set_other image 0 5 (magic_of (outside (not is_b))) 0 (λ e. omega (arith, e)) ∙ sym (outside_five is_b image wide) in
-      λ i. is_two (version_at (first_word i)) && nat_lt 0 (size i)
+      λ i. allows_snapshot (version_at (first_word i)) && nat_lt 0 (size i)
 
   committed_well : IsWellFormed (seen_words (inside is_b) image) → has_snapshot (seen_words (outside is_b) image) ≡ false → SameDurable committed committed
   committed_well wf alone =

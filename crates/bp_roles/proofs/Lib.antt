@@ -11,5 +11,4 @@ pub mod Earlier
 pub mod Spare
 pub mod Ordinary
 pub mod Short
-pub mod Upgrade
 pub mod Unseen

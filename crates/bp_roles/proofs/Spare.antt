@@ -8,7 +8,7 @@ use Rattle.pm_epochs.specs.May.{AnyAt, EachMay, StoresMay}
 use Rattle.pm_epochs.proofs.CrashLaws.{length-words_after}
 use Rattle.pm_epochs.proofs.Cuts.{kept_stores_right}
 use Rattle.pm_epochs.proofs.MayLaws.{EachMay-stored, StoresMay-stores_of, same_where_none}
-use Rattle.bp_limits.specs.CallLimits.{is_two}
+use Rattle.bp_limits.specs.CallLimits.{allows_snapshot}
 use Rattle.bp_limits.specs.Limits.{version_at}
 use Rattle.bp_layout.specs.Trees.{has_snapshot}
 use Rattle.bp_layout.specs.WellFormed.{IsWellFormed}
@@ -49,7 +49,7 @@ module _ (is_b : Bool) (image : Image) (events : List Event) (wide : 8 ≤ lengt
     second : has_snapshot (seen_words (outside is_b) left) ≡ has_snapshot (seen_words (outside is_b) image)
     second =
         let five = at 5 (not_spare 5 (λ e. omega (arith, e)) (λ e. omega (arith, e))) in
-        λ i. is_two (version_at (alike.magic i)) && nat_lt 0 (at 5 (not_spare 5 (λ e. omega (arith, e)) (λ e. omega (arith, e))) i)
+        λ i. allows_snapshot (version_at (alike.magic i)) && nat_lt 0 (at 5 (not_spare 5 (λ e. omega (arith, e)) (λ e. omega (arith, e))) i)
 
     spare_left : SameDurable left image
     spare_left =

@@ -3,7 +3,7 @@ use Rattle.std.proofs.Common.{◌≡◌, ℕ, ◌<◌, inl, inr, refl, sym, ◌�
 use Rattle.std.proofs.lemmas.Bool.Decides.{eqb_tells}
 use Rattle.std.proofs.lemmas.Bool.{ne_eqb}
 use Rattle.bp_limits.specs.Limits.{magic}
-use Rattle.bp_limits.specs.declared.version.Version.TheVariants.{Two}
+use Rattle.bp_limits.specs.declared.version.Version.TheVariants.{Three}
 use Rattle.bp_roles.specs.Roles.{exchanged, magic_of, swapped}
 use Rattle.bp_roles.specs.declared.roles.Roles.{Roles}
 
@@ -34,7 +34,7 @@ exchanged-twice one other value = elim (eqb_tells value one) [
   ]
 ]
 
-pub swapped-first : (roles : Roles) (value : ℕ) → swapped roles 0 value ≡ exchanged (magic_of roles) (magic Two) value
+pub swapped-first : (roles : Roles) (value : ℕ) → swapped roles 0 value ≡ exchanged (magic_of roles) (magic Three) value
 unfolding swapped
 swapped-first roles value = refl
 
@@ -45,6 +45,6 @@ swapped-past roles word value some = rw (ne_eqb word 0 (λ e. omega (arith, e)))
 pub swapped-twice : (roles : Roles) (word value : ℕ) → swapped roles word (swapped roles word value) ≡ value
 unfolding swapped
 swapped-twice roles word value = elim (eqb_tells word 0) [
-  | inl first ↦ rw first.0 (exchanged-twice (magic_of roles) (magic Two) value)
+  | inl first ↦ rw first.0 (exchanged-twice (magic_of roles) (magic Three) value)
   | inr past ↦ rw past.0 refl
 ]

@@ -1,12 +1,13 @@
--- The seen memory and its roles determine the memory below, and the events that were added to its log.
-use Rattle.std.proofs.Common.{◌≡◌, ℕ, ◌≤◌, List, [], ◌∷◌, ◌++◌, length, get_or, refl, sym, ◌∙◌, ap}
+-- The seen memory determines the roles and the memory below, and the events that were added to its log.
+use Rattle.std.proofs.Common.{◌≡◌, ℕ, zero, suc, ◌+◌, ◌*◌, ◌<◌, ◌≤◌, List, [], ◌∷◌, ◌++◌, length, get_or, refl, sym, ◌∙◌, ap, subst, arith}
 use Rattle.std.proofs.lemmas.List.{ext_get_or, map-append}
 use Rattle.pm_epochs.specs.declared.event.Event.{Event}
 use Rattle.pm_epochs.specs.declared.event.Event.TheVariants.{Store, Barrier, CallEnd}
 use Rattle.pm_region.specs.Memory.{Memory, Adds}
-use Rattle.bp_roles.specs.Roles.{seen_at, swapped}
-use Rattle.bp_roles.specs.Seen.{IsWide, raw_event, raw_events, seen_event, seen_events, seen_memory, seen_words}
+use Rattle.bp_roles.specs.Roles.{number_of, seen_at, swapped}
+use Rattle.bp_roles.specs.Seen.{IsWide, MemoryByRoles, raw_event, raw_events, seen, seen_event, seen_events, seen_memory, seen_words}
 use Rattle.bp_roles.specs.declared.roles.Roles.{Roles}
+use Rattle.bp_roles.specs.declared.roles.Roles.TheVariants.{Earlier, OutsideA, OutsideB, InsideA, InsideB}
 use Rattle.bp_roles.proofs.PlaceLaws.{stored_at-seen_at, seen_at-stored_at}
 use Rattle.bp_roles.proofs.SwapLaws.{swapped-twice}
 use Rattle.bp_roles.proofs.SeenLaws.{length-seen, seen-word}
@@ -44,19 +45,60 @@ pub all_seen_raw : (roles : Roles) (events : List Event) → seen_events roles (
 all_seen_raw roles [] = refl
 all_seen_raw roles (event ∷ events) = ap (λ e. e ∷ seen_events roles (raw_events roles events)) (seen_raw roles event) ∙ ap (λ es. event ∷ es) (all_seen_raw roles events)
 
+-- ## Roles
+
+number_low : (roles : Roles) → number_of roles < 5
+number_low Earlier = omega arith
+number_low OutsideA = omega arith
+number_low OutsideB = omega arith
+number_low InsideA = omega arith
+number_low InsideB = omega arith
+
+-- the roles with a number
+numbered : ℕ → Roles
+numbered zero = Earlier
+numbered (suc zero) = OutsideA
+numbered (suc (suc zero)) = OutsideB
+numbered (suc (suc (suc zero))) = InsideA
+numbered (suc (suc (suc (suc n)))) = InsideB
+
+numbered_number : (roles : Roles) → numbered (number_of roles) ≡ roles
+unfolding numbered
+numbered_number Earlier = refl
+numbered_number OutsideA = refl
+numbered_number OutsideB = refl
+numbered_number InsideA = refl
+numbered_number InsideB = refl
+
 -- ## Memories
 
-pub memory_told : (roles : Roles) (one two : Memory) → IsWide one → IsWide two → seen_memory roles one ≡ seen_memory roles two → one ≡ two
+roles_told : (one two : MemoryByRoles) → seen one ≡ seen two → one.roles ≡ two.roles
+roles_told one two same =
+    let through : 5 * one.memory.through + number_of one.roles ≡ 5 * two.memory.through + number_of two.roles = ap (λ (m : Memory). m.through) same in
+    let number : number_of one.roles ≡ number_of two.roles = omega (arith, through, number_low one.roles, number_low two.roles) in
+    sym (numbered_number one.roles) ∙ ap numbered number ∙ numbered_number two.roles
+
+memory_told : (roles : Roles) (one two : Memory) → IsWide one → IsWide two → seen_memory roles one ≡ seen_memory roles two → one ≡ two
 memory_told roles one two wide other same =
     let base : one.base ≡ two.base = words_told roles one.base two.base wide other (ap (λ (m : Memory). m.base) same) in
     let events : one.events ≡ two.events = sym (all_raw_seen roles one.events) ∙ ap (λ (m : Memory). raw_events roles m.events) same ∙ all_raw_seen roles two.events in
     let capacity : one.capacity ≡ two.capacity = ap (λ (m : Memory). m.capacity) same in
     let drains : one.drains ≡ two.drains = ap (λ (m : Memory). m.drains) same in
-    let through : one.through ≡ two.through = ap (λ (m : Memory). m.through) same in
+    let shown : 5 * one.through + number_of roles ≡ 5 * two.through + number_of roles = ap (λ (m : Memory). m.through) same in
+    let through : one.through ≡ two.through = omega (arith, shown) in
     λ i. record { base = base i; events = events i; capacity = capacity i; drains = drains i; through = through i }
 
-pub adds_told : (roles : Roles) (old new : Memory) (more : List Event) → IsWide old → IsWide new → Adds (seen_memory roles old) (seen_memory roles new) more → Adds old new (raw_events roles more)
-adds_told roles old new more wide other added =
-    memory_told roles new (record old { events = old.events ++ raw_events roles more }) other wide
-    (added ∙ ap (λ es. record (seen_memory roles old) { events = es })
-    (ap (λ es. seen_events roles old.events ++ es) (sym (all_seen_raw roles more)) ∙ sym (map-append (seen_event roles) old.events (raw_events roles more))))
+pub all_told : (one two : MemoryByRoles) → IsWide one.memory → IsWide two.memory → seen one ≡ seen two → one ≡ two
+all_told one two wide other same =
+    let roles : one.roles ≡ two.roles = roles_told one two same in
+    let memory : one.memory ≡ two.memory =
+    memory_told two.roles one.memory two.memory wide other (subst (λ r. seen_memory r one.memory ≡ seen_memory two.roles two.memory) roles same) in
+    λ i. record { roles = roles i; memory = memory i }
+
+pub adds_told : (old new : MemoryByRoles) (more : List Event) → IsWide old.memory → IsWide new.memory → Adds (seen old) (seen new) more →
+    new ≡ record { roles = old.roles; memory = record old.memory { events = old.memory.events ++ raw_events old.roles more } }
+adds_told old new more wide other added =
+    all_told new (record { roles = old.roles; memory = record old.memory { events = old.memory.events ++ raw_events old.roles more } }) other wide
+    (added ∙ ap (λ es. record (seen old) { events = es })
+    (ap (λ es. seen_events old.roles old.memory.events ++ es) (sym (all_seen_raw old.roles more))
+    ∙ sym (map-append (seen_event old.roles) old.memory.events (raw_events old.roles more))))

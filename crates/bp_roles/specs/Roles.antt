@@ -2,21 +2,30 @@
 -- it, in bytes, of an inode file: words 2 and 3, 4 and 5, 6 and 7. Roles say where each of the first 8 words is stored,
 -- and which magic number is at word 0.
 --
--- No program makes images of version 3 yet: this file and Transaction define what they have in the superblock, and all
--- else is as in version 2 (docs/format.md).
+-- No program has transactions yet: this file and Transaction define the second magic number of version 3 and the slots
+-- of its images.
 use Rattle.std.specs.Prelude.{ℕ, ◌==◌, List, [], ◌∷◌, if◌then◌else◌, slice_index_or}
 use Rattle.bp_limits.specs.Limits.{magic, super_magic}
-use Rattle.bp_limits.specs.declared.version.Version.TheVariants.{Two}
+use Rattle.bp_limits.specs.declared.version.Version.TheVariants.{Three}
 use Rattle.bp_roles.specs.declared.roles.Roles.{Roles}
 use Rattle.bp_roles.specs.declared.roles.Roles.TheVariants.{Earlier, OutsideA, OutsideB, InsideA, InsideB}
 
--- The magic number that word 0 has under these roles. Version 3 has two: the bytes `BPFSRS3A` and `BPFSRS3B`.
+-- The magic number that word 0 has under these roles and that is seen as `BPFSRS3A`, the one of version 3. Version 3
+-- has two: the bytes `BPFSRS3A` and `BPFSRS3B`. Under the roles of earlier images each one is seen as it is.
 abbrev pub magic_of : Roles → ℕ
-magic_of Earlier = magic Two
-magic_of OutsideA = 0x4133535253465042
+magic_of Earlier = magic Three
+magic_of OutsideA = magic Three
 magic_of OutsideB = 0x4233535253465042
-magic_of InsideA = 0x4133535253465042
+magic_of InsideA = magic Three
 magic_of InsideB = 0x4233535253465042
+
+-- The number of the roles among all of them.
+abbrev pub number_of : Roles → ℕ
+number_of Earlier = 0
+number_of OutsideA = 1
+number_of OutsideB = 2
+number_of InsideA = 3
+number_of InsideB = 4
 
 -- The places where the first 8 words are stored, in the order in which they are seen.
 abbrev pub stored_places : Roles → List ℕ
@@ -47,6 +56,6 @@ abbrev pub exchanged : ℕ → ℕ → ℕ → ℕ
 exchanged one other value = if value == one then other else if value == other then one else value
 
 -- The value that is seen at a word for a stored value, and the value that is stored for a seen one. At word 0 the magic
--- number of the roles and that of version 2 are exchanged, so that an image of version 3 is seen as one of version 2.
+-- number of the roles and `BPFSRS3A` are exchanged, so that an image with `BPFSRS3B` is seen as one with `BPFSRS3A`.
 unfoldable pub swapped : Roles → ℕ → ℕ → ℕ
-swapped roles word value = if word == super_magic then exchanged (magic_of roles) (magic Two) value else value
+swapped roles word value = if word == super_magic then exchanged (magic_of roles) (magic Three) value else value

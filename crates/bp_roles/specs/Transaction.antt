@@ -34,8 +34,9 @@ inside true = InsideB
 abbrev pub roles_of : ℕ → Roles
 roles_of magic = if magic == magic_of OutsideA then OutsideA else if magic == magic_of OutsideB then OutsideB else Earlier
 
--- The image as it is seen outside a transaction: of version 2, with the root word and the size of its files at words 2
--- and 3. So what is stated of images of version 2 holds for images of version 3.
+-- The image as it is seen outside a transaction: if it is of version 3, with the magic number `BPFSRS3A`, and with the
+-- root word and the size of its files at words 2 and 3. So what is stated of images with that magic number holds for
+-- all images of version 3. An image of an earlier version is seen as it is.
 abbrev pub by_roles : Image → Image
 by_roles image = seen_words (roles_of (word image super_magic)) image
 

@@ -4,16 +4,15 @@ use Rattle.pm_epochs.specs.declared.event.Event.{Event}
 use Rattle.pm_epochs.specs.Log.{IsClosed, IsStoredIn, words_after}
 use Rattle.pm_epochs.specs.Crash.{CrashRight}
 use Rattle.pm_epochs.specs.May.{AnyAt, StoresMay}
-use Rattle.pm_region.specs.Memory.{Adds, Memory}
+use Rattle.pm_region.specs.Memory.{Adds}
 use Rattle.bp_limits.specs.Limits.{super_magic}
 use Rattle.bp_layout.specs.Words.{Image, word}
 use Rattle.bp_layout.specs.Trees.{AreInSnapshot, has_snapshot, snapshot_of}
 use Rattle.bp_layout.specs.WellFormed.{IsWellFormed}
 use Rattle.bp_layout.specs.Whole.{IsFileSystem, SameFiles}
 use Rattle.bp_roles.specs.Roles.{magic_of}
-use Rattle.bp_roles.specs.Seen.{IsWide, seen_events, seen_memory, seen_words}
+use Rattle.bp_roles.specs.Seen.{IsWide, MemoryByRoles, seen, seen_events, seen_words}
 use Rattle.bp_roles.specs.Transaction.{AvoidsSnapshot, IsSpare, begin_events, by_roles, inside, outside}
-use Rattle.bp_roles.specs.declared.roles.Roles.{Roles}
 use Rattle.bp_roles.specs.declared.roles.Roles.TheVariants.{OutsideA, OutsideB}
 
 -- The image as it is seen outside a transaction, and inside one.
@@ -96,13 +95,9 @@ pub record MayCommit (is_b : Bool) (image : Image) (events : List Event) : Type 
 abbrev pub committed : Bool → Image → Image
 committed is_b image = by_roles (slice_set image super_magic (magic_of (outside (not is_b))))
 
--- The image of version 2 after an upgrade to version 3: an empty spare slot, then the magic number.
-abbrev pub upgraded : Image → Image
-upgraded image = slice_set (slice_set (slice_set image 6 0) 7 0) super_magic (magic_of OutsideA)
-
--- The memories have all words that have roles. As they are seen by the roles, the second one is the first with these
--- events added to its log.
-pub record AddsSeen (roles : Roles) (old new : Memory) (more : List Event) : Type 0 where
-  pub wide : IsWide old
-  pub still_wide : IsWide new
-  pub adds : Adds (seen_memory roles old) (seen_memory roles new) more
+-- As they are seen by their roles, the second memory is the first with these events added to its log. Both have all
+-- words that have roles.
+pub record AddsSeen (old new : MemoryByRoles) (more : List Event) : Type 0 where
+  pub wide : IsWide old.memory
+  pub still_wide : IsWide new.memory
+  pub adds : Adds (seen old) (seen new) more

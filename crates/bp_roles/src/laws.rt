@@ -1,21 +1,18 @@
 //! Theorems on images of version 3 and on transactions. Each is the contract of a function with an empty body.
 
-ghost use Rattle.std.specs.Prelude.{◌≡◌, ◌≤◌, ℕ, Bool, List, length};
-ghost use Rattle.bp_limits.specs.Limits.{magic, super_magic};
-ghost use Rattle.bp_limits.specs.declared.version.Version.TheVariants.{Two};
+ghost use Rattle.std.specs.Prelude.{◌≡◌, ℕ, Bool, false, List};
 ghost use Rattle.bp_layout.specs.Need.{Change};
 ghost use Rattle.bp_layout.specs.Same.{Same};
 ghost use Rattle.bp_layout.specs.Trees.{has_snapshot};
 ghost use Rattle.bp_layout.specs.WellFormed.{IsWellFormed};
-ghost use Rattle.bp_layout.specs.Whole.{IsFileSystem, SameFiles};
-ghost use Rattle.bp_layout.specs.Words.{Image, word};
+ghost use Rattle.bp_layout.specs.Whole.{SameFiles};
+ghost use Rattle.bp_layout.specs.Words.{Image};
 ghost use Rattle.bp_changes.specs.Performs.{IsShort};
-ghost use Rattle.bp_roles.specs.Seen.{IsWide, raw_events, seen_memory};
+ghost use Rattle.bp_roles.specs.Seen.{IsWide, MemoryByRoles, raw_events, seen};
 ghost use Rattle.bp_roles.specs.Transaction.{AvoidsSnapshot, BeginsInside, IsOneStore, SameDurable, by_roles};
 ghost use Rattle.bp_roles.specs.TransactionLaws.{AddsSeen, Begins, CallsInside, HasOnlyFiles, HasSnapshotInside, HasTreeInside, IsEarlier};
 ghost use Rattle.bp_roles.specs.TransactionLaws.{IsRightOutside, IsVersionThree, MayCommit};
-ghost use Rattle.bp_roles.specs.TransactionLaws.{StoresToSpare, committed, seen_inside, seen_outside, snapshot_inside, upgraded};
-ghost use Rattle.bp_roles.specs.declared.roles.Roles.{Roles};
+ghost use Rattle.bp_roles.specs.TransactionLaws.{StoresToSpare, committed, seen_inside, seen_outside, snapshot_inside};
 ghost use Rattle.pm_epochs.specs.declared.event.Event.{Event};
 ghost use Rattle.pm_epochs.specs.Crash.{CrashRight, IsQuiet};
 ghost use Rattle.pm_region.specs.Memory.{Adds, Memory};
@@ -49,25 +46,22 @@ pub fn short_calls_avoid_the_snapshot()
         IsShort old new set change events → AvoidsSnapshot set events }
 {}
 
-/// States that an image of version 2 shows the same files after an upgrade to version 3, which stores 0 at words 6 and 7
-/// and then the magic number at word 0.
-pub fn an_upgrade_shows_the_same()
-    ensures { (image : Image) → 8 ≤ length image → word image super_magic ≡ magic Two → IsFileSystem image →
-        SameFiles image (by_roles (upgraded image)) }
-{}
-
-/// States that the memory of a region is determined by its roles and the memory that is seen by them, and so are the
-/// events that were added to its log.
+/// States that the memory that is seen determines the roles and the memory of the region, also among memories with other
+/// roles. So events that are added to the log that is seen leave the roles as they are, and they determine those that
+/// were added to the log of the region.
 pub fn what_is_seen_determines_the_region()
-    ensures memory { (roles : Roles) (one two : Memory) → IsWide one → IsWide two →
-        seen_memory roles one ≡ seen_memory roles two → one ≡ two }
-    ensures adds { (roles : Roles) (old new : Memory) (more : List Event) → AddsSeen roles old new more →
-        Adds old new (raw_events roles more) }
+    ensures memory { (one two : MemoryByRoles) → IsWide one.memory → IsWide two.memory → seen one ≡ seen two →
+        one ≡ two }
+    ensures roles { (old new : MemoryByRoles) (more : List Event) → AddsSeen old new more → new.roles ≡ old.roles }
+    ensures adds { (old new : MemoryByRoles) (more : List Event) → AddsSeen old new more →
+        Adds old.memory new.memory (raw_events old.roles more) }
 {}
 
-/// States that images of versions 1 and 2 are seen as they are.
+/// States that images of versions 1 and 2 are seen as they are, and so are images of version 3 under the magic number
+/// `BPFSRS3A`.
 pub fn earlier_images_are_unchanged()
-    ensures { (image : Image) → IsEarlier image → by_roles image ≡ image }
+    ensures earlier { (image : Image) → IsEarlier image → by_roles image ≡ image }
+    ensures three { (image : Image) → IsVersionThree false image → by_roles image ≡ image }
 {}
 
 /// States that the snapshot seen inside a transaction has the files seen outside.

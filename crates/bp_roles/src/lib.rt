@@ -1,5 +1,5 @@
 //! A region with other roles for the three slots of its superblock, which is a region like any other: so the code that
-//! serves version 2 also serves version 3 of the format and the calls inside a transaction.
+//! serves images with the magic number `BPFSRS3A` also serves those with `BPFSRS3B` and the calls inside a transaction.
 #![tactic(auto)]
 
 pub mod laws;

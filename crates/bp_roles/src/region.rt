@@ -11,7 +11,7 @@ use pm_region::{HEAD_WORDS, Region, Row};
 use std::marker::Model;
 
 /// A region seen by roles. Its calls read and change the slots that have the roles of the files and of the snapshot, in
-/// the places where version 2 has these slots. All other words are those of the region below.
+/// the places where versions 2 and 3 have these slots. All other words are those of the region below.
 #[derive(Drop)]
 pub struct RegionByRoles<R: Region> {
     region: R,

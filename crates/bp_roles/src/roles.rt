@@ -12,8 +12,9 @@ use pm_region::HEAD_WORDS;
 /// file: words 2 and 3, 4 and 5, or 6 and 7.
 ///
 /// Seen by its roles, an image has the slot of its files at words 2 and 3, and that of its snapshot at words 4 and 5,
-/// as version 2 has them. Word 0 says which roles they are outside a transaction; no word says whether a transaction is
-/// open. `specs/Roles` and `specs/Transaction` define the superblock of version 3, which no program makes yet.
+/// as version 3 has them under the magic number `BPFSRS3A`. Word 0 says which roles they are outside a transaction; no
+/// word says whether a transaction is open. `specs/Roles` and `specs/Transaction` define the other magic number and the
+/// slots, which no program uses yet.
 #[derive(Clone, Copy, Debug, PartialEq, Eq)]
 pub enum Roles {
     /// Versions 1 and 2: each word is seen where it is stored.
@@ -32,13 +33,12 @@ pub enum Roles {
 }
 
 impl Roles {
-    /// Returns the magic number that word 0 has under these roles, and that is seen as the one of version 2.
+    /// Returns the magic number that word 0 has under these roles, and that is seen as `BPFSRS3A`.
     pub fn magic(self) -> u64
         ensures { result ≡ magic_of self }
     {
         match self {
-            Roles::Earlier => Version::Two.magic(),
-            Roles::OutsideA | Roles::InsideA => 0x4133_5352_5346_5042,
+            Roles::Earlier | Roles::OutsideA | Roles::InsideA => Version::Three.magic(),
             Roles::OutsideB | Roles::InsideB => 0x4233_5352_5346_5042,
         }
     }
@@ -90,7 +90,7 @@ impl Roles {
     }
 
     /// Returns the value that is seen at `word` for the stored `value`; and the value to store for one that is to be
-    /// seen, since at word 0 the magic number of the roles and that of version 2 are exchanged.
+    /// seen, since at word 0 the magic number of the roles and `BPFSRS3A` are exchanged.
     #[tactic(auto, unfolding(crate::specs::Roles::swapped))]
     pub fn swapped(self, word: u64, value: u64) -> u64
         ensures { result ≡ swapped self word value }
@@ -99,8 +99,8 @@ impl Roles {
             return value;
         }
         if value == self.magic() {
-            Version::Two.magic()
-        } else if value == Version::Two.magic() {
+            Version::Three.magic()
+        } else if value == Version::Three.magic() {
             self.magic()
         } else {
             value

@@ -31,17 +31,23 @@ impl Device {
 /// The versions of the format in which a row runs.
 #[derive(Clone, Copy)]
 pub enum Versions {
+    /// Version 1.
     First,
-    Second,
-    Both,
+    /// Versions 2 and 3.
+    Later,
+    /// Version 3.
+    Third,
+    /// All versions.
+    All,
 }
 
 impl Versions {
     fn named(text: &str) -> Option<Versions> {
         match text {
             "1" => Some(Versions::First),
-            "2" => Some(Versions::Second),
-            "1 2" => Some(Versions::Both),
+            "2" => Some(Versions::Later),
+            "3" => Some(Versions::Third),
+            "1 2" => Some(Versions::All),
             _ => None,
         }
     }

@@ -13,6 +13,7 @@ struct Rows {
     versions: Versions,
     first: Side,
     second: Side,
+    third: Side,
 }
 
 /// Does what each line of a text asks, and writes the results.
@@ -29,6 +30,7 @@ impl Rows {
             versions: Versions::First,
             first: Side::new(alloc, Version::One),
             second: Side::new(alloc, Version::Two),
+            third: Side::new(alloc, Version::Three),
         }
     }
 
@@ -59,6 +61,7 @@ impl Rows {
         self.versions = Versions::First;
         self.first.begin();
         self.second.begin();
+        self.third.begin();
         writeln!(report, "== {name}")
     }
 
@@ -70,13 +73,27 @@ impl Rows {
     ) -> Result<(), AllocError> {
         match self.versions {
             Versions::First => self.first.take(text, line, report),
-            Versions::Second => self.second.take(text, line, report),
-            Versions::Both => self.take_in_both(text, line, report),
+            Versions::Later => self.take_in_later(text, line, report),
+            Versions::Third => self.third.take(text, line, report),
+            Versions::All => self.take_in_all(text, line, report),
         }
     }
 
-    /// Does what a line asks in both versions. A result that is the same in both is written once.
-    fn take_in_both(
+    /// Does what a line asks in versions 2 and 3. A result that is the same in both is written once.
+    fn take_in_later(
+        &mut self,
+        text: &str,
+        line: InputLine<'_>,
+        report: &mut String,
+    ) -> Result<(), AllocError> {
+        let mut second = String::new(self.alloc);
+        self.second.take(text, line, &mut second)?;
+        report.push_str(second.as_str())?;
+        self.take_in_third(text, line, second.as_str(), report)
+    }
+
+    /// Does what a line asks in all versions. A result that is the same in two of them is written once.
+    fn take_in_all(
         &mut self,
         text: &str,
         line: InputLine<'_>,
@@ -86,7 +103,25 @@ impl Rows {
         self.first.take(text, line, &mut first)?;
         let mut second = String::new(self.alloc);
         self.second.take(text, line, &mut second)?;
-        report_both(first.as_str(), second.as_str(), report)
+        report_both(first.as_str(), second.as_str(), report)?;
+        self.take_in_third(text, line, second.as_str(), report)
+    }
+
+    /// Does what a line asks in version 3, and writes the result if it is not that in version 2.
+    fn take_in_third(
+        &mut self,
+        text: &str,
+        line: InputLine<'_>,
+        second: &str,
+        report: &mut String,
+    ) -> Result<(), AllocError> {
+        let mut third = String::new(self.alloc);
+        self.third.take(text, line, &mut third)?;
+        if third.as_str() == second {
+            return Ok(());
+        }
+        report.push_str("version 3\n")?;
+        report.push_str(third.as_str())
     }
 }
 

@@ -36,6 +36,7 @@ pub fn formatted(
     let number = match version {
         Version::One => "1",
         Version::Two => "2",
+        Version::Three => "3",
     };
     let words = [
         "bpfs",

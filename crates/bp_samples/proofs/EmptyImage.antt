@@ -21,11 +21,11 @@ empty_has_format = record {
   counted = empty_word 1 (omega arith) ∙ sym empty_blocks;
   root = empty_word 2 (omega arith);
   size = empty_word 3 (omega arith);
-  no_second_root = λ two. absurd (cc);
-  no_second_size = λ two. absurd (cc);
+  no_second_size = λ allows. absurd (cc);
   root_kind = empty_word 520 (omega arith);
   root_root = empty_word 521 (omega arith);
   root_size = empty_word 522 (omega arith);
+  root_attributes = λ f least most. absurd (omega (arith, least, most));
 }
 
 pub empty_well_formed : IsWellFormed (laid_image EMPTY)

@@ -34,7 +34,7 @@ pub fn has_second<R: Region>(region: &R) -> bool
 {
     match version(region) {
         Version::One => false,
-        Version::Two => region.load(SUPER_SNAPSHOT_SIZE) != 0,
+        Version::Two | Version::Three => region.load(SUPER_SNAPSHOT_SIZE) != 0,
     }
 }
 

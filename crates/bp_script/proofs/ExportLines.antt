@@ -14,8 +14,8 @@ use Rattle.percent_encoding.specs.Percent.{percent_encode_byte}
 use Rattle.bp_limits.specs.Limits.{block_size}
 use Rattle.bp_limits.specs.CallLimits.{greatest_size, max_path, max_size}
 use Rattle.bp_limits.specs.declared.version.Version.{Version}
-use Rattle.bp_limits.specs.declared.version.Version.TheVariants.{One, Two}
-use Rattle.bp_layout.specs.Paths.{same_path, Path, Node}
+use Rattle.bp_limits.specs.declared.version.Version.TheVariants.{One, Two, Three}
+use Rattle.bp_layout.specs.Paths.{same_path, Attributes, Path, Node}
 use Rattle.bp_layout.specs.Paths.Node.{dir, file}
 use Rattle.bp_plain.specs.Calls.{Call}
 use Rattle.bp_plain.specs.Calls.Call.{create, link, mkdir, write, truncate}
@@ -196,9 +196,9 @@ module _ (text : List ℕ) (short : IsShort text) where
     file_said : AllSaid (writes_of text content ++ size_call text content)
     file_said = all_both (writes_of text content) (size_call text content) (stretches_said (stretches content) 0 count_low) size_said
 
-  node_said : (node : Node) → ((content : List ℕ) → node ≡ file content → (length content ≤ max_size) × (are_bytes content ≡ true)) → AllSaid (calls_for text node)
-  node_said dir has = (mkdir_said, tt)
-  node_said (file content) has = let is = has content refl in (create_said, file_said content is.0 is.1)
+  node_said : (node : Node) → ((attributes : Attributes) (content : List ℕ) → node ≡ file attributes content → (length content ≤ max_size) × (are_bytes content ≡ true)) → AllSaid (calls_for text node)
+  node_said (dir attributes) has = (mkdir_said, tt)
+  node_said (file attributes content) has = let is = has attributes content refl in (create_said, file_said content is.0 is.1)
 
 -- ---- the calls of a tree
 
@@ -211,12 +211,13 @@ found_so p (y ∷ ys) x found = go (p y) refl found (found_so p ys x)
     go false passes found rest = rest found
 
 abbrev is_dir : Option Node → Bool
-is_dir (Some dir) = true
+is_dir (Some (dir attributes)) = true
 is_dir other = false
 
 size_most : (version : Version) (n : ℕ) → n ≤ greatest_size version → n ≤ max_size
 size_most One n low = omega (arith, low)
 size_most Two n low = low
+size_most Three n low = low
 
 module _ (tree : FileTree) (can : IsExportable tree) (of_bytes : IsOfBytes tree) where
   text_short : (path : Path) (node : Node) → get tree.now.nodes path ≡ Some node → path ≢ [] → IsShort (path_text path)
@@ -226,11 +227,11 @@ module _ (tree : FileTree) (can : IsExportable tree) (of_bytes : IsOfBytes tree)
     few = can.spelled (name ∷ path) node there;
   }
 
-  file_short : (path : Path) (content : List ℕ) → get tree.now.nodes path ≡ Some (file content) → IsShort (path_text path)
-  file_short path content there = text_short path (file content) there other
+  file_short : (path : Path) (attributes : Attributes) (content : List ℕ) → get tree.now.nodes path ≡ Some (file attributes content) → IsShort (path_text path)
+  file_short path attributes content there = text_short path (file attributes content) there other
     where
       other : path ≢ []
-      other root = true≢false (ap is_dir (sym can.is_tree.now.root ∙ ap (get tree.now.nodes) (sym root) ∙ there))
+      other root = true≢false (ap is_dir (sym can.is_tree.now.root.is ∙ ap (get tree.now.nodes) (sym root) ∙ there))
 
   -- the first path of a file is one of its
   first_short : (path : Path) → IsShort (path_text path) → IsShort (path_text (first_of tree.now path))
@@ -240,7 +241,7 @@ module _ (tree : FileTree) (can : IsExportable tree) (of_bytes : IsOfBytes tree)
       go None at = short
       go (Some first) at =
           let are = can.is_tree.now.files path first (found_so (is_one tree.now.one path) (keys tree.now.nodes) first at) in
-          file_short first are.0 are.2
+          file_short first are.attributes are.bytes are.other
 
   entry_said : (path : Path) (node : Node) → get tree.now.nodes path ≡ Some node → AllSaid (calls_at tree.now (path, node))
   entry_said [] node there = tt
@@ -252,7 +253,10 @@ module _ (tree : FileTree) (can : IsExportable tree) (of_bytes : IsOfBytes tree)
       go : (b : Bool) → AllSaid (if b then calls_for (path_text (name ∷ path)) node else link (path_text (first_of tree.now (name ∷ path))) (path_text (name ∷ path)) ∷ [])
       go true =
           node_said (path_text (name ∷ path)) short node
-          (λ content is. (size_most tree.version (length content) (can.sized (name ∷ path) content (there ∙ ap Some is)), of_bytes.contents (name ∷ path) content (there ∙ ap Some is)))
+          (λ attributes content is. (
+            size_most tree.version (length content) (can.sized (name ∷ path) attributes content (there ∙ ap Some is)),
+            of_bytes.contents (name ∷ path) attributes content (there ∙ ap Some is),
+          ))
       go false = (link_said (path_text (first_of tree.now (name ∷ path))) (path_text (name ∷ path)) (first_short (name ∷ path) short) short, tt)
 
   rest_said : (before after : List Entry) → entries tree.now.nodes ≡ before ++ after → AllSaid (flat_map (calls_at tree.now) after)

@@ -25,7 +25,7 @@ use std::alloc::{AllocError, Global};
 const FIRST_BLOCKS: u32 = 2;
 
 /// The number of events for which the log of a format needs room.
-const FORMAT_ROOM: usize = 16;
+const FORMAT_ROOM: usize = 18;
 
 /// Makes a region of the first blocks of a file system, whose words are 0.
 fn empty_first_blocks(alloc: Global) -> Result<ListRegion, AllocError>

@@ -7,7 +7,7 @@ use Rattle.bp_layout.specs.Words.{Image}
 use Rattle.bp_layout.specs.Directory.{name_at}
 use Rattle.bp_layout.specs.Inode.{kind_of}
 use Rattle.bp_layout.specs.Lookup.{file_at, if_file, lookup, node_of, shown}
-use Rattle.bp_layout.specs.Paths.{Path, Node}
+use Rattle.bp_layout.specs.Paths.{Path, Node, no_attributes}
 use Rattle.bp_layout.specs.Paths.Node.{dir, file}
 use Rattle.bp_layout.specs.Reached.IsReached.{root_directory}
 use Rattle.bp_layout.specs.WellFormed.{IsWellFormed}
@@ -72,14 +72,14 @@ module _ (old new : Image) (wf : IsWellFormed old) (i s j : ℕ) (adds : AddsNam
   pub create_shows : kind_of new j ≡ 1 → (map : PathMap) → Shows old map → Shows new (with_file map path)
   create_shows kind map shows = record {
     well_formed = linked_well_formed old new wf i s j adds;
-    shows = λ other. get-insert path_cmp-IsTotalOrder map.nodes path (file []) other ∙ node_there map.nodes (file []) (sym (node_of_new old new wf i s j adds ∙ rw kind refl)) shows.shows other;
+    shows = λ other. get-insert path_cmp-IsTotalOrder map.nodes path (file no_attributes []) other ∙ node_there map.nodes (file no_attributes []) (sym (node_of_new old new wf i s j adds ∙ rw kind refl)) shows.shows other;
     one = (kernel_alone (file_at old) (file_at new) map.one path j (record { each = shows.one }) (rw there (rw kind refl)) files_stay fresh (rw none_before refl)).each;
   }
 
   pub mkdir_shows : kind_of new j ≡ 2 → (map : PathMap) → Shows old map → Shows new (with_dir map path)
   mkdir_shows kind map shows = record {
     well_formed = linked_well_formed old new wf i s j adds;
-    shows = λ other. get-insert path_cmp-IsTotalOrder map.nodes path dir other ∙ node_there map.nodes dir (sym (node_of_new old new wf i s j adds ∙ rw kind refl)) shows.shows other;
+    shows = λ other. get-insert path_cmp-IsTotalOrder map.nodes path (dir no_attributes) other ∙ node_there map.nodes (dir no_attributes) (sym (node_of_new old new wf i s j adds ∙ rw kind refl)) shows.shows other;
     one = (kernel_same (file_at old) (file_at new) map.one same_files (record { each = shows.one })).each;
   }
     where

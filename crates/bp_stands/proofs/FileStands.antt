@@ -4,18 +4,18 @@ use Rattle.std.proofs.lemmas.Bool.{cases_eq, ne_eqb}
 use Rattle.std.specs.FinMap.{get}
 use Rattle.bp_layout.specs.Words.{Image}
 use Rattle.bp_layout.specs.Tree.{content}
-use Rattle.bp_layout.specs.Inode.{IsFile, kind_of, root_of, size_of}
+use Rattle.bp_layout.specs.Inode.{IsFile, attributes_of, kind_of, root_of, size_of}
 use Rattle.bp_layout.specs.Lookup.{are_one, file_at, find_one, if_file, lookup, shown}
-use Rattle.bp_layout.specs.Paths.{Path}
+use Rattle.bp_layout.specs.Paths.{Path, Node}
 use Rattle.bp_layout.specs.Paths.Node.{file}
 use Rattle.bp_layout.specs.WellFormed.{IsWellFormed}
 use Rattle.bp_layout.proofs.View.{find_one-same}
 use Rattle.bp_changes.specs.Effects.{ChangesFile}
 use Rattle.bp_changes.proofs.ChangesFile.{directories-same, well_formed-same, shown_file, shown_other}
-use Rattle.bp_plain.specs.Plain.{paths_of, with_content}
+use Rattle.bp_plain.specs.Plain.{attributes_at, attributes_in, paths_of, with_content}
 use Rattle.bp_plain.specs.PlainTree.{PathMap, is_one}
 use Rattle.bp_plain.specs.Stands.{Shows}
-use Rattle.bp_plain.proofs.Kernels.{are_one-self, get-with_bytes_at, paths_of-any}
+use Rattle.bp_plain.proofs.Kernels.{are_one-self, get-with_node_at, paths_of-any}
 
 some_once : (a b : ℕ) → ◌≡◌ {A = Option ℕ} (Some a) (Some b) → a ≡ b
 some_once a b e = cc
@@ -30,12 +30,16 @@ module _ (image : Image) (x : ℕ) (is_file : IsFile image x) (path : Path) (at 
   file_there : file_at image path ≡ Some x
   file_there = rw at (rw is_file refl)
 
-  content_at : (q : Path) → get (with_content map path bytes).nodes q ≡ cond (are_one (Some x) (file_at image q)) (Some (file bytes)) (get map.nodes q)
-  content_at q =
-      get-with_bytes_at (paths_of map.one path) bytes map.nodes q
-      ∙ ap (λ b. cond b (Some (file bytes)) (get map.nodes q)) (paths_of-any map.one path q ∙ one path q ∙ ap (λ f. are_one f (file_at image q)) file_there)
+  -- the file with these bytes
+  abbrev node : Node
+  node = file (attributes_at map.nodes path) bytes
 
-  pub content_here : (q : Path) → lookup image q ≡ Some x → get (with_content map path bytes).nodes q ≡ Some (file bytes)
+  content_at : (q : Path) → get (with_content map path bytes).nodes q ≡ cond (are_one (Some x) (file_at image q)) (Some node) (get map.nodes q)
+  content_at q =
+      get-with_node_at (paths_of map.one path) node map.nodes q
+      ∙ ap (λ b. cond b (Some node) (get map.nodes q)) (paths_of-any map.one path q ∙ one path q ∙ ap (λ f. are_one f (file_at image q)) file_there)
+
+  pub content_here : (q : Path) → lookup image q ≡ Some x → get (with_content map path bytes).nodes q ≡ Some (file (attributes_at map.nodes path) bytes)
   content_here q here =
       let found : are_one (Some x) (file_at image q) ≡ true = ap (λ f. are_one (Some x) (option_and_then (if_file image) f)) here ∙ rw is_file (are_one-self x) in
       content_at q ∙ rw found refl
@@ -62,7 +66,12 @@ module _ (old new : Image) (x : ℕ) (wf : IsWellFormed old) (changes : ChangesF
     one = λ p q. shows.one p q ∙ sym (find_one-same old new (directories-same old new x wf changes) p q);
   }
     where
+      kept : attributes_at map.nodes path ≡ attributes_of old x
+      kept = ap attributes_in (shows.shows path) ∙ rw at (rw changes.is_file refl)
+
       by_inode : (q : Path) → (lookup old q ≡ Some x) ⊎ (lookup old q ≡ Some x → ⊥) → get (with_content map path bytes).nodes q ≡ shown new q
-      by_inode q (inl here) = content_here old x changes.is_file path at map shows.one bytes q here ∙ sym (shown_file old new x wf changes q here)
+      by_inode q (inl here) =
+          content_here old x changes.is_file path at map shows.one bytes q here
+          ∙ ap (λ attributes. Some (file attributes bytes)) kept ∙ sym (shown_file old new x wf changes q here)
       by_inode q (inr apart) =
           content_elsewhere old x changes.is_file path at map shows.one bytes q apart ∙ shows.shows q ∙ sym (shown_other old new x wf changes q apart)

@@ -2,6 +2,7 @@ pub mod AddStands
 pub mod UnlinkStands
 pub mod LinkStands
 pub mod FileStands
+pub mod AttributeStands
 pub mod WrittenBytes
 pub mod OverwriteStands
 pub mod MoveStands

@@ -14,7 +14,7 @@ use Rattle.bp_layout.proofs.Paths as paths
 use Rattle.bp_layout.proofs.View.{lookup_from-reached}
 use Rattle.bp_changes.specs.Effects.{LinksName}
 use Rattle.bp_changes.proofs.LinksName.{linked_well_formed, name_linked}
-use Rattle.bp_plain.specs.Plain.{bytes_at, bytes_in, with_name}
+use Rattle.bp_plain.specs.Plain.{attributes_at, attributes_in, bytes_at, bytes_in, with_name}
 use Rattle.bp_plain.specs.PlainTree.{PathMap, path_cmp}
 use Rattle.bp_plain.specs.Stands.{Shows}
 use Rattle.bp_plain.proofs.Kernels.{kernel_linked}
@@ -50,19 +50,19 @@ module _ (old new : Image) (wf : IsWellFormed old) (i s j : ℕ) (adds : LinksNa
   pub link_shows : (map : PathMap) → Shows old map → Shows new (with_name map from path)
   link_shows map shows = record {
     well_formed = linked_well_formed old new wf i s j adds;
-    shows = λ other. get-insert path_cmp-IsTotalOrder map.nodes path (file (bytes_at map.nodes from)) other ∙ go other (eq_by_cmp path_cmp other path) refl;
+    shows = λ other. get-insert path_cmp-IsTotalOrder map.nodes path (file (attributes_at map.nodes from) (bytes_at map.nodes from)) other ∙ go other (eq_by_cmp path_cmp other path) refl;
     one = (kernel_linked (file_at old) (file_at new) map.one from path j (record { each = shows.one })
         (rw found old_kind) (rw none_before refl) (rw there new_kind) files_stay).each;
   }
     where
-      -- the file has its bytes at both names
-      same_node : Some (file (bytes_at map.nodes from)) ≡ Some (node_of new j)
+      -- the file has its bytes and attributes at both names
+      same_node : Some (file (attributes_at map.nodes from) (bytes_at map.nodes from)) ≡ Some (node_of new j)
       same_node =
           let before : get map.nodes from ≡ Some (node_of old j) = shows.shows from ∙ rw found refl in
-          let bytes : bytes_at map.nodes from ≡ bytes_in (Some (node_of old j)) = ap bytes_in before in
-          ap Some (ap file bytes ∙ (rw adds.is_file refl) ∙ sym (adds_name.nodes j adds.other))
+          ap Some (ap (λ found. file (attributes_in found) (bytes_in found)) before ∙ (rw adds.is_file refl) ∙ sym (adds_name.nodes j adds.other))
 
-      go : (other : Path) (b : Bool) → eq_by_cmp path_cmp other path ≡ b → cond (eq_by_cmp path_cmp other path) (Some (file (bytes_at map.nodes from))) (get map.nodes other) ≡ shown new other
+      go : (other : Path) (b : Bool) → eq_by_cmp path_cmp other path ≡ b
+          → cond (eq_by_cmp path_cmp other path) (Some (file (attributes_at map.nodes from) (bytes_at map.nodes from))) (get map.nodes other) ≡ shown new other
       go other true e =
           rw (e, path_cmp-IsAntisymmetric other path ((Equal-is (path_cmp other path)).0 e)) (same_node ∙ sym (paths.shown_there old new i (name_at new i s) j adds_name parent at))
       go other false e =

@@ -3,7 +3,7 @@ use Rattle.std.proofs.Common.{◌≡◌, ℕ, [], ◌∷◌, ◌++◌, Bool, tru
 use Rattle.bp_layout.specs.Words.{Image}
 use Rattle.bp_layout.specs.Directory.{name_at}
 use Rattle.bp_layout.specs.Paths.{Name, Path, Node, rest_below}
-use Rattle.bp_layout.specs.Inode.{kind_of, root_of, size_of}
+use Rattle.bp_layout.specs.Inode.{attributes_of, kind_of, root_of, size_of}
 use Rattle.bp_layout.specs.Tree.{content}
 use Rattle.bp_layout.specs.Lookup.{file_at, if_file, lookup, node_of, shown}
 use Rattle.bp_layout.specs.Paths.Node.{dir, file}
@@ -30,14 +30,14 @@ same_file old new u same = go (kind_of new u == 1) refl (kind_of old u == 1) ref
     go true e true f = rw (e, f) refl
     go false e false f = rw (e, f) refl
     go true e false f =
-        let one : node_of new u ≡ file (content new (root_of new u) (size_of new u)) = rw e refl in
-        let two : node_of old u ≡ dir = rw f refl in
-        let wrong : ◌≡◌ {A = Node} (file (content new (root_of new u) (size_of new u))) dir = sym one ∙ same ∙ two in
+        let one : node_of new u ≡ file (attributes_of new u) (content new (root_of new u) (size_of new u)) = rw e refl in
+        let two : node_of old u ≡ dir (attributes_of old u) = rw f refl in
+        let wrong : ◌≡◌ {A = Node} (file (attributes_of new u) (content new (root_of new u) (size_of new u))) (dir (attributes_of old u)) = sym one ∙ same ∙ two in
         absurd (cc)
     go false e true f =
-        let one : node_of new u ≡ dir = rw e refl in
-        let two : node_of old u ≡ file (content old (root_of old u) (size_of old u)) = rw f refl in
-        let wrong : ◌≡◌ {A = Node} dir (file (content old (root_of old u) (size_of old u))) = sym one ∙ same ∙ two in
+        let one : node_of new u ≡ dir (attributes_of new u) = rw e refl in
+        let two : node_of old u ≡ file (attributes_of old u) (content old (root_of old u) (size_of old u)) = rw f refl in
+        let wrong : ◌≡◌ {A = Node} (dir (attributes_of new u)) (file (attributes_of old u) (content old (root_of old u) (size_of old u))) = sym one ∙ same ∙ two in
         absurd (cc)
 
 -- `from` and `to` are the paths of the two directories, of which the second does not lie below the name

@@ -1,12 +1,12 @@
 -- The plain tree of an image into whose files the pieces of a batch were laid, one after the other.
-use Rattle.std.proofs.Common.{◌≡◌, ◌≢◌, ◌⊎◌, ℕ, ◌+◌, ◌-◌, ◌<◌, ◌≤◌, ◌==◌, cond, Bool, true, false, List, length, map, get_or, Option, None, Some, refl, sym, ◌∙◌, ap, inl, inr, arith, lt-ltb, le-ltb}
+use Rattle.std.proofs.Common.{◌≡◌, ◌≢◌, ◌⊎◌, ℕ, ◌+◌, ◌-◌, ◌<◌, ◌≤◌, ◌==◌, cond, Bool, true, false, List, length, map, get_or, Option, None, Some, refl, sym, ◌∙◌, ap, ap₂, inl, inr, arith, lt-ltb, le-ltb}
 use Rattle.std.specs.Prelude.{slice_index}
 use Rattle.std.specs.List.{range_with_len}
 use Rattle.std.specs.FinMap.{get}
 use Rattle.std.specs.Option.{option_map}
 use Rattle.std.proofs.lemmas.Bool.{cases_lt, ne_eqb}
 use Rattle.std.proofs.lemmas.List.FromFn.{get_or-map-range_with_len, length-map-range_with_len}
-use Rattle.bp_layout.specs.Inode.{kind_of, size_of}
+use Rattle.bp_layout.specs.Inode.{attributes_of, kind_of, size_of}
 use Rattle.bp_layout.specs.Lookup.{find_one, lookup}
 use Rattle.bp_layout.specs.Paths.{Path}
 use Rattle.bp_layout.specs.Paths.Node.{dir, file}
@@ -19,7 +19,7 @@ use Rattle.bp_changes.specs.Overwrites.{OverwritesFiles, Patch, patched, patched
 use Rattle.bp_changes.proofs.KeepsDirectories.{directories-same, well_formed-same}
 use Rattle.bp_changes.proofs.Overwrites.{bytes_in, keeps, node_with, shown_patched}
 use Rattle.bp_plain.specs.Calls.{Piece}
-use Rattle.bp_plain.specs.Plain.{bytes_at, path_named, with_piece, with_pieces, written}
+use Rattle.bp_plain.specs.Plain.{attributes_at, bytes_at, path_named, with_piece, with_pieces, written}
 use Rattle.bp_plain.specs.Plain as plain
 use Rattle.bp_plain.specs.PlainTree.{PathMap, is_one}
 use Rattle.bp_plain.specs.Stands.{Shows}
@@ -66,8 +66,9 @@ module _ (image : Image) (bytes : ℕ → ℕ → ℕ) (patch : Patch) where
   node_stays : (u : ℕ) → ((o : ℕ) → o < size_of image u → more_bytes u o ≡ bytes u o) → node_with image bytes u ≡ node_with image more_bytes u
   node_stays u same = go (kind_of image u == 1)
     where
-      go : (b : Bool) → cond b (file (map (bytes u) (range_with_len 0 (size_of image u)))) dir ≡ cond b (file (map (more_bytes u) (range_with_len 0 (size_of image u)))) dir
-      go true = ap file (sym (map-same _ _ 0 (size_of image u) (λ o low high. same o (omega (arith, high)))))
+      go : (b : Bool) → cond b (file (attributes_of image u) (map (bytes u) (range_with_len 0 (size_of image u)))) (dir (attributes_of image u))
+          ≡ cond b (file (attributes_of image u) (map (more_bytes u) (range_with_len 0 (size_of image u)))) (dir (attributes_of image u))
+      go true = ap (file (attributes_of image u)) (sym (map-same _ _ 0 (size_of image u) (λ o low high. same o (omega (arith, high)))))
       go false = refl
 
   -- a piece without a byte changes nothing
@@ -109,8 +110,8 @@ module _ (image : Image) (bytes : ℕ → ℕ → ℕ) (patch : Patch) where
         sym (ap (λ n. map (more_bytes patch.inode) (range_with_len 0 n)) (sym whole)
         ∙ map-equal (more_bytes patch.inode) (written had patch.offset patch.bytes) (λ o low. byte_is o (omega (arith, low, whole))))
 
-    node_is : node_with image more_bytes patch.inode ≡ file (written had patch.offset patch.bytes)
-    node_is = rw is_file (ap file (sym content_is))
+    node_is : node_with image more_bytes patch.inode ≡ file (attributes_of image patch.inode) (written had patch.offset patch.bytes)
+    node_is = rw is_file (ap (file (attributes_of image patch.inode)) (sym content_is))
 
     patch_shows : (map : PathMap) → ShowsWith image bytes map → ShowsWith image more_bytes (plain.with_written map path patch.offset patch.bytes)
     patch_shows map was = record { shows = λ q. by_inode q (finds (lookup image q) patch.inode); one = was.one }
@@ -118,11 +119,14 @@ module _ (image : Image) (bytes : ℕ → ℕ → ℕ) (patch : Patch) where
         there : bytes_at map.nodes path ≡ had
         there = ap plain.bytes_in (was.shows path) ∙ rw here (rw is_file refl)
 
+        kept : attributes_at map.nodes path ≡ attributes_of image patch.inode
+        kept = ap plain.attributes_in (was.shows path) ∙ rw here (rw is_file refl)
+
         by_inode : (q : Path) → (lookup image q ≡ Some patch.inode) ⊎ (lookup image q ≡ Some patch.inode → ⊥) →
             get (plain.with_written map path patch.offset patch.bytes).nodes q ≡ option_map (node_with image more_bytes) (lookup image q)
         by_inode q (inl found) =
             content_here image patch.inode is_file path here map was.one (written (bytes_at map.nodes path) patch.offset patch.bytes) q found
-            ∙ ap (λ content. Some (file (written content patch.offset patch.bytes))) there ∙ sym (rw found (ap Some node_is))
+            ∙ ap₂ (λ attributes content. Some (file attributes (written content patch.offset patch.bytes))) kept there ∙ sym (rw found (ap Some node_is))
         by_inode q (inr apart) =
             content_elsewhere image patch.inode is_file path here map was.one (written (bytes_at map.nodes path) patch.offset patch.bytes) q apart
             ∙ was.shows q ∙ other (lookup image q) refl

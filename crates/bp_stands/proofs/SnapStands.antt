@@ -14,9 +14,8 @@ use Rattle.bp_changes.proofs.Stores.{agrees-store, harmless_here}
 use Rattle.bp_plain.specs.PlainTree.{FileTree, PathMap}
 use Rattle.bp_plain.specs.Stands.{Shows, Stands}
 use Rattle.bp_layout.specs.Formatted.{version_of}
-use Rattle.bp_limits.specs.declared.version.Version.TheVariants.{Two}
 use Rattle.bp_limits.specs.Limits.{super_snapshot_size, version_at}
-use Rattle.bp_limits.specs.CallLimits.{is_two}
+use Rattle.bp_limits.specs.CallLimits.{allows_snapshot}
 
 -- no live word stands in the superblock after the four words of the first tree
 pub idle-harmless : (image : Image) (place value : ℕ) → 4 ≤ place → place < 512 → IsHarmless image place value
@@ -69,9 +68,9 @@ module _ (old : Image) (long : 6 ≤ length old) (wf : IsWellFormed old) where
       let three : word snapped 5 ≡ word snapped 3 = at_five ∙ sym (at 3 (λ e. omega (arith, e)) (λ e. omega (arith, e))) in
       ap (λ w. set (set snapped 2 w) 3 (word snapped 5)) two ∙ ap (λ xs. set xs 3 (word snapped 5)) (set-get_or snapped 2 0) ∙ ap (λ w. set snapped 3 w) three ∙ set-get_or snapped 3 0
 
-  -- in version 2 the tree has as its snapshot what it is now
-  pub snap_stands : version_of old ≡ Two → (tree : FileTree) → Stands old tree → Stands snapped (record tree { snap = Some tree.now })
-  snap_stands two tree stands = record {
+  -- in a version that has snapshots the tree has as its snapshot what it is now
+  pub snap_stands : allows_snapshot (version_of old) ≡ true → (tree : FileTree) → Stands old tree → Stands snapped (record tree { snap = Some tree.now })
+  snap_stands allowed tree stands = record {
     version = stands.version ∙ sym version_stays;
     now = same_shows old snapped snapped_same tree.now stands.now;
     snap = (there, subst (λ image. Shows image tree.now) (sym snapshot_is) (same_shows old snapped snapped_same tree.now stands.now));
@@ -84,7 +83,7 @@ module _ (old : Image) (long : 6 ≤ length old) (wf : IsWellFormed old) where
       some n low = lt-ltb 0 n (omega (arith, low))
 
       there : has_snapshot snapped ≡ true
-      there = (λ i. is_two ((version_stays ∙ two) i) && nat_lt 0 (at_five i)) ∙ some (word old 3) wf.some_inodes
+      there = (λ i. (ap allows_snapshot version_stays ∙ allowed) i && nat_lt 0 (at_five i)) ∙ some (word old 3) wf.some_inodes
 
 module _ (old : Image) (long : 6 ≤ length old) (wf : IsWellFormed old) where
   abbrev unsnapped : Image
@@ -99,7 +98,7 @@ module _ (old : Image) (long : 6 ≤ length old) (wf : IsWellFormed old) where
   unsnap_stands tree stands = record {
     version = stands.version ∙ sym version_stays;
     now = same_shows old unsnapped unsnapped_same tree.now stands.now;
-    snap = ap (λ w. is_two (version_of unsnapped) && nat_lt 0 w) (get_or-set_same old 5 0 0 (omega (arith, long))) ∙ none (is_two (version_of unsnapped));
+    snap = ap (λ w. allows_snapshot (version_of unsnapped) && nat_lt 0 w) (get_or-set_same old 5 0 0 (omega (arith, long))) ∙ none (allows_snapshot (version_of unsnapped));
   }
     where
       version_stays : version_of unsnapped ≡ version_of old

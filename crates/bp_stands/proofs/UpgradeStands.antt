@@ -1,5 +1,6 @@
 -- The plain tree of an image that was upgraded.
-use Rattle.std.proofs.Common.{◌≡◌, true, false, Option, None, Some, sym, ◌∙◌}
+use Rattle.std.proofs.Common.{◌≡◌, true, false, Option, None, Some, sym, ◌∙◌, ap}
+use Rattle.bp_limits.specs.CallLimits.{allows_attributes}
 use Rattle.bp_limits.specs.declared.version.Version.TheVariants.{One, Two}
 use Rattle.bp_layout.specs.Words.{Image}
 use Rattle.bp_layout.specs.Format.{upgraded}
@@ -17,7 +18,7 @@ upgrade_stands image first tree stands = record {
   version = sym (upgraded_version image wf);
   now = record {
     well_formed = upgraded_well_formed image wf;
-    shows = λ path. stands.now.shows path ∙ sym (upgraded_shown image wf path);
+    shows = λ path. stands.now.shows path ∙ sym (upgraded_shown image wf (ap allows_attributes first) path);
     one = λ p q. stands.now.one p q ∙ sym (upgraded_one image wf p q);
   };
   snap = go tree.snap stands.snap;

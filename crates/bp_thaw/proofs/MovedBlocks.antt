@@ -1,11 +1,15 @@
 -- An image whose words are as before, of which some stand in other blocks, means the same, and its trees have the same shape.
-use Rattle.std.proofs.Common.{◌≡◌, ◌≢◌, ◌⊎◌, ℕ, zero, suc, ◌+◌, ◌-◌, ◌*◌, ◌/◌, ◌%◌, ◌<◌, ◌≤◌, [], Bool, true, false, not, ◌&&◌, ◌==◌, refl, sym, ◌∙◌, ap, subst, arith, inl, inr, le_of_eq}
+use Rattle.std.proofs.Common.{◌≡◌, ◌≢◌, ◌⊎◌, ℕ, zero, suc, ◌+◌, ◌-◌, ◌*◌, ◌/◌, ◌%◌, ◌<◌, ◌≤◌, [], Bool, true, false, not, ◌&&◌, ◌==◌, refl, sym, ◌∙◌, ap, subst, arith, inl, inr, le_of_eq, lt_of_lt_of_le}
 use Rattle.std.specs.Prelude.{nat_le, nat_lt}
 use Rattle.std.proofs.lemmas.Bool.{ne_eqb, leb-true, ltb-true}
+use Rattle.bp_limits.specs.Limits.{version_at}
+use Rattle.bp_limits.proofs.Versions.{fields_most}
+use Rattle.bp_layout.specs.Formatted.{version_of}
+use Rattle.bp_layout.proofs.AttributeLaws.{attributes_alike}
 use Rattle.bp_layout.specs.Words.{Image, word, block_of, height_of, byte_of}
 use Rattle.bp_layout.specs.Tree.{node, content_word, span, IsLivePointer}
 use Rattle.bp_layout.specs.Nodes.{TreeNode, is_present}
-use Rattle.bp_layout.specs.Inode.{kind_of, root_of, size_of}
+use Rattle.bp_layout.specs.Inode.{attributes_of, kind_of, root_of, size_of}
 use Rattle.bp_layout.specs.Directory.{entry_count}
 use Rattle.bp_layout.specs.Reached.{IsReached}
 use Rattle.bp_layout.specs.Reached.IsReached.{inode_file}
@@ -68,6 +72,15 @@ module _ (old new : Image) (wf : IsWellFormed old) (turned : Trail → Type 0) (
   kinds-same zero r = refl
   kinds-same (suc i) r = word-same 0 (8 * suc i + 0) inode_file (omega (arith, inside i r)) (λ _ e. omega (arith, e))
 
+  version-same : version_of new ≡ version_of old
+  version-same = ap version_at (stage.superblock 0 (omega arith) (omega arith))
+
+  attributes-same : (t : ℕ) → IsReached old t → attributes_of new t ≡ attributes_of old t
+  attributes-same t r =
+      attributes_alike old new t version-same (λ i f is least most.
+      let few : f < 8 = lt_of_lt_of_le most (fields_most (version_of old)) in
+      word-same 0 (8 * suc i + f) inode_file (omega (arith, inside i (subst (IsReached old) is r), few)) (λ _ e. omega (arith, least, few, e)))
+
   no_directory : (t : ℕ) → kind_of old t ≡ 2 → t ≢ 0
   no_directory t two e = let zero_kind : kind_of old 0 ≡ 2 = subst (λ x. kind_of old x ≡ 2) e two in omega (arith, zero_kind)
 
@@ -81,6 +94,7 @@ module _ (old new : Image) (wf : IsWellFormed old) (turned : Trail → Type 0) (
   meaning_stays = record {
     trees = commits.trees;
     kind = kinds-same;
+    attributes = attributes-same;
     size = λ i r. sizes-same (suc i) r;
     inode_blocks = rw (sizes-same 0 inode_file) wf.inode_blocks;
     inodes = le_of_eq (sym (sizes-same 0 inode_file));

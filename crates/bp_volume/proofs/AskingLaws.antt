@@ -6,7 +6,7 @@ use Rattle.std.specs.FinMap.{get}
 use Rattle.std.proofs.lemmas.List.FromFn.{length-map-range_with_len}
 use Rattle.bp_layout.specs.Words.{Image}
 use Rattle.bp_layout.specs.Tree.{content}
-use Rattle.bp_layout.specs.Inode.{kind_of, root_of, size_of}
+use Rattle.bp_layout.specs.Inode.{attributes_of, kind_of, root_of, size_of}
 use Rattle.bp_layout.specs.Paths.{Name, Path}
 use Rattle.bp_layout.specs.Names.{HasNames}
 use Rattle.bp_layout.specs.Reached.{IsReached}
@@ -51,12 +51,12 @@ module _ (image : Image) (wf : IsWellFormed image) where
 module _ (image : Image) (i : ℕ) (tree : FileTree) (here : Path) (stands : Stands image tree) (at : lookup image here ≡ Some i) where
   pub stat-file : kind_of image i ≡ 1 → stat_answer tree.now.nodes here (get tree.now.nodes here) ≡ file_of (size_of image i)
   stat-file kind =
-      ap (stat_answer tree.now.nodes here) (node_at image tree stands here i at ∙ ap (λ b. Some (if b then file (content image (root_of image i) (size_of image i)) else dir)) (ap (λ k. k == 1) kind))
+      ap (stat_answer tree.now.nodes here) (node_at image tree stands here i at ∙ ap (λ b. Some (if b then file (attributes_of image i) (content image (root_of image i) (size_of image i)) else dir (attributes_of image i))) (ap (λ k. k == 1) kind))
       ∙ ap file_of (length-map-range_with_len _ 0 (size_of image i))
 
   pub stat-dir : kind_of image i ≡ 2 → stat_answer tree.now.nodes here (get tree.now.nodes here) ≡ dir_of (name_count image (root_of image i) (size_of image i))
   stat-dir kind =
-      ap (stat_answer tree.now.nodes here) (node_at image tree stands here i at ∙ ap (λ b. Some (if b then file (content image (root_of image i) (size_of image i)) else dir)) (ap (λ k. k == 1) kind))
+      ap (stat_answer tree.now.nodes here) (node_at image tree stands here i at ∙ ap (λ b. Some (if b then file (attributes_of image i) (content image (root_of image i) (size_of image i)) else dir (attributes_of image i))) (ap (λ k. k == 1) kind))
       ∙ ap dir_of (length-entries image tree stands here i at kind ∙ length-seen image i)
 
   pub stat_says : 1 ≤ i → stat_answer tree.now.nodes here (get tree.now.nodes here) ≡ stat_seen (stat_of image i)
@@ -126,8 +126,8 @@ module _ (image : Image) (text : List ℕ) where
 
     pub read_reports : (offset len : ℕ) (reported : List ℕ) → kind_of image i ≡ 1 → reported ≡ take len (drop offset (content image (root_of image i) (size_of image i))) → Answers image (read text offset len) (bytes reported)
     read_reports offset len reported kind says tree stands =
-        let node : get tree.now.nodes at.path ≡ Some (file (content image (root_of image i) (size_of image i))) =
-        node_at image tree stands at.path i at.inode ∙ ap (λ k. Some (if k == 1 then file (content image (root_of image i) (size_of image i)) else dir)) kind in
+        let node : get tree.now.nodes at.path ≡ Some (file (attributes_of image i) (content image (root_of image i) (size_of image i))) =
+        node_at image tree stands at.path i at.inode ∙ ap (λ k. Some (if k == 1 then file (attributes_of image i) (content image (root_of image i) (size_of image i)) else dir (attributes_of image i))) kind in
         answer_steps image tree (read text offset len) (bytes reported) (file_allowed kind tree stands) refl
         (ap (λ p. bytes (take len (drop offset (bytes_at tree.now.nodes p)))) path_is ∙ ap (λ o. bytes (take len (drop offset (bytes_in o)))) node ∙ ap bytes (sym says))
 

@@ -9,7 +9,7 @@ use Rattle.std.proofs.lemmas.Simd.{map-map}
 use Rattle.bp_layout.specs.Words.{Image}
 use Rattle.bp_layout.specs.Inode.{kind_of}
 use Rattle.bp_layout.specs.Directory.{entry_count, ino_at, name_at}
-use Rattle.bp_layout.specs.Paths.{Name, Path}
+use Rattle.bp_layout.specs.Paths.{Attributes, Name, Path}
 use Rattle.bp_layout.specs.Reached.{IsReached}
 use Rattle.bp_layout.specs.Lookup.{lookup}
 use Rattle.bp_layout.specs.Paths.Node.{dir, file}
@@ -23,10 +23,10 @@ use Rattle.bp_calls.specs.Asked.{ListsNames, kind_seen, entries_seen}
 use Rattle.bp_volume.proofs.WalkLaws.{reached_at}
 use Rattle.bp_volume.proofs.ListingLaws.{by_name, keyed, length-listing, sorted-listing}
 
-kind_of_node-is : (kind : ℕ) (content : List ℕ) → kind_of_node (if kind == 1 then file content else dir) ≡ kind_seen kind
-kind_of_node-is kind content = go (kind == 1) refl
+kind_of_node-is : (kind : ℕ) (attributes : Attributes) (content : List ℕ) → kind_of_node (if kind == 1 then file attributes content else dir attributes) ≡ kind_seen kind
+kind_of_node-is kind attributes content = go (kind == 1) refl
   where
-    go : (b : Bool) → (kind == 1) ≡ b → kind_of_node (if kind == 1 then file content else dir) ≡ kind_seen kind
+    go : (b : Bool) → (kind == 1) ≡ b → kind_of_node (if kind == 1 then file attributes content else dir attributes) ≡ kind_seen kind
     go true at = rw at refl
     go false at = rw at refl
 
@@ -44,7 +44,7 @@ module _ (image : Image) (tree : FileTree) (stands : Stands image tree) (here : 
   seen_once = items-differ image stands.now.well_formed i reached kind reported by_name seen_at (λ slot. refl)
 
   seen_found : (name : Name) → find by_bytes name (map by_name (entries_seen image i (entry_count image i))) ≡ option_map kind_of_node (get tree.now.nodes (here ++ name ∷ []))
-  seen_found = find-shown image stands.now.well_formed i reached kind reported by_name seen_at (λ slot. refl) (λ k. k) (λ j. sym (kind_of_node-is (kind_of image j) _)) tree.now stands.now here at
+  seen_found = find-shown image stands.now.well_formed i reached kind reported by_name seen_at (λ slot. refl) (λ k. k) (λ j. sym (kind_of_node-is (kind_of image j) _ _)) tree.now stands.now here at
 
   -- the plain listing has as many
   pub length-entries : length (listing tree.now.nodes here) ≡ length (entries_seen image i (entry_count image i))

@@ -7,12 +7,12 @@ use Rattle.std.proofs.lemmas.List.{length-append}
 use Rattle.std.proofs.lemmas.List.FromFn.{length-map-range_with_len}
 use Rattle.pm_region.specs.Memory.{Memory, current_words, room_in}
 use Rattle.pm_region.proofs.SafeLaws.{room_after_commit}
-use Rattle.bp_limits.specs.Limits.{call_room}
+use Rattle.bp_limits.specs.Limits.{attribute_field, call_room}
 use Rattle.bp_layout.specs.Directory.{empty_slot}
 use Rattle.bp_layout.specs.Inode.{size_of}
 use Rattle.bp_layout.specs.Members.{Each}
 use Rattle.bp_layout.specs.Need.{Beyond, Change, Stretch, beyond, common, content_path_at, cover_of, entered_at, entry_path_at, existing_from, need, new_entry, new_inodes, prefixes_from, stretch_paths, touched_at}
-use Rattle.bp_layout.specs.Need.Change.{writes, resizes, enters, leaves, replaces, moves, respells, overwrites}
+use Rattle.bp_layout.specs.Need.Change.{writes, resizes, enters, leaves, replaces, moves, respells, overwrites, sets}
 use Rattle.bp_layout.specs.Need.Entrant.{taken, grown, linked}
 use Rattle.bp_layout.specs.Same.{Same}
 use Rattle.bp_layout.specs.Tree.{span}
@@ -74,6 +74,7 @@ module _ (heights : ℕ → ℕ) (low : (t : ℕ) → heights t ≤ 7) where
   touched_short image (moves i s j) = (entered_short j (empty_slot image j), (content_short i (32 * s + 0), tt))
   touched_short image (respells i s len) = all_short (entry_path_at heights i s) (λ f. content_short i (32 * s + f)) (range_with_len 1 (suc ((len + 7) / 8)))
   touched_short image (overwrites stretches) = stretches_short stretches
+  touched_short image (sets i k) = (inode_short i (attribute_field + k), tt)
 
 -- ---- a cover
 
@@ -134,6 +135,7 @@ module _ (image : Image) where
   entries_short (moves i s j) = slot_short j (empty_slot image j)
   entries_short (respells i s len) = tt
   entries_short (overwrites stretches) = tt
+  entries_short (sets i k) = tt
 
   targets_short : (change : Change) → Each IsShort (targets image change)
   targets_short change = (
@@ -162,6 +164,7 @@ module _ (image : Image) where
   beyond_few (moves i s j) = one_entry j (empty_slot image j)
   beyond_few (respells i s len) = omega arith
   beyond_few (overwrites stretches) = omega arith
+  beyond_few (sets i k) = omega arith
 
   inodes_few : (change : Change) → length (new_inodes image change) ≤ 1
   inodes_few (writes i offset len) = omega arith
@@ -174,6 +177,7 @@ module _ (image : Image) where
   inodes_few (moves i s j) = omega arith
   inodes_few (respells i s len) = omega arith
   inodes_few (overwrites stretches) = omega arith
+  inodes_few (sets i k) = omega arith
 
   slot_few : (i : ℕ) (slot : Option ℕ) → length (slot_target image i slot) ≤ 1
   slot_few i None = omega arith
@@ -190,6 +194,7 @@ module _ (image : Image) where
   entries_few (moves i s j) = slot_few j (empty_slot image j)
   entries_few (respells i s len) = omega arith
   entries_few (overwrites stretches) = omega arith
+  entries_few (sets i k) = omega arith
 
   targets_few : (change : Change) → length (targets image change) ≤ 6
   targets_few change =

@@ -4,7 +4,7 @@ use Rattle.std.specs.Prelude.{not, ◌&&◌, nat_lt, unwrap_or, if◌then◌else
 use Rattle.std.proofs.lemmas.Bool.{lt-ltb, le-ltb, eq-eqb, ne_eqb}
 use Rattle.std.proofs.lemmas.List.FromFn.{length-map-range_with_len}
 use Rattle.bp_calls.specs.OnTrees.{GetsBytes, GetsSize}
-use Rattle.bp_layout.specs.Inode.{kind_of, root_of, size_of}
+use Rattle.bp_layout.specs.Inode.{attributes_of, kind_of, root_of, size_of}
 use Rattle.bp_layout.specs.Lookup.{lookup}
 use Rattle.bp_layout.specs.Paths.{Path, parse}
 use Rattle.bp_layout.specs.Paths.Node.{dir, file}
@@ -106,7 +106,7 @@ module _ (image : Image) (text : List ℕ) (i : ℕ) (at : PathFinds image text 
     pub has_bytes : length (bytes_at tree.now.nodes (path_named text)) ≡ size_of image i
     has_bytes =
         ap (λ p. length (bytes_at tree.now.nodes p)) path_is
-        ∙ ap (λ o. length (bytes_in o)) (node_at image tree stands at.path i at.inode ∙ ap (λ k. Some (if k == 1 then file had else dir)) kind)
+        ∙ ap (λ o. length (bytes_in o)) (node_at image tree stands at.path i at.inode ∙ ap (λ k. Some (if k == 1 then file (attributes_of image i) had else dir (attributes_of image i))) kind)
         ∙ had_length
 
   -- a write

@@ -12,7 +12,7 @@ use Rattle.bp_layout.specs.Words.{Image, word}
 use Rattle.bp_layout.specs.Format.{empty_words}
 use Rattle.bp_limits.specs.Limits.{magic, max_blocks, super_magic}
 use Rattle.bp_limits.specs.declared.version.Version.{Version}
-use Rattle.bp_limits.specs.declared.version.Version.TheVariants.{One, Two}
+use Rattle.bp_limits.specs.declared.version.Version.TheVariants.{One, Two, Three}
 use Rattle.bp_plain.specs.PlainTree.{empty_tree}
 use Rattle.bp_plain.specs.Stands.{Stands}
 use Rattle.bp_plain.proofs.FormatStands.{format_stands}
@@ -57,6 +57,9 @@ module _ (base : Image) (version : Version) (blocks : ℕ) (whole : length base 
       go : (version : Version) → StoresMay (AnyAt (λ p. p ≢ 0)) (stores_epoch (empty_words version blocks))
       go One = (λ e. omega (arith, e), (λ e. omega (arith, e), (λ e. omega (arith, e), (λ e. omega (arith, e), (λ e. omega (arith, e), (λ e. omega (arith, e), tt))))))
       go Two = (λ e. omega (arith, e), (λ e. omega (arith, e), (λ e. omega (arith, e), (λ e. omega (arith, e), (λ e. omega (arith, e), (λ e. omega (arith, e), (λ e. omega (arith, e), (λ e. omega (arith, e), tt))))))))
+      go Three =
+          (λ e. omega (arith, e), (λ e. omega (arith, e), (λ e. omega (arith, e), (λ e. omega (arith, e), (λ e. omega (arith, e), (λ e. omega (arith, e), (λ e. omega (arith, e),
+          (λ e. omega (arith, e), (λ e. omega (arith, e), (λ e. omega (arith, e), (λ e. omega (arith, e), (λ e. omega (arith, e), (λ e. omega (arith, e), tt)))))))))))))
 
   filling_closed : IsClosed filling
   filling_closed = go version
@@ -64,6 +67,7 @@ module _ (base : Image) (version : Version) (blocks : ℕ) (whole : length base 
       go : (version : Version) → IsClosed (stores_epoch (empty_words version blocks))
       go One = (omega arith, (omega arith, (omega arith, (omega arith, (omega arith, (omega arith, tt))))))
       go Two = (omega arith, (omega arith, (omega arith, (omega arith, (omega arith, (omega arith, (omega arith, (omega arith, tt))))))))
+      go Three = (omega arith, (omega arith, (omega arith, (omega arith, (omega arith, (omega arith, (omega arith, (omega arith, (omega arith, (omega arith, (omega arith, (omega arith, (omega arith, tt)))))))))))))
 
   filled : word (words_after (set base 0 0) filling) 0 ≡ 0
   filled =
@@ -76,6 +80,7 @@ module _ (base : Image) (version : Version) (blocks : ℕ) (whole : length base 
       go : (version : Version) → Stands (set (words_after (set base 0 0) (stores_epoch (empty_words version blocks))) 0 (magic version)) (empty_tree version)
       go One = format_stands base One blocks whole least most
       go Two = format_stands base Two blocks whole least most
+      go Three = format_stands base Three blocks whole least most
 
   pub left_by_format : (image : List ℕ) → IsReplay base (format_events version blocks) image → IsLeftByFormat version base image
   left_by_format image found = elim (joined_replays base clearing_magic (filling ++ setting_magic) (omega arith, tt) image found) [

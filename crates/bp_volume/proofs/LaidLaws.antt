@@ -4,7 +4,7 @@ use Rattle.pm_epochs.specs.declared.event.Event.{Event}
 use Rattle.pm_region.specs.Memory.{Memory, drained, Adds}
 use Rattle.pm_region.proofs.MemoryLaws.{length-current_words}
 use Rattle.bp_limits.specs.declared.version.Version.{Version}
-use Rattle.bp_limits.specs.declared.version.Version.TheVariants.{One, Two}
+use Rattle.bp_limits.specs.declared.version.Version.TheVariants.{One, Two, Three}
 use Rattle.bp_layout.specs.Words.{block_count}
 use Rattle.bp_volume.specs.Laid.{format_events, formatted_memory}
 
@@ -12,6 +12,7 @@ use Rattle.bp_volume.specs.Laid.{format_events, formatted_memory}
 pub drained_format : (version : Version) (old new : Memory) → old.events ≡ [] → Adds old new (format_events version (block_count old.base)) → drained new ≡ formatted_memory version old
 drained_format One old new fresh adds = rw (adds, fresh) refl
 drained_format Two old new fresh adds = rw (adds, fresh) refl
+drained_format Three old new fresh adds = rw (adds, fresh) refl
 
 -- which has as many words
 pub length_laid : (old laid : Memory) (events : List Event) (new : Memory) → Adds old laid events → new ≡ drained laid → length new.base ≡ length old.base

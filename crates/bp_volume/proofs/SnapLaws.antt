@@ -30,8 +30,9 @@ use Rattle.bp_layout.specs.Whole.{IsFileSystem, SameFiles}
 use Rattle.bp_layout.specs.Words.{Image, block_count, word}
 use Rattle.bp_layout.proofs.NoSnapshot.{alone_file_system, has_none, snapshot_none}
 use Rattle.bp_limits.specs.Limits.{version_at}
-use Rattle.bp_limits.specs.CallLimits.{is_two}
-use Rattle.bp_limits.specs.declared.version.Version.TheVariants.{One, Two}
+use Rattle.bp_limits.specs.CallLimits.{allows_snapshot}
+use Rattle.bp_limits.specs.declared.version.Version.{Version}
+use Rattle.bp_limits.specs.declared.version.Version.TheVariants.{One, Two, Three}
 use Rattle.bp_plain.specs.Calls.{Answer}
 use Rattle.bp_plain.specs.Calls.Answer.{done, refused as is_refused}
 use Rattle.bp_plain.specs.Calls.Call.{snap, unsnap}
@@ -83,13 +84,18 @@ module _ (image : Image) (tree : FileTree) (stands : Stands image tree) where
 
 pub snap_too_old : (image : Image) → version_of image ≡ One → Answers image snap (is_refused old_version)
 snap_too_old image one tree stands =
-    refused_steps image tree snap old_version (ap (λ version. first (when (not (is_two version)) old_version ∷ when (is_some tree.snap) has_snap ∷ [])) (stands.version ∙ one))
+    refused_steps image tree snap old_version (ap (λ version. first (when (not (allows_snapshot version)) old_version ∷ when (is_some tree.snap) has_snap ∷ [])) (stands.version ∙ one))
 
-pub snap_again : (image : Image) → version_of image ≡ Two → has_snapshot image ≡ true → Answers image snap (is_refused has_snap)
-snap_again image two there tree stands =
+-- versions 2 and 3 allow a snapshot
+pub later_allows : (version : Version) → (version ≡ Two) ⊎ (version ≡ Three) → allows_snapshot version ≡ true
+later_allows version (inl two) = ap allows_snapshot two
+later_allows version (inr three) = ap allows_snapshot three
+
+pub snap_again : (image : Image) → allows_snapshot (version_of image) ≡ true → has_snapshot image ≡ true → Answers image snap (is_refused has_snap)
+snap_again image allows there tree stands =
     let one = tree_has_one image tree stands there in
     refused_steps image tree snap has_snap
-    (ap (λ version. first (when (not (is_two version)) old_version ∷ when (is_some tree.snap) has_snap ∷ [])) (stands.version ∙ two)
+    (ap (λ b. first (when (not b) old_version ∷ when (is_some tree.snap) has_snap ∷ [])) (ap allows_snapshot stands.version ∙ allows)
     ∙ ap (λ o. first (when (is_some o) has_snap ∷ [])) one.1)
 
 pub unsnap_none : (image : Image) → has_snapshot image ≡ false → Answers image unsnap (is_refused no_snap)
@@ -118,7 +124,7 @@ module _ (image other : Image) (wf : IsWellFormed image) (each : EachMay (AnyAt 
 abbrev IsSnapshotRoot : ℕ → Type 0
 IsSnapshotRoot place = place ≡ 4
 
-module _ (image : Image) (is : IsFileSystem image) (two : version_of image ≡ Two) (none : has_snapshot image ≡ false) where
+module _ (image : Image) (is : IsFileSystem image) (allows : allows_snapshot (version_of image) ≡ true) (none : has_snapshot image ≡ false) where
   long : 6 ≤ length image
   long = long_words image is
 
@@ -129,7 +135,7 @@ module _ (image : Image) (is : IsFileSystem image) (two : version_of image ≡ T
   between_none : (other : Image) → EachMay (AnyAt IsSnapshotRoot) image other → has_snapshot other ≡ false
   between_none other each =
       let at : (place : ℕ) → place ≢ 4 → word other place ≡ word image place = λ place apart. same_where_none (AnyAt IsSnapshotRoot) image other each place (λ value e. apart e) in
-      (λ i. is_two (version_at (at 0 (λ e. omega (arith, e)) i)) && nat_lt 0 (at 5 (λ e. omega (arith, e)) i)) ∙ none
+      (λ i. allows_snapshot (version_at (at 0 (λ e. omega (arith, e)) i)) && nat_lt 0 (at 5 (λ e. omega (arith, e)) i)) ∙ none
 
   between_same : (other : Image) → EachMay (AnyAt IsSnapshotRoot) image other → SameFiles image other
   between_same other each = record {
@@ -154,7 +160,7 @@ module _ (image : Image) (is : IsFileSystem image) (two : version_of image ≡ T
       let magic_stays : word snapped 0 ≡ word image 0 =
       get_or-set_other (set image 4 (word image 2)) 5 0 (word image 3) 0 (λ e. omega (arith, e)) ∙ get_or-set_other image 4 0 (word image 2) 0 (λ e. omega (arith, e)) in
       let some : 4096 ≤ word image 3 = is.first.some_inodes in
-      (λ i. is_two ((ap version_at magic_stays ∙ two) i) && nat_lt 0 (size i)) ∙ lt-ltb 0 (word image 3) (omega (arith, some))
+      (λ i. (ap (λ w. allows_snapshot (version_at w)) magic_stays ∙ allows) i && nat_lt 0 (size i)) ∙ lt-ltb 0 (word image 3) (omega (arith, some))
 
   snapped_well : IsWellFormed snapped
   snapped_well = (snapped_same image long is.first).new_well_formed
@@ -175,16 +181,16 @@ module _ (image : Image) (is : IsFileSystem image) (two : version_of image ≡ T
   snap_changes : ChangesTree snap done image snapped
   snap_changes tree stands =
       changing_steps image snapped tree snap
-      (ap (λ version. first (when (not (is_two version)) old_version ∷ when (is_some tree.snap) has_snap ∷ [])) (stands.version ∙ two)
+      (ap (λ b. first (when (not b) old_version ∷ when (is_some tree.snap) has_snap ∷ [])) (ap allows_snapshot stands.version ∙ allows)
       ∙ ap (λ o. first (when (is_some o) has_snap ∷ [])) (tree_has_none image tree stands none))
-      refl refl snap_needs_none (snap_stands image long is.first two tree stands)
+      refl refl snap_needs_none (snap_stands image long is.first allows tree stands)
 
-module _ (memory made : Memory) (is : IsFileSystem (current_words memory)) (two : version_of (current_words memory) ≡ Two) (none : has_snapshot (current_words memory) ≡ false)
+module _ (memory made : Memory) (is : IsFileSystem (current_words memory)) (allows : allows_snapshot (version_of (current_words memory)) ≡ true) (none : has_snapshot (current_words memory) ≡ false)
     (adds : Adds memory made (snap_events (current_words memory))) where
   abbrev image : Image
   image = current_words memory
 
-  words_snapped : current_words made ≡ snapped image is two none
+  words_snapped : current_words made ≡ snapped image is allows none
   words_snapped = current_words-adds memory made (snap_events image) adds
 
   snap_stores : StoresSuper memory made snap
@@ -193,12 +199,12 @@ module _ (memory made : Memory) (is : IsFileSystem (current_words memory)) (two 
     place = 5;
     value = word image 3;
     adds = adds;
-    quiet = snap_quiet image is two none;
+    quiet = snap_quiet image is allows none;
     piece = record { no_call_end = refl; few_barriers = omega arith; few_stores = omega arith };
     beside = ((omega arith, (λ e. omega (arith, e)), (λ e. omega (arith, e))), ((omega arith, (λ e. omega (arith, e)), (λ e. omega (arith, e))), tt));
     reported = refl;
-    well = rw words_snapped (snapped_file_system image is two none);
-    changes = rw words_snapped (snap_changes image is two none);
+    well = rw words_snapped (snapped_file_system image is allows none);
+    changes = rw words_snapped (snap_changes image is allows none);
   }
 
   -- ---- the sets, where all blocks that are not free are in the snapshot from then on
@@ -215,13 +221,13 @@ module _ (memory made : Memory) (is : IsFileSystem (current_words memory)) (two 
     free_now = subst (λ in_snapshot. AreFreeBlocks (current_words made) in_snapshot (has parts.free_blocks)) loose exact_now.sets.free_blocks
 
     second_is : snapshot_of (current_words made) ≡ current_words made
-    second_is = ap snapshot_of words_snapped ∙ snapshot_is image (long image is two none) is.first ∙ sym words_snapped
+    second_is = ap snapshot_of words_snapped ∙ snapshot_is image (long image is allows none) is.first ∙ sym words_snapped
 
     module _ (after : Parts R) (blocks : after.free_blocks ≡ parts.free_blocks) (inodes : after.free_inodes ≡ parts.free_inodes) (counts : after.link_counts ≡ parts.link_counts) (others : HasOthers parts.free_blocks after.snapshot_blocks) where
       pub snapshot_snapped : AreInSnapshot (current_words made) (in_snapshot_of after)
       snapshot_snapped =
-          snapshot_others (current_words made) parts.free_blocks after.snapshot_blocks (rw words_snapped (there_now image is two none))
-          (rw words_snapped (snapped_second image is two none)) exact_now.sets.block_room
+          snapshot_others (current_words made) parts.free_blocks after.snapshot_blocks (rw words_snapped (there_now image is allows none))
+          (rw words_snapped (snapped_second image is allows none)) exact_now.sets.block_room
           (subst (λ words. AreFreeBlocks words none_in_snapshot (has parts.free_blocks)) (sym second_is) free_now)
           (subst (λ words. AreOthersLive words (has parts.free_blocks)) (sym second_is)
           (others_live (current_words made) snap_stores.well.first parts exact_now free_now)) others
@@ -254,7 +260,7 @@ module _ (memory made : Memory) (is : IsFileSystem (current_words memory)) (two 
       }
 
 pub snap_calls : (memory made : Memory) (answer : Answer) → IsFileSystem (current_words memory) → Snaps memory answer made → CallsSuper memory made snap answer
-snap_calls memory made answer is (has_made reported two none adds) = altered reported (snap_stores memory made is two none adds)
+snap_calls memory made answer is (has_made reported allows none adds) = altered reported (snap_stores memory made is allows none adds)
 snap_calls memory made answer is (has_refused same reported) = unchanged same reported
 
 -- ---- it goes
@@ -274,7 +280,7 @@ module _ (image : Image) (is : IsFileSystem image) (there : has_snapshot image �
   unsnapped = set image 5 0
 
   gone_now : has_snapshot unsnapped ≡ false
-  gone_now = has_none unsnapped (λ two. get_or-set_same image 5 0 0 (let long = long_words image is in omega (arith, long)))
+  gone_now = has_none unsnapped (λ allows. get_or-set_same image 5 0 0 (let long = long_words image is in omega (arith, long)))
 
   unsnapped_file_system : IsFileSystem unsnapped
   unsnapped_file_system = alone_file_system unsnapped (unsnapped_same image (long_words image is) is.first).new_well_formed gone_now

@@ -8,7 +8,7 @@ use Rattle.bp_layout.specs.Trees.{has_snapshot, snapshot_of}
 use Rattle.bp_layout.specs.Whole.{IsFileSystem}
 use Rattle.bp_layout.specs.Words.{Image, word}
 use Rattle.bp_layout.proofs.TreeImages.{snapshot-root, snapshot-size, snapshot-version, snapshot-word}
-use Rattle.bp_limits.specs.CallLimits.{is_two}
+use Rattle.bp_limits.specs.CallLimits.{allows_snapshot}
 use Rattle.bp_plain.specs.Calls.{Answer, Call, Refusal}
 use Rattle.bp_plain.specs.Calls.Answer.{names, refused}
 use Rattle.bp_plain.specs.Calls.Call.{list, read, snap_list, snap_read, snap_stat, stat}
@@ -68,7 +68,7 @@ module _ (image : Image) (is : IsFileSystem image) where
       ap (λ w. set (set second 2 w) 3 (word second 5)) root ∙ ap (λ xs. set xs 3 (word second 5)) (set-get_or second 2 0) ∙ ap (λ w. set second 3 w) size ∙ set-get_or second 3 0
 
   second_there : has_snapshot second ≡ has_snapshot image
-  second_there = λ i. is_two (snapshot-version image i) && nat_lt 0 (snapshot-word image 5 (λ e. omega (arith, e)) (λ e. omega (arith, e)) i)
+  second_there = λ i. allows_snapshot (snapshot-version image i) && nat_lt 0 (snapshot-word image 5 (λ e. omega (arith, e)) (λ e. omega (arith, e)) i)
 
   second_stands : (tree : FileTree) (map : PathMap) → Stands image tree → tree.snap ≡ Some map → Stands second (second_tree tree map)
   second_stands tree map stands snap_is =

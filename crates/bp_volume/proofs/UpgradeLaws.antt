@@ -1,5 +1,5 @@
 -- An upgrade of version 1: its first epoch nobody sees, and then one store makes the image one of version 2.
-use Rattle.std.proofs.Common.{◌≡◌, ℕ, ◌<◌, ◌≤◌, List, [], ◌∷◌, Bool, refl, sym, ◌∙◌, ap, subst, arith}
+use Rattle.std.proofs.Common.{◌≡◌, ℕ, ◌<◌, ◌≤◌, List, [], ◌∷◌, Bool, true, refl, sym, ◌∙◌, ap, subst, arith}
 use Rattle.std.specs.Prelude.{not}
 use Rattle.pm_epochs.specs.declared.event.Event.{Event}
 use Rattle.pm_epochs.specs.declared.event.Event.TheVariants.{Store}
@@ -20,7 +20,7 @@ use Rattle.bp_layout.proofs.BesideTrees.{SameTrees}
 use Rattle.bp_layout.proofs.NoSnapshot.{first_has_none, snapshot_none, none_in_snapshot_of}
 use Rattle.bp_layout.proofs.Upgrade.{same_files_first, upgraded_alone, upgraded_file_system}
 use Rattle.bp_limits.specs.Limits.{magic}
-use Rattle.bp_limits.specs.CallLimits.{is_two}
+use Rattle.bp_limits.specs.CallLimits.{allows_snapshot}
 use Rattle.bp_limits.specs.declared.version.Version.TheVariants.{One, Two}
 use Rattle.bp_plain.specs.Calls.Answer.{done}
 use Rattle.bp_plain.specs.Calls.Call.{upgrade}
@@ -56,11 +56,11 @@ module _ (image : Image) where
 
   upgrade_changes : version_of image ≡ One → ChangesTree upgrade done image (upgraded image)
   upgrade_changes one tree stands =
-      changing_steps image (upgraded image) tree upgrade refl (ap (λ version. not (is_two version)) (stands.version ∙ one)) refl upgrade_needs_none (upgrade_stands image one tree stands)
+      changing_steps image (upgraded image) tree upgrade refl (ap (λ version. not (allows_snapshot version)) (stands.version ∙ one)) refl upgrade_needs_none (upgrade_stands image one tree stands)
 
-  -- in version 2 it changes nothing
-  upgrade_reports : version_of image ≡ Two → Answers image upgrade done
-  upgrade_reports two tree stands = answer_steps image tree upgrade done refl (ap (λ version. not (is_two version)) (stands.version ∙ two)) refl
+  -- from version 2 on it changes nothing
+  upgrade_reports : allows_snapshot (version_of image) ≡ true → Answers image upgrade done
+  upgrade_reports allows tree stands = answer_steps image tree upgrade done refl (ap not (ap allows_snapshot stands.version ∙ allows)) refl
 
 -- ---- an upgrade of version 1
 
@@ -114,15 +114,15 @@ module _ (memory made : Memory) (is : IsFileSystem (current_words memory)) (one 
 
 pub upgrade_calls : (memory made : Memory) → IsFileSystem (current_words memory) → Upgrades memory made → CallsSuper memory made upgrade done
 upgrade_calls memory made is (first one adds) = altered refl (upgrade_stores memory made is one adds)
-upgrade_calls memory made is (second two same) = unchanged same (upgrade_reports (current_words memory) two)
+upgrade_calls memory made is (second allows same) = unchanged same (upgrade_reports (current_words memory) allows)
 
 module _ {R : Type 0} (memory made : Memory) (parts : Parts R) (pending : ℕ) (volume : IsVolume memory parts pending) where
   -- the blocks of a snapshot stay
   pub upgrade_snapshot : Upgrades memory made → AreInSnapshot (current_words made) (in_snapshot_of parts)
   upgrade_snapshot (first one adds) = snapshot_first memory made volume.well_formed one adds (in_snapshot_of parts) volume.snapshot_blocks
-  upgrade_snapshot (second two same) = rw same volume.snapshot_blocks
+  upgrade_snapshot (second allows same) = rw same volume.snapshot_blocks
 
   -- and the sets
   pub upgrade_exact : Upgrades memory made → IsExact (current_words made) parts
   upgrade_exact (first one adds) = exact_first memory made volume.well_formed one adds parts volume.exact
-  upgrade_exact (second two same) = rw same volume.exact
+  upgrade_exact (second allows same) = rw same volume.exact

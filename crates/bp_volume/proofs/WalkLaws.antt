@@ -7,7 +7,7 @@ use Rattle.std.proofs.lemmas.Bool.{eqb-true, eqb-false}
 use Rattle.bp_layout.specs.Words.{Image}
 use Rattle.bp_layout.specs.Inode.{kind_of}
 use Rattle.bp_layout.specs.Directory.{lookup_in}
-use Rattle.bp_layout.specs.Paths.{Name, Path}
+use Rattle.bp_layout.specs.Paths.{Attributes, Name, Path}
 use Rattle.bp_layout.specs.Reached.{IsReached}
 use Rattle.bp_layout.specs.Reached.IsReached.{root_directory}
 use Rattle.bp_layout.specs.Lookup.{lookup, node_of}
@@ -27,10 +27,10 @@ use Rattle.bp_path.specs.Walk.Walked.{found, missing, in_file}
 use Rattle.bp_path.proofs.WalkLaws.{walk_is_lookup}
 use Rattle.bp_volume.specs.Queries.{refusal_of_walk}
 
-kind_test : (kind : ℕ) (content : List ℕ) → 1 ≤ kind → kind ≤ 2 → is_a_dir (Some (if kind == 1 then file content else dir)) ≡ (kind == 2)
-kind_test kind content low high = go (kind == 1) refl
+kind_test : (kind : ℕ) (attributes : Attributes) (content : List ℕ) → 1 ≤ kind → kind ≤ 2 → is_a_dir (Some (if kind == 1 then file attributes content else dir attributes)) ≡ (kind == 2)
+kind_test kind attributes content low high = go (kind == 1) refl
   where
-    go : (b : Bool) → (kind == 1) ≡ b → is_a_dir (Some (if kind == 1 then file content else dir)) ≡ (kind == 2)
+    go : (b : Bool) → (kind == 1) ≡ b → is_a_dir (Some (if kind == 1 then file attributes content else dir attributes)) ≡ (kind == 2)
     go true e = rw e (rw (eqb-true kind 1 e) refl)
     go false e =
         let other : kind ≢ 1 = eqb-false kind 1 e in
@@ -62,7 +62,7 @@ module _ (image : Image) (tree : FileTree) (stands : Stands image tree) where
   pub dir_at : (path : Path) (i : ℕ) → lookup image path ≡ Some i → is_dir_at tree.now.nodes path ≡ (kind_of image i == 2)
   dir_at path i e =
       let kinds : (1 ≤ kind_of image i) × (kind_of image i ≤ 2) = kind_at image stands.now.well_formed path i e in
-      ap is_a_dir (node_at path i e) ∙ kind_test (kind_of image i) _ kinds.0 kinds.1
+      ap is_a_dir (node_at path i e) ∙ kind_test (kind_of image i) _ _ kinds.0 kinds.1
 
   pub lookup-next : (here : Path) (i : ℕ) (name : Name) → lookup image here ≡ Some i → lookup image (here ++ name ∷ []) ≡ lookup_in image i name
   lookup-next here i name e = lookup_from-append image 1 here name ∙ ap (option_and_then (λ k. lookup_in image k name)) e

@@ -8,8 +8,9 @@ ghost use Rattle.bp_volume.specs.Laid.{IsLeftByFormat, OfEachReplay, format_even
 ghost use Rattle.pm_region.specs.Memory.{Adds, room_in};
 
 use bp_limits::{
-    BLOCK_SIZE, BLOCK_WORDS, DIRECTORY_KIND, FIRST_INODE, ROOT_FIELD, SIZE_FIELD, SUPER_BLOCKS,
-    SUPER_MAGIC, SUPER_ROOT, SUPER_SIZE, SUPER_SNAPSHOT_ROOT, SUPER_SNAPSHOT_SIZE, Version,
+    ATTRIBUTE_FIELD, BLOCK_SIZE, BLOCK_WORDS, DIRECTORY_KIND, FIRST_INODE, ROOT_FIELD, SIZE_FIELD,
+    SUPER_BLOCKS, SUPER_MAGIC, SUPER_ROOT, SUPER_SIZE, SUPER_SNAPSHOT_ROOT, SUPER_SNAPSHOT_SIZE,
+    SUPER_SPARE_ROOT, SUPER_SPARE_SIZE, Version,
 };
 use pm_region::Region;
 
@@ -18,7 +19,7 @@ use pm_region::Region;
 pub fn lay_first_blocks<R: Region>(region: &mut R, version: Version, blocks: u32)
     requires prefix { 2 * block_words ≤ length (R.memory region.old).base }
     requires fresh { (R.memory region.old).events ≡ [] }
-    requires room { 16 ≤ room_in (R.memory region.old) }
+    requires room { 18 ≤ room_in (R.memory region.old) }
     ensures { Adds (R.memory region.old) (R.memory region.new) (format_events version blocks) }
 {
     // The magic number is removed before any other word changes, and stored again once all of them are written back.
@@ -27,13 +28,22 @@ pub fn lay_first_blocks<R: Region>(region: &mut R, version: Version, blocks: u32
     region.store(SUPER_BLOCKS, blocks as u64);
     region.store(SUPER_ROOT, BLOCK_SIZE);
     region.store(SUPER_SIZE, BLOCK_SIZE);
-    if version == Version::Two {
+    if version != Version::One {
         region.store(SUPER_SNAPSHOT_ROOT, 0);
         region.store(SUPER_SNAPSHOT_SIZE, 0);
+    }
+    if version == Version::Three {
+        region.store(SUPER_SPARE_ROOT, 0);
+        region.store(SUPER_SPARE_SIZE, 0);
     }
     region.store(FIRST_INODE, DIRECTORY_KIND);
     region.store(FIRST_INODE + ROOT_FIELD, 0);
     region.store(FIRST_INODE + SIZE_FIELD, 0);
+    if version == Version::Three {
+        region.store(FIRST_INODE + ATTRIBUTE_FIELD, 0);
+        region.store(FIRST_INODE + ATTRIBUTE_FIELD + 1, 0);
+        region.store(FIRST_INODE + ATTRIBUTE_FIELD + 2, 0);
+    }
     // The magic number states that all of these words are there, so it must not be written back before one of them.
     region.barrier();
     region.store(SUPER_MAGIC, version.magic());
@@ -47,7 +57,7 @@ pub fn lay_first_blocks<R: Region>(region: &mut R, version: Version, blocks: u32
 pub fn lay_out<R: Region>(region: &mut R, version: Version)
     requires sized { IsSized (R.memory region.old).base }
     requires fresh { (R.memory region.old).events ≡ [] }
-    requires room { 16 ≤ room_in (R.memory region.old) }
+    requires room { 18 ≤ room_in (R.memory region.old) }
     ensures stores { Adds (R.memory region.old) (R.memory region.new)
         (format_events version (block_count (R.memory region.old).base)) }
     ensures left { OfEachReplay (R.memory region.new) (IsLeftByFormat version (R.memory region.old).base) }

@@ -1,12 +1,12 @@
 //! The snapshot. Stores to the superblock alone make it and delete it, and it is read as the first tree is.
 
-ghost use Rattle.std.specs.Prelude.{◌*◌, ◌≡◌, ◌≤◌, IfErr, IfOk, OnErr, OnOk, Some, drop, false, length};
+ghost use Rattle.std.specs.Prelude.{◌*◌, ◌≡◌, ◌≤◌, IfErr, IfOk, OnErr, OnOk, Some, drop, false, length, true};
 ghost use Rattle.bp_layout.specs.Formatted.{IsSized, version_of};
 ghost use Rattle.bp_layout.specs.Trees.{AreInSnapshot, has_snapshot};
 ghost use Rattle.bp_layout.specs.Whole.{IsFileSystem};
 ghost use Rattle.bp_layout.specs.Words.{block_count};
+ghost use Rattle.bp_limits.specs.CallLimits.{allows_snapshot};
 ghost use Rattle.bp_limits.specs.Limits.{block_inodes};
-ghost use Rattle.bp_limits.specs.declared.version.Version.TheVariants.{Two};
 ghost use Rattle.bp_plain.specs.Calls.Answer.{refused};
 ghost use Rattle.bp_plain.specs.Calls.Call.{snap, snap_list, snap_read, snap_stat};
 ghost use Rattle.bp_plain.specs.Calls.Refusal.{no_snap};
@@ -37,13 +37,13 @@ use std::alloc::Global;
 /// Refuses to make a snapshot in version 1, or if there is one.
 fn may_snap<R: Region>(region: &R) -> Result<(), FsError>
     requires { IsSized (words_in R.memory region.now) }
-    ensures version { OnOk result (version_of (words_in R.memory region.now) ≡ Two) }
+    ensures version { OnOk result (allows_snapshot (version_of (words_in R.memory region.now)) ≡ true) }
     ensures none { OnOk result (has_snapshot (words_in R.memory region.now) ≡ false) }
     ensures refused { IfErr result (λ error. Answers (words_in R.memory region.now) snap (refused (refusal_of error))) }
 {
     match version(region) {
         Version::One => Err(FsError::OldVersion),
-        Version::Two => {
+        Version::Two | Version::Three => {
             if has_second(region) {
                 return Err(FsError::HasSnap);
             }

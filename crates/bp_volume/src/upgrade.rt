@@ -1,4 +1,4 @@
-//! Upgrades to version 2 of the format.
+//! Upgrades from version 1 to version 2 of the format.
 
 ghost use Rattle.std.specs.Prelude.{◌≤◌};
 ghost use Rattle.bp_layout.specs.Formatted.{IsSized};
@@ -11,14 +11,15 @@ use pm_region::Region;
 
 /// Carries out `upgrade`, except for its end-of-call marker. In version 1 it stores 0 to the words that version 2 uses
 /// for the snapshot, and once they are written back, the magic number of version 2. A crash before that leaves version
-/// 1, in which these words have no meaning. In version 2 it does nothing.
+/// 1, in which these words have no meaning. From version 2 on it does nothing.
 pub(crate) fn upgrade_region<R: Region>(region: &mut R)
     requires sized { IsSized (words_in R.memory region.old) }
     requires room { 5 ≤ room_in (R.memory region.old) }
     ensures { Upgrades (R.memory region.old) (R.memory region.new) }
 {
-    if version(region) == Version::Two {
-        return;
+    match version(region) {
+        Version::One => {}
+        Version::Two | Version::Three => return,
     }
     region.store(SUPER_SNAPSHOT_ROOT, 0);
     region.store(SUPER_SNAPSHOT_SIZE, 0);

@@ -371,7 +371,7 @@ impl<R: Region> Volume<R> {
     /// The first of these that applies. Nothing has changed then.
     ///
     /// - `BadPath`: the text is no path.
-    /// - `TooLong`: there are more than 65,536 bytes; in version 2, more than 1,048,576.
+    /// - `TooLong`: there are more than 65,536 bytes; from version 2 on, more than 1,048,576.
     /// - `NotFound`, `NotDir`: a name of the path is missing or is searched for in a file. The first such name
     ///   decides.
     /// - `IsDir`: the path finds a directory.
@@ -507,8 +507,8 @@ impl<R: Region> Volume<R> {
         reported
     }
 
-    /// Upgrades the format to version 2, whose limits are larger, with the same files and directories. In version 2 it
-    /// changes nothing. It needs no block.
+    /// Upgrades the format from version 1 to version 2, whose limits are larger, with the same files and directories. In
+    /// a later version it changes nothing. It needs no block.
     pub fn upgrade(&mut self)
         ensures { FileCall self.old upgrade done self.new }
     {
@@ -646,7 +646,7 @@ impl<R: Region> Volume<R> {
         }
     }
 
-    /// Upgrades the format to version 2, and sets the reply.
+    /// Upgrades the format from version 1 to version 2, and sets the reply.
     fn apply_upgrade(&mut self, reply: &mut Reply)
         ensures { FileCall self.old upgrade reply.new.answer self.new }
     {

@@ -11,7 +11,7 @@ pub record CanFormat (blocks version : ℕ) : Type 0 where
   pub least : min_blocks ≤ blocks
   pub most : blocks ≤ max_blocks
   pub first : 1 ≤ version
-  pub last : version ≤ 2
+  pub last : version ≤ 3
 
 -- The caller gets the events of the format, up to the length of its array. It gets none, and its variables keep their
 -- contents, where no such image exists (38) or allocation fails (12).

@@ -23,12 +23,13 @@ pub extern "C" fn bpfs_format_events(
     let version = match version {
         1 => Version::One,
         2 => Version::Two,
+        3 => Version::Three,
         _ => return OUT_OF_RANGE,
     };
     if blocks < MIN_BLOCKS || MAX_BLOCKS < blocks {
         return OUT_OF_RANGE;
     }
-    let mut region = match RedoRegion::new(alloc, 2 * BLOCK_WORDS, 16) {
+    let mut region = match RedoRegion::new(alloc, 2 * BLOCK_WORDS, 18) {
         Ok(region) => region,
         Err(_) => return NO_MEMORY,
     };

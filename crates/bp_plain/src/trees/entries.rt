@@ -12,19 +12,31 @@ ghost use Rattle.std.specs.Prelude.{IfOk, OnErr, OnOk, ◌+◌, ◌≡◌, if◌
 
 use crate::paths::{copied, is_same, joined};
 use bp_layout::{Kind, Name};
+use bp_limits::ATTRIBUTES;
 use std::alloc::{AllocError, Global};
 use std::collections::BTreeMap;
 use std::marker::Model;
+
+/// Attributes of a file or a directory: words of the caller's own.
+pub(super) type Attributes = [u64; ATTRIBUTES as usize];
+
+/// Attributes of a new file or directory.
+pub(super) const NO_ATTRIBUTES: Attributes = [0; ATTRIBUTES as usize];
 
 /// Node at a path.
 #[derive(Drop)]
 pub(super) enum Node {
     /// A directory.
-    Dir,
+    Dir {
+        /// Attributes of the directory.
+        attributes: Attributes,
+    },
     /// A file.
     File {
         /// Number of the file, which no other file has.
         id: u64,
+        /// Attributes of the file.
+        attributes: Attributes,
         /// Bytes of the file.
         content: Vec<u8>,
     },
@@ -35,10 +47,12 @@ pub(super) enum Node {
 pub(super) enum Change<'a> {
     /// No change.
     Nothing,
-    /// The file with a number gets other bytes, at each of its paths.
+    /// The file with a number gets other attributes and bytes, at each of its paths.
     Content {
         /// Number of the file.
         id: u64,
+        /// New attributes.
+        attributes: Attributes,
         /// New bytes.
         bytes: &'a [u8],
     },
@@ -78,7 +92,10 @@ impl Files {
         ensures { IfOk result (λ files. files ≡ root_alone) }
     {
         let mut nodes = BTreeMap::new(alloc);
-        nodes.insert(Vec::new(alloc), Node::Dir)?;
+        let root = Node::Dir {
+            attributes: NO_ATTRIBUTES,
+        };
+        nodes.insert(Vec::new(alloc), root)?;
         Ok(Files { nodes })
     }
 
@@ -180,9 +197,13 @@ impl Files {
                 let same = copied(alloc, path)?;
                 self.put(same, copy(node)?)
             }
-            Change::Content { id, bytes } => {
+            Change::Content {
+                id,
+                attributes,
+                bytes,
+            } => {
                 let same = copied(alloc, path)?;
-                self.put(same, with_bytes(alloc, node, id, bytes)?)
+                self.put(same, with_bytes(alloc, node, id, attributes, bytes)?)
             }
             Change::Moved { from, to } => self.put_moved(alloc, from, to, path, node),
         }
@@ -211,7 +232,7 @@ fn has_number(node: &Node, id: u64) -> bool
     ensures { result ≡ has_number id (numbered node.now) }
 {
     match node {
-        Node::Dir => false,
+        Node::Dir { .. } => false,
         Node::File { id: other, .. } => *other == id,
     }
 }
@@ -250,21 +271,38 @@ pub(super) fn copy(node: &Node) -> Result<Node, AllocError>
     ensures { IfOk result (λ copied. numbered copied ≡ numbered node.now) }
 {
     match node {
-        Node::Dir => Ok(Node::Dir),
-        Node::File { id, content } => Ok(Node::File {
+        Node::Dir { attributes } => Ok(Node::Dir {
+            attributes: *attributes,
+        }),
+        Node::File {
+            id,
+            attributes,
+            content,
+        } => Ok(Node::File {
             id: *id,
+            attributes: *attributes,
             content: content.clone()?,
         }),
     }
 }
 
-/// Returns a copy of a node, with these bytes if it is the file with this number.
-fn with_bytes(alloc: Global, node: &Node, id: u64, bytes: &[u8]) -> Result<Node, AllocError>
-    ensures { IfOk result (λ copied. numbered copied ≡ with_bytes_in id bytes.now (numbered node.now)) }
+/// Returns a copy of a node, with these attributes and bytes if it is the file with this number.
+fn with_bytes(
+    alloc: Global,
+    node: &Node,
+    id: u64,
+    attributes: Attributes,
+    bytes: &[u8],
+) -> Result<Node, AllocError>
+    ensures { IfOk result (λ copied. numbered copied ≡ with_bytes_in id attributes bytes.now (numbered node.now)) }
 {
     if has_number(node, id) {
         let content = vec_of(alloc, bytes)?;
-        return Ok(Node::File { id, content });
+        return Ok(Node::File {
+            id,
+            attributes,
+            content,
+        });
     }
     copy(node)
 }
@@ -281,7 +319,7 @@ fn kind_of(node: &Node) -> Kind
     ensures { result ≡ plain.kind_of_node (node_seen node.now) }
 {
     match node {
-        Node::Dir => Kind::Dir,
+        Node::Dir { .. } => Kind::Dir,
         Node::File { .. } => Kind::File,
     }
 }

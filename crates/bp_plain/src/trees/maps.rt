@@ -13,7 +13,7 @@ ghost use Rattle.bp_plain.specs.SeenTree.{names_of, node_seen};
 ghost use Rattle.std.specs.FinMap.{get};
 ghost use Rattle.std.specs.Prelude.{IfOk, None, OnErr, OnOk, ◌+◌, ◌≡◌, ◌≤◌, false, is_some, option_map, true};
 
-use super::entries::{Change, Files, Node, copy};
+use super::entries::{Attributes, Change, Files, NO_ATTRIBUTES, Node, copy};
 use crate::contents::{answer_bytes, part, resized, written};
 use crate::errors::FsError;
 use crate::paths::{first, parent_of, path_of, when};
@@ -83,7 +83,7 @@ impl FileMap {
         ensures { result ≡ is_dir_at self.now.nodes (names_of path.now) }
     {
         match self.node(path) {
-            Some(Node::Dir) => true,
+            Some(Node::Dir { .. }) => true,
             _ => false,
         }
     }
@@ -101,6 +101,17 @@ impl FileMap {
         match self.node(path) {
             Some(Node::File { content, .. }) => content.as_slice(),
             _ => &[],
+        }
+    }
+
+    /// Returns the attributes of the node at a path, or those of a new node if nothing is there.
+    fn attributes(&self, path: &[Name]) -> Attributes
+        ensures { result ≡ plain.attributes_at self.now.nodes (names_of path.now) }
+    {
+        match self.node(path) {
+            Some(Node::Dir { attributes }) => *attributes,
+            Some(Node::File { attributes, .. }) => *attributes,
+            None => NO_ATTRIBUTES,
         }
     }
 
@@ -270,6 +281,7 @@ impl FileMap {
             path,
             Node::File {
                 id: self.next,
+                attributes: NO_ATTRIBUTES,
                 content,
             },
         )?;
@@ -283,7 +295,10 @@ impl FileMap {
         ensures made { OnOk result (self.new ≡ plain.with_dir self.old (names_of path.items)) }
         ensures kept { OnErr result (self.new ≡ self.old) }
     {
-        self.files.put(path, Node::Dir)?;
+        let made = Node::Dir {
+            attributes: NO_ATTRIBUTES,
+        };
+        self.files.put(path, made)?;
         Ok(())
     }
 
@@ -357,7 +372,13 @@ impl FileMap {
     {
         match self.files.id(path) {
             Some(id) => {
-                let files = self.files.changed(alloc, &Change::Content { id, bytes })?;
+                let attributes = self.attributes(path);
+                let change = Change::Content {
+                    id,
+                    attributes,
+                    bytes,
+                };
+                let files = self.files.changed(alloc, &change)?;
                 self.files = files;
                 Ok(())
             }

@@ -1,10 +1,10 @@
 use Rattle.std.proofs.Common.{◌≤◌, arith}
-use Rattle.pm_epochs.specs.May.{AnyAt}
+use Rattle.bp_limits.proofs.Versions.{fields_most}
+use Rattle.bp_layout.specs.Formatted.{version_of}
 use Rattle.pm_region.specs.Memory.{current_words, room_in}
 use Rattle.pm_region.proofs.MemoryLaws.{length-current_words}
 use Rattle.bp_layout.specs.Reached.IsReached.{inode_file}
 use Rattle.bp_layout.proofs.Reached.{reached-in_file}
-use Rattle.bp_read.specs.Within.{IsWithin}
 use Rattle.bp_calls.proofs.EnteredLaws.{directory_inode}
 use Rattle.bp_calls.proofs.PastEndStores.{put_base, put_room, put_well_formed_past_end}
 use Rattle.bp_calls.proofs.InNewEntry.{past_end_counts, past_end_performs, past_end_exact, put_free}
@@ -38,7 +38,7 @@ fill-requires-clause-free g c =
     put_free (memory c.args.parts.now.region) (memory c.append_entry.new.parts.region) c.args.parts.now.free_blocks c.append_entry.new.parts.free_blocks c.args.dir c.args.ino c.args.name.now c.requires.can c.append_entry.ensures.puts
 
 -- the log has room for the inode and the size once the entry is written
-room : (g : Over) (c : After-append_entry g) → 6 ≤ room_in (g.R.Region.memory c.append_entry.new.parts.region)
+room : (g : Over) (c : After-append_entry g) → 12 ≤ room_in (g.R.Region.memory c.append_entry.new.parts.region)
 room g c =
     let memory = g.R.Region.memory in
     put_room (memory c.args.parts.now.region) (memory c.append_entry.new.parts.region) c.args.parts.now.free_blocks c.append_entry.new.parts.free_blocks c.args.dir c.args.ino
@@ -59,15 +59,16 @@ pub commit_word-requires-clause-in_range : goal.commit_word-requires-clause-in_r
 commit_word-requires-clause-in_range g c =
     let memory = g.R.Region.memory in
     let first = put_base (memory c.args.parts.now.region) (memory c.append_entry.new.parts.region) c.args.parts.now.free_blocks c.append_entry.new.parts.free_blocks c.args.dir c.args.ino c.args.name.now c.requires.can.can c.append_entry.ensures.puts in
-    let same = base_after (AnyAt (IsWithin c.fill.ensures.place 3)) 3 (memory c.append_entry.new.parts.region) (memory c.fill.new.region) c.fill.ensures.stores in
+    let same = base_after _ _ (memory c.append_entry.new.parts.region) (memory c.fill.new.region) c.fill.ensures.stores in
     omega (arith, c.place-size_place.ensures.in_range, length-current_words (memory c.args.parts.now.region), first, same)
 
 pub commit_word-requires-clause-room : goal.commit_word-requires-clause-room
 commit_word-requires-clause-room g c =
     let memory = g.R.Region.memory in
     let left = room g (goal.at.commit_word-requires-clause-room g c).After-append_entry in
-    let less = room_after (AnyAt (IsWithin c.fill.ensures.place 3)) 3 (memory c.append_entry.new.parts.region) (memory c.fill.new.region) c.fill.ensures.stores in
-    omega (arith, left, less)
+    let less = room_after _ _ (memory c.append_entry.new.parts.region) (memory c.fill.new.region) c.fill.ensures.stores in
+    let fields = fields_most (version_of (current_words (memory c.append_entry.new.parts.region))) in
+    omega (arith, left, less, fields)
 
 pub returns-clause-performs : goal.returns-clause-performs
 returns-clause-performs g c =

@@ -1,7 +1,7 @@
 use Rattle.std.proofs.Common.{◌+◌, ◌*◌, ◌≤◌, length, refl, arith}
-use Rattle.pm_epochs.specs.May.{AnyAt}
+use Rattle.bp_limits.proofs.Versions.{fields_most}
+use Rattle.bp_layout.specs.Formatted.{version_of}
 use Rattle.pm_region.specs.Memory.{current_words}
-use Rattle.bp_read.specs.Within.{IsWithin}
 use Rattle.bp_layout.specs.Inode.{ContentStandsAt}
 use Rattle.bp_layout.specs.Thaw.{none_in_snapshot}
 use Rattle.bp_calls.proofs.InSlot.{slot_performs, slot_counts, slot_exact, entry_stands}
@@ -34,29 +34,31 @@ pub put_name-requires-clause-in_range : goal.put_name-requires-clause-in_range
 put_name-requires-clause-in_range g c =
     let memory = g.R.Region.memory in
     let first = in_range g (goal.at.put_name-requires-clause-in_range g c).After-entry_place-entry in
-    let same = base_after (AnyAt (IsWithin c.fill.ensures.place 3)) 3 (memory c.args.region.now) (memory c.fill.new.region) c.fill.ensures.stores in
+    let same = base_after _ _ (memory c.args.region.now) (memory c.fill.new.region) c.fill.ensures.stores in
     omega (arith, first, same)
 
 pub put_name-requires-clause-room : goal.put_name-requires-clause-room
 put_name-requires-clause-room g c =
     let memory = g.R.Region.memory in
-    let left = room_after (AnyAt (IsWithin c.fill.ensures.place 3)) 3 (memory c.args.region.now) (memory c.fill.new.region) c.fill.ensures.stores in
-    omega (arith, c.requires.room, left)
+    let left = room_after _ _ (memory c.args.region.now) (memory c.fill.new.region) c.fill.ensures.stores in
+    let fields = fields_most (version_of (current_words (memory c.args.region.now))) in
+    omega (arith, c.requires.room, left, fields)
 
 pub commit_word-requires-clause-in_range : goal.commit_word-requires-clause-in_range
 commit_word-requires-clause-in_range g c =
     let memory = g.R.Region.memory in
     let first = in_range g (goal.at.commit_word-requires-clause-in_range g c).After-entry_place-entry in
-    let same = base_after (AnyAt (IsWithin c.fill.ensures.place 3)) 3 (memory c.args.region.now) (memory c.fill.new.region) c.fill.ensures.stores in
+    let same = base_after _ _ (memory c.args.region.now) (memory c.fill.new.region) c.fill.ensures.stores in
     let also = base_after _ 31 (memory c.fill.new.region) (memory c.put_name.new.region) c.put_name.ensures.stores in
     omega (arith, first, same, also)
 
 pub commit_word-requires-clause-room : goal.commit_word-requires-clause-room
 commit_word-requires-clause-room g c =
     let memory = g.R.Region.memory in
-    let left = room_after (AnyAt (IsWithin c.fill.ensures.place 3)) 3 (memory c.args.region.now) (memory c.fill.new.region) c.fill.ensures.stores in
+    let left = room_after _ _ (memory c.args.region.now) (memory c.fill.new.region) c.fill.ensures.stores in
     let less = room_after _ 31 (memory c.fill.new.region) (memory c.put_name.new.region) c.put_name.ensures.stores in
-    omega (arith, c.requires.room, left, less)
+    let fields = fields_most (version_of (current_words (memory c.args.region.now))) in
+    omega (arith, c.requires.room, left, less, fields)
 
 pub returns-clause-performs : goal.returns-clause-performs
 returns-clause-performs g c =

@@ -6,6 +6,6 @@ returns c = record {
   well_formed = upgraded_file_system c.args.image.now c.requires;
   single = upgraded_alone c.args.image.now c.requires;
   version = upgraded_version c.args.image.now c.requires;
-  shows = upgraded_shown c.args.image.now c.requires;
+  shows = λ none. upgraded_shown c.args.image.now c.requires none;
   one = upgraded_one c.args.image.now c.requires;
 }

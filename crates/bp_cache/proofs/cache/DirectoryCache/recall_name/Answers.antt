@@ -10,3 +10,6 @@ entry_ino-requires-clause-live g c =
     let of : IsSlotOf image (c.args.dir, c.args.name.now) c.in-Some.slot =
     c.requires.right.names (c.args.dir, c.args.name.now) c.in-Some.slot (sym c.hint.ensures.hint ∙ c.in-Some.is) in
     rw c.requires.tree.size (entry_of_slot image (c.args.dir, c.args.name.now) c.in-Some.slot of).entry.in_size
+
+pub returns-in-Some-clause-right : goal.returns-in-Some-clause-right
+returns-in-Some-clause-right g c = record { names = rw c.hint.ensures.same c.requires.right.names; directories = c.requires.right.directories }

@@ -1,70 +1,7 @@
-//! Arguments that the command accepts, and arguments that it refuses.
+//! Arguments that the command refuses, and requests for help.
 
-use bp_command::{Program, WordsFault, mistake_line, read_words};
-use bp_limits::Version;
+use bp_command::{WordsFault, mistake_line, read_words};
 use std::alloc::Global;
-
-/// Arguments, and the program that they ask for.
-const TAKEN: [(&[&str], Program<'static>); 9] = [
-    (&["bpfs", "run", "f"], Program::Run { name: "f" }),
-    (&["bpfs", "check", "f"], Program::Check { name: "f" }),
-    (&["bpfs", "run", "--", "-f"], Program::Run { name: "-f" }),
-    (
-        &["bpfs", "format", "f", "--blocks", "8"],
-        Program::Format {
-            name: "f",
-            blocks: 8,
-            version: Version::One,
-        },
-    ),
-    (
-        &["bpfs", "format", "--blocks=65536", "f"],
-        Program::Format {
-            name: "f",
-            blocks: 65_536,
-            version: Version::One,
-        },
-    ),
-    (
-        &["", "format", "f", "--blocks", "+08"],
-        Program::Format {
-            name: "f",
-            blocks: 8,
-            version: Version::One,
-        },
-    ),
-    (
-        &["bpfs", "format", "f", "--blocks", "8", "--version", "1"],
-        Program::Format {
-            name: "f",
-            blocks: 8,
-            version: Version::One,
-        },
-    ),
-    (
-        &["bpfs", "format", "f", "--blocks", "8", "--version", "2"],
-        Program::Format {
-            name: "f",
-            blocks: 8,
-            version: Version::Two,
-        },
-    ),
-    (
-        &["bpfs", "format", "--version=2", "f", "--blocks=9"],
-        Program::Format {
-            name: "f",
-            blocks: 9,
-            version: Version::Two,
-        },
-    ),
-];
-
-#[test]
-fn takes_words(rt: HostRuntime) {
-    for (words, program) in &TAKEN {
-        assert_eq!(rt; read_words(rt.alloc(), *words).ok(), Some(*program));
-    }
-}
 
 /// Returns the line that reports the mistake in the arguments.
 fn reported(alloc: Global, words: &[&str]) -> Option<String> {
@@ -107,8 +44,8 @@ const REFUSED: [(&[&str], &str); 12] = [
         "invalid value 'eight' for '--blocks <N>': invalid digit found in string",
     ),
     (
-        &["bpfs", "format", "f", "--blocks", "8", "--version", "3"],
-        "invalid value '3' for '--version <V>': 3 is not in 1..=2",
+        &["bpfs", "format", "f", "--blocks", "8", "--version", "4"],
+        "invalid value '4' for '--version <V>': 4 is not in 1..=3",
     ),
     (
         &["bpfs", "run", "f", "--version", "2"],

@@ -4,6 +4,7 @@
 ghost use Rattle.std.specs.Prelude.{◌≡◌, ◌+◌, ◌<◌, ◌≤◌, length};
 ghost use Rattle.bp_limits.specs.Limits.{max_file_blocks};
 
+use crate::same::same;
 use bp_free::{Blocks, Counts, Inodes, Steps};
 use bp_limits::MAX_FILE_BLOCKS;
 use std::marker::Brand;
@@ -13,20 +14,20 @@ use std::test::Fail;
 #[test]
 fn blocks_are_given_and_taken(rt: HostRuntime) -> Result<(), Fail> {
     let mut blocks = Blocks::new(rt.alloc(), 200)?;
-    assert_eq!(rt; blocks.room(), 200);
-    assert_eq!(rt; blocks.count(), 0);
-    assert_eq!(rt; blocks.take(), None);
+    assert!(rt; blocks.room() == 200);
+    same(&rt, blocks.count(), 0);
+    same(&rt, blocks.take(), None);
     for block in [63, 199, 64, 1, 128] {
         if block < blocks.room() && !blocks.is_free(block) {
             blocks.give(block);
         }
     }
-    assert_eq!(rt; blocks.count(), 5);
+    same(&rt, blocks.count(), 5);
     if 64 < blocks.room() && blocks.is_free(64) {
         blocks.claim(64);
     }
     for wanted in [Some(1), Some(63), Some(128), Some(199), None] {
-        assert_eq!(rt; blocks.take(), wanted);
+        same(&rt, blocks.take(), wanted);
     }
     Ok(())
 }
@@ -35,13 +36,13 @@ fn blocks_are_given_and_taken(rt: HostRuntime) -> Result<(), Fail> {
 fn inodes_are_filled_and_cleared(rt: HostRuntime) -> Result<(), Fail> {
     let mut inodes = Inodes::new(rt.alloc(), 130)?;
     inodes.fill(2, 130);
-    assert_eq!(rt; inodes.count(), 128);
+    same(&rt, inodes.count(), 128);
     assert!(rt; !inodes.is_free(1));
     assert!(rt; inodes.is_free(129));
-    assert_eq!(rt; inodes.take(), Some(2));
+    same(&rt, inodes.take(), Some(2));
     inodes.clear();
-    assert_eq!(rt; inodes.count(), 0);
-    assert_eq!(rt; inodes.room(), 130);
+    same(&rt, inodes.count(), 0);
+    same(&rt, inodes.room(), 130);
     Ok(())
 }
 
@@ -49,8 +50,8 @@ fn inodes_are_filled_and_cleared(rt: HostRuntime) -> Result<(), Fail> {
 fn names_are_counted(rt: HostRuntime) -> Result<(), Fail> {
     let mut counts = Counts::new(rt.alloc(), 64)?;
     counts.set(2, 3);
-    assert_eq!(rt; [counts.names(1), counts.names(2)], [0, 3]);
-    assert_eq!(rt; counts.names(63), 0);
+    same(&rt, [counts.names(1), counts.names(2)], [0, 3]);
+    same(&rt, counts.names(63), 0);
     Ok(())
 }
 
@@ -75,20 +76,20 @@ fn take_counting<L: Ledger>(blocks: &mut Blocks, blank: Blank) -> Option<u32>
 #[test]
 fn blocks_are_found_in_seventeen_steps(rt: HostRuntime) -> Result<(), Fail> {
     let mut blocks = Blocks::new(rt.alloc(), MAX_FILE_BLOCKS)?;
-    assert_eq!(rt; blocks.room(), MAX_FILE_BLOCKS);
+    assert!(rt; blocks.room() == MAX_FILE_BLOCKS);
     let none = take_counting::<Brand>(&mut blocks, Blank::new(1));
-    assert_eq!(rt; none, None);
-    assert_eq!(rt; blocks.room(), MAX_FILE_BLOCKS);
+    same(&rt, none, None);
+    assert!(rt; blocks.room() == MAX_FILE_BLOCKS);
     blocks.fill(MAX_FILE_BLOCKS as usize - 1, MAX_FILE_BLOCKS as usize);
-    assert_eq!(rt; blocks.room(), MAX_FILE_BLOCKS);
+    assert!(rt; blocks.room() == MAX_FILE_BLOCKS);
     let last = take_counting::<Brand>(&mut blocks, Blank::new(1));
-    assert_eq!(rt; last, Some(65_535));
-    assert_eq!(rt; blocks.room(), MAX_FILE_BLOCKS);
+    same(&rt, last, Some(65_535));
+    assert!(rt; blocks.room() == MAX_FILE_BLOCKS);
     blocks.fill(0, MAX_FILE_BLOCKS as usize);
-    assert_eq!(rt; blocks.room(), MAX_FILE_BLOCKS);
+    assert!(rt; blocks.room() == MAX_FILE_BLOCKS);
     let first = take_counting::<Brand>(&mut blocks, Blank::new(1));
-    assert_eq!(rt; first, Some(0));
-    assert_eq!(rt; blocks.count(), 65_535);
+    same(&rt, first, Some(0));
+    same(&rt, blocks.count(), 65_535);
     Ok(())
 }
 
@@ -110,30 +111,30 @@ fn give_back(blocks: &mut Blocks, block: u32) {
 #[test]
 fn a_block_is_taken_where_an_older_version_stands(rt: HostRuntime) -> Result<(), Fail> {
     let mut blocks = Blocks::with_hints(rt.alloc(), 200)?;
-    assert_eq!(rt; blocks.room(), 200);
+    assert!(rt; blocks.room() == 200);
     blocks.fill(10, 200);
-    assert_eq!(rt; take_in_place_of(&mut blocks, 5), Some(10));
+    same(&rt, take_in_place_of(&mut blocks, 5), Some(10));
     give_back(&mut blocks, 5);
     // The copy of the copy is freed, and a block of which nothing is known does not take its place.
-    assert_eq!(rt; take_in_place_of(&mut blocks, 7), Some(11));
-    assert_eq!(rt; take_in_place_of(&mut blocks, 10), Some(5));
+    same(&rt, take_in_place_of(&mut blocks, 7), Some(11));
+    same(&rt, take_in_place_of(&mut blocks, 10), Some(5));
     give_back(&mut blocks, 10);
-    assert_eq!(rt; take_in_place_of(&mut blocks, 5), Some(10));
+    same(&rt, take_in_place_of(&mut blocks, 5), Some(10));
     // If the older version was overwritten, another one is taken.
-    assert_eq!(rt; take_in_place_of(&mut blocks, 10), Some(12));
+    same(&rt, take_in_place_of(&mut blocks, 10), Some(12));
     Ok(())
 }
 
 #[test]
 fn blocks_without_a_hint_begin_again(rt: HostRuntime) -> Result<(), Fail> {
     let mut blocks = Blocks::new(rt.alloc(), 200)?;
-    assert_eq!(rt; blocks.room(), 200);
+    assert!(rt; blocks.room() == 200);
     blocks.fill(2, 200);
     // Two blocks are in use, so the search begins again after 2 * 2 + 64.
     for wanted in 2..69 {
-        assert_eq!(rt; take_in_place_of(&mut blocks, u64::MAX), Some(wanted));
+        same(&rt, take_in_place_of(&mut blocks, u64::MAX), Some(wanted));
         give_back(&mut blocks, wanted);
     }
-    assert_eq!(rt; take_in_place_of(&mut blocks, u64::MAX), Some(2));
+    same(&rt, take_in_place_of(&mut blocks, u64::MAX), Some(2));
     Ok(())
 }

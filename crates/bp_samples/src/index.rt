@@ -1,5 +1,6 @@
 //! The index of a directory of two entries, in one leaf.
 
+use crate::same::same;
 use crate::spelling::{TREE, sample};
 use bp_cache::Index;
 use bp_read::{Found, Spot};
@@ -12,10 +13,14 @@ fn names_are_found_by_an_index(rt: HostRuntime) -> Result<(), Fail> {
     let made = Index::of(rt.alloc(), &region, TREE);
     let mut index = made.expect(&rt, "there is memory");
     let first = Found { slot: 0, ino: 2 };
-    assert_eq!(rt; index.find_entry(&region, TREE, b"ab"), Some(first));
-    assert_eq!(rt; index.find_entry(&region, TREE, b"a"), None);
-    assert_eq!(rt; index.find_or_free(&region, TREE, b"c"), Spot::Named(1));
-    assert_eq!(rt; index.find_or_free(&region, TREE, b"d"), Spot::Free(None));
+    same(&rt, index.find_entry(&region, TREE, b"ab"), Some(first));
+    same(&rt, index.find_entry(&region, TREE, b"a"), None);
+    same(&rt, index.find_or_free(&region, TREE, b"c"), Spot::Named(1));
+    same(
+        &rt,
+        index.find_or_free(&region, TREE, b"d"),
+        Spot::Free(None),
+    );
     Ok(())
 }
 

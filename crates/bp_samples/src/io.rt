@@ -1,12 +1,11 @@
-//! The devices: their boundary to std, and each call once on its success path.
+//! The devices over real files and streams. Rows run over the devices in memory, whose contracts say what each call
+//! returns (docs/rows.md).
 
 ghost use Rattle.std.specs.Prelude.{◌<◌, ◌≡◌, List, ℕ, true};
 
+use crate::same::same;
 use bp_disk::{DiskFiles, StdSink, StdSource};
-use bp_io::{
-    Access, Failed, FairFiles, FairSource, Files, MemFiles, MemSink, MemSource, NullSink, Sink,
-    Source,
-};
+use bp_io::{Access, Failed, Files, Sink, Source};
 use std::alloc::{AllocError, Global};
 use std::fs::File;
 use std::io::{ErrorKind, Read, Write};
@@ -16,7 +15,7 @@ use std::{fs, io, rt};
 /// Checks the bytes at these offsets of a file.
 fn has_bytes(rt: &impl Abort, bytes: &[u8], wanted: &[(usize, u8)]) {
     for (at, want) in wanted {
-        assert_eq!(rt; bytes.get(*at), Some(want), "at {at}");
+        same(rt, (*at, bytes.get(*at)), (*at, Some(want)));
     }
 }
 
@@ -101,15 +100,16 @@ fn is_locked<F: Files>(files: &mut F, name: &str) -> bool {
 #[test]
 fn disk_files_are_locked(rt: HostRuntime) {
     let mut files = DiskFiles::new(rt.alloc(), &rt).expect(&rt, "there is memory");
-    assert_eq!(rt; make_short(&mut files), Ok(true));
+    same(&rt, make_short(&mut files), Ok(true));
     let mut again = DiskFiles::new(rt.alloc(), &rt).expect(&rt, "there is memory");
     assert!(rt; is_locked(&mut again, "short.img"));
     drop(files);
-    assert_eq!(rt; reads_short(&mut again), Ok(true));
-    assert_eq!(rt; cut_short(&mut again), Ok(true));
-    assert_eq!(rt;
+    same(&rt, reads_short(&mut again), Ok(true));
+    same(&rt, cut_short(&mut again), Ok(true));
+    same(
+        &rt,
         fs::read(&rt, "short.img").expect(&rt, "it is there").len(),
-        8192
+        8192,
     );
     fs::remove_file(&rt, "short.img").expect(&rt, "it is removed");
 }
@@ -118,8 +118,8 @@ fn disk_files_are_locked(rt: HostRuntime) {
 fn disk_files_are_read(rt: HostRuntime) {
     fs::write(&rt, "read.img", [5u8; 8192].as_slice()).expect(&rt, "it is written");
     let mut files = DiskFiles::new(rt.alloc(), &rt).expect(&rt, "there is memory");
-    assert_eq!(rt; files.attach("read.img", Access::Write), Ok(Some(8192)));
-    assert_eq!(rt; is_filled(&mut files, 1, 5), Ok(true));
+    assert!(rt; files.attach("read.img", Access::Write) == Ok(Some(8192)));
+    same(&rt, is_filled(&mut files, 1, 5), Ok(true));
     fs::remove_file(&rt, "read.img").expect(&rt, "it is removed");
 }
 
@@ -267,7 +267,7 @@ fn disk_files_report_faults(rt: HostRuntime) {
         ("/dev/full", Access::Make),
     ] {
         let mut files = DiskFiles::new(rt.alloc(), &rt).expect(&rt, "there is memory");
-        assert_eq!(rt; files.attach(name, access), Err(Failed), "at {name}");
+        same(&rt, (name, files.attach(name, access)), (name, Err(Failed)));
     }
 }
 
@@ -278,9 +278,9 @@ fn disk_files_miss_a_lost_block(rt: HostRuntime) {
     let length = files.attach("lost.img", Access::Read);
     fs::write(&rt, "lost.img", [5u8; 5000].as_slice()).expect(&rt, "it is written");
     fs::remove_file(&rt, "lost.img").expect(&rt, "it is removed");
-    assert_eq!(rt; length, Ok(Some(8192)));
+    assert!(rt; length == Ok(Some(8192)));
     let mut read = [0u8; 4096];
-    assert_eq!(rt; files.read_blocks(1, &mut read), Err(Failed));
+    same(&rt, files.read_blocks(1, &mut read), Err(Failed));
 }
 
 #[test]
@@ -313,7 +313,7 @@ fn flush_made_longer<R: rt::Files<File = File>, F: Files>(
 fn disk_files_flush_no_file_made_longer(rt: HostRuntime) {
     fs::write(&rt, "longer.img", [5u8; 8192].as_slice()).expect(&rt, "it is written");
     let mut files = DiskFiles::new(rt.alloc(), &rt).expect(&rt, "there is memory");
-    assert_eq!(rt; flush_made_longer(&rt, &mut files), Ok(true));
+    same(&rt, flush_made_longer(&rt, &mut files), Ok(true));
     fs::remove_file(&rt, "longer.img").expect(&rt, "it is removed");
 }
 
@@ -379,7 +379,7 @@ fn std_source_reads_a_file(rt: HostRuntime) {
     let mut source = StdSource::new(fs::open(&rt, "in").expect(&rt, "it is there"));
     let mut into = [0u8; 3];
     for (count, bytes) in [(3, *b"hel"), (2, *b"lol"), (0, *b"lol")] {
-        assert_eq!(rt; source.read(&mut into), Ok(count));
+        same(&rt, source.read(&mut into), Ok(count));
         assert!(rt; into == bytes);
     }
     fs::remove_file(&rt, "in").expect(&rt, "it is removed");
@@ -388,143 +388,40 @@ fn std_source_reads_a_file(rt: HostRuntime) {
 #[test]
 fn std_source_fails_at_a_folder(rt: HostRuntime) {
     let mut folder = StdSource::new(fs::open(&rt, ".").expect(&rt, "it is there"));
-    assert_eq!(rt; folder.read(&mut [0u8; 3]), Err(Failed));
+    same(&rt, folder.read(&mut [0u8; 3]), Err(Failed));
 }
 
 #[test]
 fn std_source_reads_after_signals(rt: HostRuntime) {
     let mut interrupted = StdSource::new(Interrupted { signals: 3 });
     let mut into = *b"lol";
-    assert_eq!(rt; interrupted.read(&mut into), Ok(1));
+    same(&rt, interrupted.read(&mut into), Ok(1));
     assert!(rt; into == [7, b'o', b'l']);
 }
 
 #[test]
 fn std_sink_writes_a_file(rt: HostRuntime) {
     let mut sink = StdSink::new(fs::create(&rt, "replies").expect(&rt, "it is made"));
-    assert_eq!(rt; [sink.write(b"ok\n"), sink.write(b"")], [Ok(3), Ok(0)]);
-    assert_eq!(rt;
-        fs::read(&rt, "replies")
-            .expect(&rt, "it is there")
-            .as_slice(),
-        b"ok\n".as_slice()
-    );
+    same(&rt, [sink.write(b"ok\n"), sink.write(b"")], [Ok(3), Ok(0)]);
+    let replies = fs::read(&rt, "replies").expect(&rt, "it is there");
+    same(&rt, replies.as_slice(), b"ok\n".as_slice());
     fs::remove_file(&rt, "replies").expect(&rt, "it is removed");
 }
 
 #[test]
 fn std_sink_fails_at_a_full_disk(rt: HostRuntime) {
     let mut full = StdSink::new(fs::create(&rt, "/dev/full").expect(&rt, "it is made"));
-    assert_eq!(rt; full.write(b"ok\n"), Err(Failed));
+    same(&rt, full.write(b"ok\n"), Err(Failed));
 }
 
 #[test]
 fn std_sink_writes_after_signals(rt: HostRuntime) {
     let mut interrupted = StdSink::new(Interrupted { signals: 3 });
-    assert_eq!(rt; interrupted.write(b"ok\n"), Ok(1));
+    same(&rt, interrupted.write(b"ok\n"), Ok(1));
     let mut stuck = StdSink::new(Stuck);
-    assert_eq!(rt;
-        [stuck.write(b""), stuck.write(b"ok\n")],
-        [Ok(0), Err(Failed)]
-    );
-}
-
-#[test]
-fn memory_sources_give_pieces(rt: HostRuntime) {
-    let mut into = [0u8; 9];
-    let mut fair = FairSource::new(b"hello world");
-    assert_eq!(rt; fair.read(&mut into), Ok(9));
-    assert!(rt; into == *b"hello wor");
-    assert_eq!(rt; fair.read(&mut into), Ok(2));
-    assert_eq!(rt; fair.read(&mut into), Ok(0));
-    for (most, first, second) in [(1, 1, 1), (7, 7, 4)] {
-        let mut source = MemSource::new(b"hello world", most, &[1]);
-        assert_eq!(rt; source.read(&mut into), Ok(first), "pieces of {most}");
-        assert_eq!(rt; source.read(&mut into), Err(Failed), "pieces of {most}");
-        assert_eq!(rt; source.read(&mut into), Ok(second), "pieces of {most}");
-    }
-}
-
-#[test]
-fn memory_sinks_take_pieces(rt: HostRuntime) {
-    let mut sink = MemSink::new(rt.alloc(), 9, &[1]).expect(&rt, "there is memory");
-    let pieces: [(&[u8], Result<usize, Failed>); 6] = [
-        (b"h", Ok(1)),
-        (b"lost", Err(Failed)),
-        (b"ello wo", Ok(7)),
-        (b"rld", Ok(1)),
-        (b"ld", Err(Failed)),
-        (b"", Ok(0)),
-    ];
-    for (piece, taken) in pieces {
-        assert_eq!(rt; sink.write(piece), taken, "{piece:?}");
-    }
-    assert_eq!(rt; sink.bytes(), b"hello wor".as_slice());
-    let mut null = NullSink::new();
-    assert_eq!(rt; [null.write(b"ok\n"), null.write(b"ok\n")], [Ok(3), Ok(3)]);
-    assert_eq!(rt; null.count(), 6);
-}
-
-/// Makes two blocks from the bytes of a file, and returns the second.
-fn grown(rt: &impl Abort, files: &mut FairFiles) -> [u8; 4096] {
-    assert_eq!(rt; files.attach("disk.img", Access::Write), Ok(Some(5000)));
-    assert_eq!(rt; files.set_blocks(2), Ok(()));
-    assert_eq!(rt; files.attach("disk.img", Access::Write), Ok(Some(8192)));
-    let mut read = [1u8; 4096];
-    assert_eq!(rt; files.read_blocks(1, &mut read), Ok(()));
-    read
-}
-
-/// Overwrites the first of two blocks.
-fn write_first(rt: &impl Abort, files: &mut FairFiles, block: &[u8; 4096]) {
-    assert_eq!(rt; files.attach("disk.img", Access::Write), Ok(Some(8192)));
-    assert_eq!(rt; files.write_block(0, block), Ok(()));
-    assert_eq!(rt; files.flush(), Ok(()));
-    assert!(rt; files.image().starts_with(block));
-    assert_eq!(rt; files.image().len(), 8192);
-}
-
-#[test]
-fn memory_files_keep_blocks(rt: HostRuntime) {
-    let mut fair = FairFiles::new(rt.alloc(), &[5; 5000]).expect(&rt, "there is memory");
-    let read = grown(&rt, &mut fair);
-    assert!(rt; read.starts_with(&[5; 904]));
-    assert!(rt; read.ends_with(&[0; 3192]));
-    write_first(&rt, &mut fair, &read);
-}
-
-#[test]
-fn memory_files_fail_as_planned(rt: HostRuntime) {
-    let mut files = MemFiles::new(rt.alloc(), None, &[1, 3]).expect(&rt, "there is memory");
-    assert_eq!(rt; files.attach("disk.img", Access::Write), Ok(None));
-    assert_eq!(rt; files.attach("disk.img", Access::Make), Err(Failed));
-    assert!(rt; files.image().is_none());
-    assert_eq!(rt; files.attach("disk.img", Access::Make), Ok(Some(0)));
-    assert_eq!(rt; files.set_blocks(1), Err(Failed));
-    assert_eq!(rt; files.attach("disk.img", Access::Write), Ok(Some(0)));
-    assert_eq!(rt; files.set_blocks(1), Ok(()));
-    assert_eq!(rt; files.image(), Some([0u8; 4096].as_slice()));
-}
-
-#[test]
-fn blocks_fail_as_planned(rt: HostRuntime) {
-    let block = [77u8; 4096];
-    let mut files = MemFiles::new(rt.alloc(), Some(&[0; 4096]), &[1, 4, 7]).expect(
+    same(
         &rt,
-        "there is memory",
+        [stuck.write(b""), stuck.write(b"ok\n")],
+        [Ok(0), Err(Failed)],
     );
-    let failed_once = [Err(Failed), Ok(())];
-    assert_eq!(rt; files.attach("disk.img", Access::Write), Ok(Some(4096)));
-    let written = [files.write_block(0, &block), files.write_block(0, &block)];
-    assert_eq!(rt; written, failed_once);
-    assert_eq!(rt; files.attach("disk.img", Access::Write), Ok(Some(4096)));
-    let mut read = [1u8; 4096];
-    let done = [
-        files.read_blocks(0, &mut read),
-        files.read_blocks(0, &mut read),
-    ];
-    assert_eq!(rt; done, failed_once);
-    assert!(rt; read == block);
-    assert_eq!(rt; files.attach("disk.img", Access::Write), Ok(Some(4096)));
-    assert_eq!(rt; [files.flush(), files.flush()], failed_once);
 }

@@ -1,5 +1,6 @@
 //! Words of the format, and their meaning. The values were computed independently.
 
+use crate::same::same;
 use bp_layout::{
     BadPointer, Entry, INO_WORD, Inode, Kind, LENGTH_WORD, Listing, NAME_WORD, Name, RootWord,
     Super, name_word, pointer, pointer_word,
@@ -11,10 +12,11 @@ fn marks_spell_their_bytes(rt: HostRuntime) {
     for (number, version, magic_number) in [
         (1, Version::One, *b"BPFSRS01"),
         (2, Version::Two, *b"BPFSRS02"),
+        (3, Version::Three, *b"BPFSRS3A"),
     ] {
-        assert_eq!(rt; pm_words::write_word(version.magic()), magic_number);
-        assert_eq!(rt; Version::at(version.magic()), version);
-        assert_eq!(rt; Version::numbered(number), version);
+        same(&rt, pm_words::write_word(version.magic()), magic_number);
+        same(&rt, Version::at(version.magic()), version);
+        same(&rt, Version::numbered(number), version);
     }
 }
 
@@ -23,10 +25,11 @@ fn limits_agree(rt: HostRuntime) {
     for (version, size, write) in [
         (Version::One, 549_755_813_888, 65_536),
         (Version::Two, 144_115_188_075_855_872, 1_048_576),
+        (Version::Three, 144_115_188_075_855_872, 1_048_576),
     ] {
-        assert_eq!(rt; version.greatest_size(), size);
-        assert_eq!(rt; pm_words::span(version.greatest_height()), size);
-        assert_eq!(rt; version.greatest_write(), write);
+        same(&rt, version.greatest_size(), size);
+        same(&rt, pm_words::span(version.greatest_height()), size);
+        same(&rt, version.greatest_write(), write);
     }
 }
 
@@ -36,7 +39,7 @@ fn pointers_are_read_and_written(rt: HostRuntime) {
         height: 3,
         block: 5,
     };
-    assert_eq!(rt; root.word(), 0x5003);
+    same(&rt, root.word(), 0x5003);
     for (word, top, want) in [
         (0x5003, 3, Ok(root)),
         (0x5003, 5, Ok(root)),
@@ -45,11 +48,15 @@ fn pointers_are_read_and_written(rt: HostRuntime) {
         (0x5006, 5, Err(BadPointer)),
         (0x5008, 5, Err(BadPointer)),
     ] {
-        assert_eq!(rt; RootWord::read(word, top), want, "{word} up to {top}");
+        same(
+            &rt,
+            (word, top, RootWord::read(word, top)),
+            (word, top, want),
+        );
     }
-    assert_eq!(rt; pointer_word(7), 0x7000);
-    assert_eq!(rt; pointer(0x7000), Ok(7));
-    assert_eq!(rt; pointer(0x7001), Err(BadPointer));
+    same(&rt, pointer_word(7), 0x7000);
+    same(&rt, pointer(0x7000), Ok(7));
+    same(&rt, pointer(0x7001), Err(BadPointer));
 }
 
 #[test]
@@ -60,14 +67,14 @@ fn records_are_read_and_written(rt: HostRuntime) {
         root: 0x1000,
         size: 4096,
     };
-    assert_eq!(rt; Super::read(&block.words()), block);
+    same(&rt, Super::read(&block.words()), block);
     let inode = Inode {
         kind: Kind::Dir,
         root: 0x2000,
         size: 256,
     };
-    assert_eq!(rt; inode.words(), [2, 0x2000, 256]);
-    assert_eq!(rt; Inode::read(&[2, 0x2000, 256]), inode);
+    same(&rt, inode.words(), [2, 0x2000, 256]);
+    same(&rt, Inode::read(&[2, 0x2000, 256]), inode);
 }
 
 #[test]
@@ -78,12 +85,12 @@ fn entries_are_read_and_written(rt: HostRuntime) {
     words[NAME_WORD as usize] = 0x6867_6665_6463_6261;
     words[NAME_WORD as usize + 1] = 0xffff_ff69;
     let entry = Entry::read(&words);
-    assert_eq!(rt; entry.ino, 2);
-    assert_eq!(rt; entry.name.as_slice(), b"abcdefghi".as_slice());
+    same(&rt, entry.ino, 2);
+    same(&rt, entry.name.as_slice(), b"abcdefghi".as_slice());
     let back = entry.words();
-    assert_eq!(rt; back[NAME_WORD as usize], 0x6867_6665_6463_6261);
-    assert_eq!(rt; back[NAME_WORD as usize + 1], 0x69);
-    assert_eq!(rt; name_word(b"ab", 0), 0x6261);
+    same(&rt, back[NAME_WORD as usize], 0x6867_6665_6463_6261);
+    same(&rt, back[NAME_WORD as usize + 1], 0x69);
+    same(&rt, name_word(b"ab", 0), 0x6261);
 }
 
 #[test]
@@ -95,9 +102,9 @@ fn listing_keeps_its_names(rt: HostRuntime) {
         .push((Kind::Dir, name))
         .expect(&rt, "there is memory");
     let listing = Listing::of(rt.alloc(), &entries).expect(&rt, "there is memory");
-    assert_eq!(rt; listing.len(), 1);
+    same(&rt, listing.len(), 1);
     assert!(rt; !listing.is_empty());
     let (kind, name) = listing.at(0);
-    assert_eq!(rt; kind, Kind::Dir);
-    assert_eq!(rt; name, b"a".as_slice());
+    same(&rt, kind, Kind::Dir);
+    same(&rt, name, b"a".as_slice());
 }

@@ -30,9 +30,9 @@ mod plain;
 #[cfg(test)]
 mod regions;
 #[cfg(test)]
-mod scan;
+mod same;
 #[cfg(test)]
-mod script;
+mod scan;
 #[cfg(test)]
 mod spelling;
 #[cfg(test)]

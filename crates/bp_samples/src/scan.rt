@@ -6,8 +6,7 @@ ghost use Rattle.bp_limits.specs.Limits.{block_words, min_blocks};
 use crate::images::{EMPTY, SECOND, TWO_ENTRIES, TWO_NAMES, laid, put};
 use bp_free::{Blocks, Counts, Inodes};
 use bp_layout::Check;
-use bp_limits::MAX_FILE_BLOCKS;
-use bp_scan::{MountFault, Pending, Totals, image_length, scan_whole};
+use bp_scan::{MountFault, Pending, Totals, scan_whole};
 use pm_region::ListRegion;
 use std::alloc::Global;
 use std::process::Abort;
@@ -200,29 +199,4 @@ fn each_check_fails_at_its_word(rt: HostRuntime) {
         };
         assert_eq!(rt; scanned(&rt, rt.alloc(), words), refused(fault));
     }
-}
-
-#[test]
-fn lengths(rt: HostRuntime) {
-    for (found, wanted) in [
-        (0, 32_768),
-        (32_767, 32_768),
-        (32_769, 36_864),
-        (67_108_865, 67_112_960),
-        (268_435_457, 268_435_456),
-    ] {
-        assert_eq!(rt;
-            image_length(MAX_FILE_BLOCKS, found),
-            Err(MountFault::BadSize { found, wanted })
-        );
-    }
-    for (found, blocks) in [(32_768, 8), (67_108_864, 16_384), (268_435_456, 65_536)] {
-        assert_eq!(rt; image_length(MAX_FILE_BLOCKS, found), Ok(blocks));
-    }
-}
-
-#[test]
-fn memory(rt: HostRuntime) {
-    let pending = Pending::new(rt.alloc(), INODES).expect(&rt, "there is memory");
-    assert_eq!(rt; pending.room(), 512);
 }

@@ -6,6 +6,7 @@ ghost use Rattle.bp_layout.specs.Tree.{IsSound};
 ghost use Rattle.pm_region.specs.Memory.{current_words};
 
 use crate::images::{TWO_LEAVES, laid};
+use crate::same::same;
 use bp_read::{Tree, address, count_live, first_null, node, read, word_path};
 use pm_region::ListRegion;
 use std::alloc::{AllocError, Global};
@@ -30,10 +31,10 @@ pub(crate) fn sample(alloc: Global) -> Result<ListRegion, AllocError>
 #[test]
 fn reads_its_nodes(rt: HostRuntime) -> Result<(), Fail> {
     let region = sample(rt.alloc())?;
-    assert_eq!(rt; node(&region, TREE, 0, 1), 0);
-    assert_eq!(rt; node(&region, TREE, 0, 2), 5);
-    assert_eq!(rt; count_live(&region, TREE), 3);
-    assert_eq!(rt; first_null(&region, TREE), Some(1));
+    same(&rt, node(&region, TREE, 0, 1), 0);
+    same(&rt, node(&region, TREE, 0, 2), 5);
+    same(&rt, count_live(&region, TREE), 3);
+    same(&rt, first_null(&region, TREE), Some(1));
     Ok(())
 }
 
@@ -47,12 +48,8 @@ fn reads_its_bytes(rt: HostRuntime) -> Result<(), Fail> {
         (8200, 4, 0, [0xee, 0xee, 0xee, 0xee]),
     ] {
         let mut into = [0xee; 4];
-        assert_eq!(rt;
-            read(&region, TREE, offset, &mut into[..room]),
-            count,
-            "from {offset}"
-        );
-        assert_eq!(rt; into, want, "from {offset}");
+        let found = read(&region, TREE, offset, &mut into[..room]);
+        same(&rt, (offset, found, into), (offset, count, want));
     }
     Ok(())
 }
@@ -61,7 +58,7 @@ fn reads_its_bytes(rt: HostRuntime) -> Result<(), Fail> {
 fn goes_by_paths(rt: HostRuntime) -> Result<(), Fail> {
     let region = sample(rt.alloc())?;
     let path = word_path(TREE, 8193);
-    assert_eq!(rt; path.as_slice(), [2, 0].as_slice());
-    assert_eq!(rt; address(&region, &path), 2560);
+    same(&rt, path.as_slice(), [2, 0].as_slice());
+    same(&rt, address(&region, &path), 2560);
     Ok(())
 }

@@ -132,7 +132,7 @@ enum {
     BPFS_NO_MEMORY = 12,     /* malloc failed */
     BPFS_NO_SNAP = 13,       /* there is no snapshot */
     BPFS_HAS_SNAP = 14,      /* there is a snapshot already */
-    BPFS_OLD_VERSION = 15,   /* an image of version 1 cannot have a snapshot */
+    BPFS_OLD_VERSION = 15,   /* the version has no snapshot (1), or no attributes (1 and 2) */
     BPFS_PAST_END = 16,      /* a piece of a batch ends past the end of its file */
     BPFS_HAS_NONE = 32,      /* the handle is closed: it has no volume */
     BPFS_HAS_ONE = 33,       /* the handle is open: it has a volume already */
@@ -140,7 +140,7 @@ enum {
     BPFS_NOT_FORMATTED = 35, /* word 0 is not the magic number of a version */
     BPFS_BAD_SIZE = 36,      /* no image has this size, or this image has another: see bpfs_fault */
     BPFS_DAMAGED = 37,       /* a check of the format fails: see bpfs_fault */
-    BPFS_OUT_OF_RANGE = 38,  /* no such word, index, version or number of blocks; short array */
+    BPFS_OUT_OF_RANGE = 38,  /* no such word, index, attribute, version or block; short array */
 };
 
 enum {
@@ -153,6 +153,7 @@ enum {
     BPFS_MAX_WRITE_2 = 1048576, /* and in version 2 or 3 */
     BPFS_MAX_PIECES = 16,       /* of one batch */
     BPFS_MAX_BATCH = 65536,     /* bytes of all pieces of a batch together */
+    BPFS_ATTRIBUTES = 3,        /* of each file and directory, in version 3 */
     BPFS_LOG_ROOM = 262144, /* events for which a call needs room: half of the capacity */
 };
 
@@ -300,6 +301,14 @@ uint32_t bpfs_batch(bpfs *fs, const uint8_t *text, size_t length, const bpfs_pie
 /* Sets the size of a file: cuts it, or appends zeros. BPFS_IS_DIR, BPFS_TOO_BIG, BPFS_NO_SPACE. */
 uint32_t bpfs_truncate(bpfs *fs, const uint8_t *path, size_t length, uint64_t size, bpfs_lack *lack);
 
+/* Sets attribute number `number` of the file or directory at a path. An attribute is a number of
+ * 64 bits that is the caller's own: the file system gives it no meaning. In version 3 each file and
+ * directory, also the root, has BPFS_ATTRIBUTES of them, with numbers from 0 on. In a new one they
+ * are 0. A file has the same ones at each of its paths. Every other call keeps them, and a snapshot
+ * has those of its time. BPFS_OUT_OF_RANGE: no attribute has this number (it adds nothing).
+ * BPFS_OLD_VERSION: the version is 1 or 2. */
+uint32_t bpfs_set_attribute(bpfs *fs, const uint8_t *path, size_t length, uint64_t number, uint64_t value, bpfs_lack *lack);
+
 /* Changes an image of version 1 to version 2, with the same tree. Does nothing in a later version.
  * This cannot be undone. */
 uint32_t bpfs_upgrade(bpfs *fs);
@@ -315,9 +324,9 @@ uint32_t bpfs_unsnap(bpfs *fs);
 
 /* ---- calls that change nothing --------------------------------------------------------------- */
 
-/* The first seven (read, stat, links, list, and the three of the snapshot) add one end-of-call
- * marker to the log and may return BPFS_LOG_FULL. Each call may return BPFS_HAS_NONE; each with a
- * path may return BPFS_BAD_PATH, BPFS_NOT_FOUND and BPFS_NOT_DIR. */
+/* The first eight (read, stat, links, attribute, list, and the three of the snapshot) add one
+ * end-of-call marker to the log and may return BPFS_LOG_FULL. Each call may return BPFS_HAS_NONE;
+ * each with a path may return BPFS_BAD_PATH, BPFS_NOT_FOUND and BPFS_NOT_DIR. */
 
 /* Reads at most `capacity` bytes of a file from `offset` on, and sets *count to the number of bytes
  * that were read. The rest of `into` is unchanged. BPFS_IS_DIR. */
@@ -328,6 +337,10 @@ uint32_t bpfs_stat(bpfs *fs, const uint8_t *path, size_t length, bpfs_found *fou
 
 /* Gets the number of links of a file. BPFS_IS_DIR. */
 uint32_t bpfs_links(bpfs *fs, const uint8_t *path, size_t length, uint32_t *count);
+
+/* Gets attribute number `number` of the file or directory at a path (bpfs_set_attribute).
+ * BPFS_OUT_OF_RANGE: no attribute has this number (it adds nothing). BPFS_OLD_VERSION. */
+uint32_t bpfs_attribute(bpfs *fs, const uint8_t *path, size_t length, uint64_t number, uint64_t *value);
 
 /* Lists a directory in the byte order of its names, and sets *count to the number of names. The
  * handle keeps the listing, whatever happens to the directory, until the next bpfs_list or
@@ -464,6 +477,11 @@ static inline uint32_t bpfs_truncate_any(bpfs *fs, const uint8_t *path, size_t l
     return bpfs_truncate(fs, BPFS_BYTES(path, length), length, size, lack ? lack : &unused);
 }
 
+static inline uint32_t bpfs_set_attribute_any(bpfs *fs, const uint8_t *path, size_t length, uint64_t number, uint64_t value, bpfs_lack *lack) {
+    bpfs_lack unused;
+    return bpfs_set_attribute(fs, BPFS_BYTES(path, length), length, number, value, lack ? lack : &unused);
+}
+
 static inline uint32_t bpfs_read_any(bpfs *fs, const uint8_t *path, size_t length, uint64_t offset, uint8_t *into, size_t capacity, size_t *count) {
     size_t unused;
     return bpfs_read(fs, BPFS_BYTES(path, length), length, offset, (uint8_t *)bpfs_some(into, capacity), capacity, count ? count : &unused);
@@ -477,6 +495,11 @@ static inline uint32_t bpfs_stat_any(bpfs *fs, const uint8_t *path, size_t lengt
 static inline uint32_t bpfs_links_any(bpfs *fs, const uint8_t *path, size_t length, uint32_t *count) {
     uint32_t unused;
     return bpfs_links(fs, BPFS_BYTES(path, length), length, count ? count : &unused);
+}
+
+static inline uint32_t bpfs_attribute_any(bpfs *fs, const uint8_t *path, size_t length, uint64_t number, uint64_t *value) {
+    uint64_t unused;
+    return bpfs_attribute(fs, BPFS_BYTES(path, length), length, number, value ? value : &unused);
 }
 
 static inline uint32_t bpfs_list_any(bpfs *fs, const uint8_t *path, size_t length, size_t *count) {
@@ -543,9 +566,11 @@ static inline size_t bpfs_run_at_any(bpfs *fs, size_t first, bpfs_run *run, uint
 #define bpfs_write(...) bpfs_write_any(__VA_ARGS__)
 #define bpfs_batch(...) bpfs_batch_any(__VA_ARGS__)
 #define bpfs_truncate(...) bpfs_truncate_any(__VA_ARGS__)
+#define bpfs_set_attribute(...) bpfs_set_attribute_any(__VA_ARGS__)
 #define bpfs_read(...) bpfs_read_any(__VA_ARGS__)
 #define bpfs_stat(...) bpfs_stat_any(__VA_ARGS__)
 #define bpfs_links(...) bpfs_links_any(__VA_ARGS__)
+#define bpfs_attribute(...) bpfs_attribute_any(__VA_ARGS__)
 #define bpfs_list(...) bpfs_list_any(__VA_ARGS__)
 #define bpfs_snap_read(...) bpfs_snap_read_any(__VA_ARGS__)
 #define bpfs_snap_stat(...) bpfs_snap_stat_any(__VA_ARGS__)

@@ -18,7 +18,7 @@ const char *bpfs_strerror(uint32_t result) {
     case BPFS_NO_MEMORY: return "out of memory";
     case BPFS_NO_SNAP: return "there is no snapshot";
     case BPFS_HAS_SNAP: return "there is a snapshot already";
-    case BPFS_OLD_VERSION: return "the image has version 1 of the format, which has no snapshots";
+    case BPFS_OLD_VERSION: return "the version of the image's format has no snapshots, or no attributes";
     case BPFS_PAST_END: return "a piece of the batch ends past the end of its file";
     case BPFS_HAS_NONE: return "the handle is closed";
     case BPFS_HAS_ONE: return "the handle is open already";

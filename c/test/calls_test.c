@@ -141,6 +141,7 @@ static void closed_handles(void) {
     uint8_t bytes[4];
     size_t count;
     uint32_t names;
+    uint64_t value = 99;
     bool is_dir;
     bpfs_found found;
     bpfs_blocks blocks;
@@ -155,6 +156,8 @@ static void closed_handles(void) {
     IS(BPFS_HAS_NONE, bpfs_write(&fs, PATH("/a"), 0, PATH("x"), &lack));
     IS(BPFS_HAS_NONE, bpfs_batch(&fs, NULL, 0, NULL, 0, &lack));
     IS(BPFS_HAS_NONE, bpfs_truncate(&fs, PATH("/a"), 0, &lack));
+    IS(BPFS_HAS_NONE, bpfs_set_attribute(&fs, PATH("/a"), 0, 1, &lack));
+    IS(BPFS_OUT_OF_RANGE, bpfs_set_attribute(&fs, PATH("/a"), BPFS_ATTRIBUTES, 1, &lack));
     IS(BPFS_HAS_NONE, bpfs_upgrade(&fs));
     IS(BPFS_HAS_NONE, bpfs_snap(&fs));
     IS(BPFS_HAS_NONE, bpfs_unsnap(&fs));
@@ -164,6 +167,9 @@ static void closed_handles(void) {
     IS(BPFS_HAS_NONE, bpfs_read(&fs, PATH("/a"), 0, bytes, sizeof bytes, &count));
     IS(BPFS_HAS_NONE, bpfs_stat(&fs, PATH("/a"), &found));
     IS(BPFS_HAS_NONE, bpfs_links(&fs, PATH("/a"), &names));
+    IS(BPFS_HAS_NONE, bpfs_attribute(&fs, PATH("/a"), 0, &value));
+    IS(BPFS_OUT_OF_RANGE, bpfs_attribute(&fs, PATH("/a"), BPFS_ATTRIBUTES, &value));
+    IS(99, value);
     IS(BPFS_HAS_NONE, bpfs_list(&fs, PATH("/"), &count));
     IS(BPFS_HAS_NONE, bpfs_listed(&fs, 0, bytes, sizeof bytes, &count, &is_dir));
     IS(BPFS_HAS_NONE, bpfs_space(&fs, &blocks));
@@ -432,6 +438,7 @@ static void full_snapshots(void) {
 static void full_logs(void) {
     static uint8_t bytes[BPFS_MAX_WRITE];
     uint32_t code = BPFS_OK;
+    uint64_t value;
     size_t count;
     while (code == BPFS_OK) code = bpfs_write(&fs, PATH("/d/a"), 0, bytes, sizeof bytes, &lack);
     IS(BPFS_LOG_FULL, code);
@@ -439,6 +446,9 @@ static void full_logs(void) {
     IS(true, events > BPFS_LOG_ROOM);
     IS(BPFS_LOG_FULL, bpfs_read(&fs, PATH("/d/a"), 0, bytes, 1, &count));
     IS(BPFS_LOG_FULL, bpfs_unlink(&fs, PATH("/none"), &lack));
+    IS(BPFS_LOG_FULL, bpfs_set_attribute(&fs, PATH("/none"), 0, 1, &lack));
+    IS(BPFS_LOG_FULL, bpfs_attribute(&fs, PATH("/none"), 0, &value));
+    IS(BPFS_OUT_OF_RANGE, bpfs_attribute(&fs, PATH("/none"), BPFS_ATTRIBUTES, &value));
     IS(BPFS_LOG_FULL, bpfs_list(&fs, PATH("/"), &count));
     IS(BPFS_LOG_FULL, bpfs_snap(&fs));
     IS(BPFS_LOG_FULL, bpfs_unsnap(&fs));
@@ -447,6 +457,150 @@ static void full_logs(void) {
     IS(0, bpfs_carry(&fs, &carrier));
     IS(BPFS_OK, bpfs_write(&fs, PATH("/d/a"), 0, bytes, sizeof bytes, &lack));
     IS(-1, bpfs_copy_image(&fs, &carrier));
+    IS(BPFS_OK, bpfs_close(&fs));
+}
+
+/* The attribute of a path, which has to be there. */
+static uint64_t attribute(const char *path, uint64_t number) {
+    uint64_t value = 99;
+    IS(BPFS_OK, bpfs_attribute(&fs, (const uint8_t *)path, strlen(path), number, &value));
+    return value;
+}
+
+/* In versions 1 and 2 no call has an effect; the version counts before the path is looked up, and after it is parsed. */
+static void no_attributes(uint32_t version) {
+    uint64_t value = 99;
+    make(version);
+    IS(BPFS_OK, bpfs_create(&fs, PATH("/a"), &lack));
+    IS(0, bpfs_carry(&fs, &carrier));
+    IS(BPFS_OLD_VERSION, bpfs_set_attribute(&fs, PATH("/a"), 0, 1, &lack));
+    IS(BPFS_OLD_VERSION, bpfs_set_attribute(&fs, PATH("/none"), 0, 1, &lack));
+    IS(BPFS_BAD_PATH, bpfs_set_attribute(&fs, PATH("a"), 0, 1, &lack));
+    IS(BPFS_OUT_OF_RANGE, bpfs_set_attribute(&fs, PATH("a"), BPFS_ATTRIBUTES, 1, &lack));
+    IS(3, bpfs_event_count(&fs)); /* the markers of three calls */
+    IS(BPFS_OLD_VERSION, bpfs_attribute(&fs, PATH("/a"), 0, &value));
+    IS(BPFS_OLD_VERSION, bpfs_attribute(&fs, PATH("/none"), 0, &value));
+    IS(BPFS_BAD_PATH, bpfs_attribute(&fs, PATH("a"), 0, &value));
+    IS(BPFS_OUT_OF_RANGE, bpfs_attribute(&fs, PATH("a"), UINT64_MAX, &value));
+    IS(6, bpfs_event_count(&fs));
+    IS(99, value);
+    are_carried(); /* no word has changed */
+    IS(BPFS_OK, bpfs_upgrade(&fs)); /* makes version 2 */
+    IS(BPFS_OLD_VERSION, bpfs_set_attribute(&fs, PATH("/a"), 0, 1, &lack));
+    IS(BPFS_OK, bpfs_close(&fs));
+}
+
+/* Each has attributes of its own, which all other calls keep. */
+static void attributes(void) {
+    uint64_t value = 99;
+    make(3);
+    IS(BPFS_OK, bpfs_mkdir(&fs, PATH("/d"), &lack));
+    IS(BPFS_OK, bpfs_create(&fs, PATH("/a"), &lack));
+    for (uint64_t i = 0; i < BPFS_ATTRIBUTES; i++) {
+        IS(0, attribute("/", i) | attribute("/d", i) | attribute("/a", i));
+        IS(BPFS_OK, bpfs_set_attribute(&fs, PATH("/"), i, UINT64_MAX - i, &lack));
+        IS(BPFS_OK, bpfs_set_attribute(&fs, PATH("/d"), i, 10 + i, &lack));
+        IS(BPFS_OK, bpfs_set_attribute(&fs, PATH("/a"), i, 20 + i, &lack));
+    }
+    size_t events = bpfs_event_count(&fs);
+    IS(BPFS_OUT_OF_RANGE, bpfs_set_attribute(&fs, PATH("/a"), BPFS_ATTRIBUTES, 1, &lack));
+    IS(BPFS_OUT_OF_RANGE, bpfs_set_attribute(&fs, PATH("/a"), UINT64_MAX, 1, &lack));
+    IS(BPFS_OUT_OF_RANGE, bpfs_attribute(&fs, PATH("/a"), BPFS_ATTRIBUTES, &value));
+    IS(events, bpfs_event_count(&fs));
+    IS(BPFS_NOT_FOUND, bpfs_set_attribute(&fs, PATH("/b"), 0, 1, &lack));
+    IS(BPFS_NOT_FOUND, bpfs_attribute(&fs, PATH("/b"), 0, &value));
+    IS(BPFS_NOT_DIR, bpfs_set_attribute(&fs, PATH("/a/b"), 0, 1, &lack));
+    IS(BPFS_NOT_DIR, bpfs_attribute(&fs, PATH("/a/b"), 0, &value));
+    IS(BPFS_BAD_PATH, bpfs_set_attribute(&fs, NULL, 0, 0, 1, &lack));
+    IS(BPFS_BAD_PATH, bpfs_attribute(&fs, NULL, 0, 0, &value));
+    IS(99, value);
+    IS(BPFS_OK, bpfs_link(&fs, PATH("/a"), PATH("/d/b"), &lack)); /* two names of one file */
+    IS(BPFS_OK, bpfs_set_attribute(&fs, PATH("/d/b"), 1, 77, &lack));
+    IS(77, attribute("/a", 1));
+    IS(BPFS_OK, bpfs_unlink(&fs, PATH("/a"), &lack));
+    IS(BPFS_OK, bpfs_rename(&fs, PATH("/d"), PATH("/e"), &lack));
+    IS(BPFS_OK, bpfs_rename(&fs, PATH("/e/b"), PATH("/c"), &lack));
+    IS(BPFS_OK, bpfs_write(&fs, PATH("/c"), 5000, PATH("hello"), &lack));
+    IS(BPFS_OK, bpfs_truncate(&fs, PATH("/c"), 1, &lack));
+    IS(BPFS_OK, bpfs_batch(&fs, (const uint8_t *)"/cX", 3, &(bpfs_piece){0, 2, 0, 2, 1}, 1, &lack));
+    IS(BPFS_OK, bpfs_upgrade(&fs));
+    IS(0, bpfs_carry(&fs, &carrier));
+    are_carried();
+    IS(BPFS_OK, bpfs_close(&fs));
+    IS(BPFS_OK, bpfs_mount(&fs, words, WORDS, &fault));
+    IS(0, bpfs_bind(&fs, &carrier));
+    for (uint64_t i = 0; i < BPFS_ATTRIBUTES; i++) {
+        IS(UINT64_MAX - i, attribute("/", i));
+        IS(10 + i, attribute("/e", i));
+        IS(i == 1 ? 77 : 20 + i, attribute("/c", i));
+    }
+    IS(BPFS_OK, bpfs_unlink(&fs, PATH("/c"), &lack)); /* the next file gets its inode */
+    IS(BPFS_OK, bpfs_create(&fs, PATH("/c"), &lack));
+    IS(0, attribute("/c", 0) | attribute("/c", 1) | attribute("/c", 2));
+}
+
+/* A snapshot keeps the block of inodes as it is, so the first value that is set takes a block for its copy. */
+static void snapshots_of_attributes(void) {
+    bpfs_blocks before, after;
+    IS(BPFS_OK, bpfs_space(&fs, &before));
+    IS(BPFS_OK, bpfs_snap(&fs));
+    IS(BPFS_OK, bpfs_set_attribute(&fs, PATH("/e"), 0, 55, &lack));
+    IS(BPFS_OK, bpfs_set_attribute(&fs, PATH("/e"), 0, 56, &lack));
+    IS(BPFS_OK, bpfs_space(&fs, &after));
+    IS(before.free - 1, after.free);
+    IS(56, attribute("/e", 0));
+    IS(11, attribute("/e", 1));
+    IS(BPFS_OK, bpfs_unsnap(&fs));
+    IS(BPFS_OK, bpfs_space(&fs, &after));
+    IS(before.free, after.free);
+    IS(56, attribute("/e", 0));
+    IS(0, bpfs_carry(&fs, &carrier));
+}
+
+/* Power fails after any event of some calls: each value is that of before its call, or that of after it. */
+static void cut_attributes(bool has_snapshot) {
+    static bpfs_event events[4096];
+    static uint64_t medium[WORDS];
+    bpfs cut = BPFS_CLOSED;
+    uint64_t value = 99, seen = 0;
+    memcpy(medium, words, sizeof words);
+    IS(BPFS_OK, bpfs_set_attribute(&fs, PATH("/e"), 2, 0, &lack));
+    if (has_snapshot) IS(BPFS_OK, bpfs_snap(&fs));
+    for (uint64_t i = 1; i <= 4; i++) IS(BPFS_OK, bpfs_set_attribute(&fs, PATH("/e"), 2, i, &lack));
+    size_t count = bpfs_events(&fs, 0, events, 4096), calls = 0, before = has_snapshot ? 2 : 1;
+    IS(count, bpfs_event_count(&fs));
+    for (size_t i = 0; i < count; i++) {
+        if (events[i].kind == BPFS_STORE) medium[events[i].word] = events[i].value;
+        if (events[i].kind == BPFS_MARK) calls++;
+        if (calls < before) continue;
+        IS(BPFS_OK, bpfs_mount(&cut, medium, WORDS, &fault));
+        IS(BPFS_OK, bpfs_attribute(&cut, PATH("/e"), 2, &value));
+        IS(true, calls - before <= value && value <= calls - before + 1 && seen <= value);
+        seen = value;
+        IS(BPFS_OK, bpfs_attribute(&cut, PATH("/e"), 0, &value));
+        IS(56, value);
+        IS(BPFS_OK, bpfs_close(&cut));
+    }
+    IS(4, seen);
+    if (has_snapshot) IS(BPFS_OK, bpfs_unsnap(&fs));
+    IS(0, bpfs_carry(&fs, &carrier));
+}
+
+/* Where no block is free, a snapshot leaves none to a value that is set, and nothing changes. */
+static void full_attributes(void) {
+    static uint8_t bytes[BPFS_MAX_WRITE];
+    uint64_t size = 0;
+    for (size_t count = sizeof bytes; count; count /= 2)
+        while (bpfs_write(&fs, PATH("/c"), size, bytes, count, &lack) == BPFS_OK) size += count;
+    IS(BPFS_OK, bpfs_set_attribute(&fs, PATH("/c"), 0, 5, &lack));
+    IS(BPFS_OK, bpfs_snap(&fs));
+    lack = (bpfs_lack){0, 0};
+    IS(BPFS_NO_SPACE, bpfs_set_attribute(&fs, PATH("/c"), 0, 6, &lack));
+    IS(true, lack.free == 0 && lack.need == 1);
+    IS(5, attribute("/c", 0));
+    IS(BPFS_OK, bpfs_unsnap(&fs));
+    IS(BPFS_OK, bpfs_set_attribute(&fs, PATH("/c"), 0, 6, &lack));
+    IS(6, attribute("/c", 0));
     IS(BPFS_OK, bpfs_close(&fs));
 }
 
@@ -487,6 +641,10 @@ static void unwanted_results(void) {
     IS(true, bpfs_run_at(&fs, 0, NULL, words, 8) > 0);
     IS(BPFS_OK, bpfs_close(&fs));
     IS(BPFS_HAS_NONE, bpfs_stat(&fs, PATH("/a"), NULL));
+    make(3);
+    IS(BPFS_OK, bpfs_set_attribute(&fs, PATH("/"), 0, 1, NULL));
+    IS(BPFS_OK, bpfs_attribute(&fs, PATH("/"), 0, NULL));
+    IS(BPFS_OK, bpfs_close(&fs));
 }
 
 int main(void) {
@@ -505,6 +663,13 @@ int main(void) {
     full_logs();
     snapshots();
     full_snapshots();
+    no_attributes(1);
+    no_attributes(2);
+    attributes();
+    snapshots_of_attributes();
+    cut_attributes(false);
+    cut_attributes(true);
+    full_attributes();
     unwanted_results();
     printf("%d answers\n", checks);
     return wrong;

@@ -191,7 +191,7 @@ static void create_files(void) {
     FAILS(ENOENT, bpfs_file_open_read(&file, image));
     IS(-1, size_of(image));
     IS(BPFS_OUT_OF_RANGE, bpfs_file_create(&file, image, BPFS_MIN_BLOCKS - 1, 2, BPFS_FILE_WAITS));
-    IS(BPFS_OUT_OF_RANGE, bpfs_file_create(&file, image, BLOCKS, 3, BPFS_FILE_WAITS));
+    IS(BPFS_OUT_OF_RANGE, bpfs_file_create(&file, image, BLOCKS, 4, BPFS_FILE_WAITS));
     IS(-1, size_of(image));
     FAILS(ENOENT, bpfs_file_create(&file, "/nowhere/image", BLOCKS, 2, BPFS_FILE_WAITS));
     IS(0, bpfs_file_close(&file));

@@ -19,7 +19,7 @@ typedef struct check {
     bpfs_carrier *it;
     bpfs fs;
     uint64_t state;
-    uint32_t blocks;
+    uint32_t blocks, version;
     model tree, ahead, before;              /* after all calls; after those that an image has shown; at the last mount */
     bool refused[MOST_CALLS];  /* the calls without space */
     bool ends[MOST_CALLS + 1]; /* the numbers of calls after which a carry ended */
@@ -231,7 +231,8 @@ static turn create(check *c) {
     turn t = open_nothing(c);
     if (t != GOES_ON) return t;
     plan(c, 100);
-    int code = c->of->create(c->it, IMAGE, c->blocks, 1 + draw(&c->state, 2));
+    c->version = 1 + draw(&c->state, 3);
+    int code = c->of->create(c->it, IMAGE, c->blocks, c->version);
     if (code || medium_has_ended()) return code ? failed(c, "create", code) : IS_OVER;
     return GOES_ON;
 }
@@ -254,6 +255,7 @@ static turn begin(check *c, bool can_fail) {
     if (code) return can_fail ? IS_OVER : failed(c, "mount", code);
     if (model_begin(&c->fs) || (code = bpfs_carry(&c->fs, c->it))) return failed(c, "carry", code);
     model_clear(&c->tree, draw(&c->state, 1u << 31));
+    c->tree.has_attributes = c->version == 3;
     c->tree.span = c->blocks * 300;
     c->ahead = c->tree;
     c->ahead.refusals = c->refused;

@@ -74,7 +74,7 @@ static bool is_listed;
 
 static guarded in_path, in_other, in_bytes, in_pieces, in_words;
 static guarded out_handle, out_temporary, out_bytes, out_words, out_values, out_events, out_lent;
-static guarded out_count, out_lack, out_fault, out_found, out_flag, out_sums, out_blocks, out_links, out_run, out_lent_words;
+static guarded out_count, out_lack, out_fault, out_found, out_flag, out_sums, out_blocks, out_links, out_attribute, out_run, out_lent_words;
 
 /* ---- memory that lacks ---- */
 
@@ -170,7 +170,7 @@ static void fronts_are_kept(void) {
     const struct { const guarded *memory; size_t size; } results[] = {
         {&out_count, sizeof(size_t)}, {&out_lack, sizeof(bpfs_lack)}, {&out_fault, sizeof(bpfs_fault)}, {&out_found, sizeof(bpfs_found)},
         {&out_flag, sizeof(bool)}, {&out_sums, sizeof(bpfs_sums)}, {&out_blocks, sizeof(bpfs_blocks)}, {&out_links, sizeof(uint32_t)},
-        {&out_run, sizeof(bpfs_run)}, {&out_handle, sizeof(bpfs)}, {&out_lent, sizeof(bpfs_lent)},
+        {&out_attribute, sizeof(uint64_t)}, {&out_run, sizeof(bpfs_run)}, {&out_handle, sizeof(bpfs)}, {&out_lent, sizeof(bpfs_lent)},
     };
     for (size_t i = 0; i < sizeof results / sizeof *results; i++)
         holds("the bytes before a result are unchanged", guarded_front(results[i].memory, results[i].size));
@@ -296,7 +296,7 @@ static void apply(uint64_t *to, const bpfs_event *event) {
         return;
     }
     holds("a store is within the image", event->word < words);
-    holds("no store goes to a word that carriers use", event->word < 6 || event->word >= BPFS_BLOCK_WORDS);
+    holds("no store goes to a word that carriers use", event->word < 8 || event->word >= BPFS_BLOCK_WORDS);
     to[event->word] = event->value;
 }
 
@@ -518,6 +518,34 @@ static void call_truncate(void) {
     changed(code, wanted, next, size > old || (size < old && present.kept), no_lack);
 }
 
+/* The number of an attribute, or of none. */
+static uint64_t any_attribute(void) {
+    if (any(10)) return any(BPFS_ATTRIBUTES);
+    return any(2) ? BPFS_ATTRIBUTES + any(3) : any_number();
+}
+
+static void call_set_attribute(void) {
+    tree_path names;
+    path p;
+    bool no_lack = unwanted();
+    uint64_t number = any_attribute(), value = any(8) ? any_number() : any(2);
+    draw_path(&p, present.now, any(2));
+    tree *next = tree_copy(present.now);
+    uint32_t wanted = BPFS_BAD_PATH;
+    if (number >= BPFS_ATTRIBUTES) wanted = BPFS_OUT_OF_RANGE;
+    else if (tree_parse(&names, p.bytes, p.length)) wanted = tree_set_attribute(next, &names, number, value, present.version);
+    guarded_out(&out_lack, sizeof(bpfs_lack));
+    uint32_t code = bpfs_set_attribute(fs, given(&in_path, &p), p.length, number, value, UNLESS(no_lack, RESULT(bpfs_lack, out_lack)));
+    if (wanted != BPFS_OUT_OF_RANGE) {
+        changed(code, wanted, next, present.kept, no_lack);
+        return;
+    }
+    returns(code, wanted);
+    keeps(&out_lack, sizeof(bpfs_lack));
+    follow(false, false);
+    tree_drop(next);
+}
+
 /* Adds a piece, with a path and bytes of its own, to a text that has `*length` bytes. */
 static void any_piece(bpfs_piece *piece, uint8_t *text, size_t *length) {
     path p;
@@ -615,7 +643,7 @@ static void call_upgrade(void) {
     returns(code, is_full() ? BPFS_LOG_FULL : BPFS_OK);
     follow(!code, !code);
     if (code) return;
-    present.version = 2;
+    if (present.version == 1) present.version = 2;
     remember();
 }
 
@@ -689,6 +717,23 @@ static void call_links(void) {
     looked(code, wanted);
     if (code || no_links) keeps(&out_links, sizeof *links);
     else is("the number of links", *links, present.now->nodes[node]->links);
+}
+
+static void call_attribute(void) {
+    path p;
+    int node = 0;
+    bool no_value = unwanted();
+    uint64_t number = any_attribute();
+    draw_path(&p, present.now, any(2));
+    uint32_t wanted = look(present.now, &p, &node);
+    if (wanted != BPFS_LOG_FULL && wanted != BPFS_BAD_PATH && !tree_has_attributes(present.version)) wanted = BPFS_OLD_VERSION;
+    if (number >= BPFS_ATTRIBUTES) wanted = BPFS_OUT_OF_RANGE;
+    uint64_t *value = RESULT(uint64_t, out_attribute);
+    uint32_t code = bpfs_attribute(fs, given(&in_path, &p), p.length, number, UNLESS(no_value, value));
+    returns(code, wanted);
+    follow(code != BPFS_LOG_FULL && code != BPFS_OUT_OF_RANGE, false);
+    if (code || no_value) keeps(&out_attribute, sizeof *value);
+    else is("the value of the attribute", *value, present.now->nodes[node]->attributes[number]);
 }
 
 static void keep_listing(const tree *t, const tree_node *dir) {
@@ -891,6 +936,7 @@ static void call_mount(void) {
 typedef struct view {
     bpfs *fs;
     const tree *t;
+    uint32_t version;
     bool of_snap;
     path p;
 } view;
@@ -944,6 +990,17 @@ static void shows_dir(view *v, int node) {
     v->p.length = before;
 }
 
+/* No call returns those of the snapshot: reader_shows looks at their words. */
+static void shows_attributes(view *v, const tree_node *it) {
+    uint64_t value = 0;
+    bool has = tree_has_attributes(v->version);
+    for (uint64_t i = 0; i < BPFS_ATTRIBUTES; i++) {
+        uint32_t code = bpfs_attribute(v->fs, v->p.bytes, v->p.length, i, &value);
+        is("bpfs_attribute of the whole tree", code, has ? BPFS_OK : BPFS_OLD_VERSION);
+        is("an attribute in the whole tree", value, has ? it->attributes[i] : 0);
+    }
+}
+
 static void shows_node(view *v, int node) {
     const tree_node *it = v->t->nodes[node];
     bpfs_found found;
@@ -951,18 +1008,19 @@ static void shows_node(view *v, int node) {
     is("bpfs_stat of the whole tree", code, BPFS_OK);
     is("the kind in the whole tree", found.is_dir, it->is_dir);
     is("the size in the whole tree", found.size, it->is_dir ? it->count : it->size);
+    if (!v->of_snap) shows_attributes(v, it);
     if (it->is_dir) shows_dir(v, node);
     else shows_file(v, node);
 }
 
 /* The volume shows these trees and nothing else, and so do its words. */
 static void shows(bpfs *of, const moment *m, const uint64_t *image) {
-    view v = {of, m->now, false, {"/", 1}};
+    view v = {of, m->now, m->version, false, {"/", 1}};
     uint32_t live, free_blocks;
     uint64_t magic;
     bpfs_found unused;
     is("bpfs_words", bpfs_words(of, 0, &magic, 1), BPFS_OK);
-    is("the version of the image", magic >> 56, '0' + m->version);
+    is("the version of the image", magic >> 56, m->version == 3 ? 'A' : '0' + m->version);
     shows_node(&v, 0);
     v.t = m->kept;
     v.of_snap = true;
@@ -1022,7 +1080,7 @@ static void call_remount(void) {
     bpfs *of = temporary();
     is("bpfs_words", bpfs_words(fs, 0, now, words), BPFS_OK);
     holds("all words follow from the events", memcmp(now, shadow, 8 * words) == 0);
-    for (int i = 6; i < BPFS_BLOCK_WORDS; i++) now[i] = any_number(); /* no image uses them */
+    for (int i = present.version == 3 ? 8 : 6; i < BPFS_BLOCK_WORDS; i++) now[i] = any_number(); /* no image uses them */
     is("a mount of the words", open_words(of, now, words, lends, RESULT(bpfs_fault, out_fault)), BPFS_OK);
     keeps(&out_fault, sizeof(bpfs_fault));
     shows(of, &present, now);
@@ -1127,7 +1185,8 @@ static void is_closed(void) {
         bpfs_create(fs, p, 2, lack), bpfs_mkdir(fs, p, 2, lack), bpfs_unlink(fs, p, 2, lack), bpfs_rmdir(fs, p, 2, lack),
         bpfs_rename(fs, p, 2, p, 2, lack), bpfs_link(fs, p, 2, p, 2, lack), bpfs_write(fs, p, 2, 0, p, 1, lack), bpfs_truncate(fs, p, 2, 1, lack),
         bpfs_batch(fs, NULL, 0, NULL, 0, lack), bpfs_upgrade(fs), bpfs_snap(fs), bpfs_unsnap(fs), bpfs_read(fs, p, 2, 0, into, 8, count),
-        bpfs_stat(fs, p, 2, NULL), bpfs_links(fs, p, 2, NULL), bpfs_list(fs, p, 1, count), bpfs_snap_read(fs, p, 2, 0, into, 8, count),
+        bpfs_set_attribute(fs, p, 2, 0, 1, lack), bpfs_attribute(fs, p, 2, 0, NULL), bpfs_stat(fs, p, 2, NULL), bpfs_links(fs, p, 2, NULL),
+        bpfs_list(fs, p, 1, count), bpfs_snap_read(fs, p, 2, 0, into, 8, count),
         bpfs_snap_stat(fs, p, 2, NULL), bpfs_snap_list(fs, p, 1, count), bpfs_listed(fs, 0, into, 8, count, NULL), bpfs_space(fs, NULL),
         bpfs_totals(fs, NULL), bpfs_words(fs, 0, NULL, 0), bpfs_drain(fs), bpfs_set_tag(fs, 1),
     };
@@ -1159,13 +1218,14 @@ static void begin_with(const uint64_t *image, moment m, bool lends) {
 static void begin(void) {
     static uint64_t image[MOST_WORDS];
     static const uint32_t spans[] = {16, 40, 100, 300, 1000, MOST_BLOCKS - BPFS_MIN_BLOCKS + 1};
-    moment m = {0, tree_empty(), NULL, 1 + any(2)};
-    bpfs_event made[16];
+    static const uint32_t versions[] = {1, 2, 3, 3};
+    moment m = {0, tree_empty(), NULL, versions[any(4)]};
+    bpfs_event made[20];
     size_t count;
     blocks = BPFS_MIN_BLOCKS + any(spans[any(any(4) ? 4 : 6)]);
     words = (size_t)blocks * BPFS_BLOCK_WORDS;
     for (size_t i = 0; i < words; i++) image[i] = i * 0x9e3779b97f4a7c15u ^ run.state;
-    is("bpfs_format_events", bpfs_format_events(blocks, m.version, made, 16, &count), BPFS_OK);
+    is("bpfs_format_events", bpfs_format_events(blocks, m.version, made, 20, &count), BPFS_OK);
     for (size_t i = 0; i < count; i++) apply(image, &made[i]);
     begin_with(image, m, any(2));
 }
@@ -1198,9 +1258,11 @@ static const struct {
 } kinds[] = {
     {"bpfs_create or bpfs_mkdir", call_make_or_remove, 120, false}, {"bpfs_unlink or bpfs_rmdir", call_remove, 70, false},
     {"bpfs_rename or bpfs_link", call_two, 100, false}, {"bpfs_write", call_write, 180, false}, {"bpfs_truncate", call_truncate, 60, false},
+    {"bpfs_set_attribute", call_set_attribute, 50, false},
     {"bpfs_batch", call_batch, 70, false}, {"bpfs_snap", call_snap, 8, false}, {"bpfs_unsnap", call_unsnap, 6, false},
     {"bpfs_upgrade", call_upgrade, 1, false}, {"bpfs_read", call_read, 90, false}, {"bpfs_stat", call_stat, 60, false},
-    {"bpfs_links", call_links, 30, false}, {"bpfs_list", call_list, 30, false}, {"bpfs_listed", call_listed, 40, false},
+    {"bpfs_links", call_links, 30, false}, {"bpfs_attribute", call_attribute, 30, false},
+    {"bpfs_list", call_list, 30, false}, {"bpfs_listed", call_listed, 40, false},
     {"bpfs_totals", call_totals, 10, false}, {"bpfs_words", call_words, 20, false}, {"bpfs_events", call_events, 20, false},
     {"bpfs_run_at", call_run, 50, false}, {"bpfs_tag", call_tag, 6, false}, {"bpfs_drain", call_drain, 12, true},
     {"bpfs_strerror", call_texts, 3, false},
@@ -1234,7 +1296,7 @@ static void print_met(void) {
 
 static bool make_memory(void) {
     guarded *small[] = {&out_handle, &out_temporary, &out_lent, &out_count, &out_lack, &out_fault, &out_found, &out_flag, &out_sums,
-                        &out_blocks, &out_links, &out_run, &in_pieces};
+                        &out_blocks, &out_links, &out_attribute, &out_run, &in_pieces};
     bool made = true;
     for (size_t i = 0; i < sizeof small / sizeof *small; i++) {
         made = made && guarded_make(small[i], 1000);

@@ -197,11 +197,13 @@ static void begin(test *t) {
     bpfs_file file;
     bpfs fs = BPFS_CLOSED;
     bpfs_fault fault;
+    uint32_t version = 1 + draw(&t->state, 6) / 2; /* each of the three, by the seeds of test.sh */
     unlink(t->image);
-    if (bpfs_file_create(&file, t->image, MODEL_BLOCKS, 1 + draw(&t->state, 2), BPFS_FILE_CACHED)) stop("no image");
+    if (bpfs_file_create(&file, t->image, MODEL_BLOCKS, version, BPFS_FILE_CACHED)) stop("no image");
     if (bpfs_file_mount(&fs, &file, &fault) || model_begin(&fs) || bpfs_carry(&fs, &file.carrier)) stop("no volume");
     if (bpfs_close(&fs) || bpfs_file_close(&file)) stop("no close");
     model_clear(&t->tree, t->state);
+    t->tree.has_attributes = version == 3;
 }
 
 static order order_of(const char *name) {

@@ -30,6 +30,16 @@ static path path_of(int name) {
     return it;
 }
 
+/* The path of a name or of a directory. */
+static path path_of_owner(int owner) {
+    path it = {"/", 1};
+    int dir = owner - MODEL_NAMES;
+    if (dir < 0) return path_of(owner);
+    if (dir > MODEL_DIRS) return empty_dir;
+    if (dir < MODEL_DIRS) it.length = (size_t)snprintf((char *)it.text, sizeof it.text, "/d%d", dir);
+    return it;
+}
+
 void model_clear(model *m, uint64_t state) {
     memset(m, 0, sizeof *m);
     m->state = state;
@@ -53,6 +63,13 @@ static bool is_refused(turn *t) {
 /* The file of a name, or NULL. */
 static model_file *file_of(model *m, int name) {
     return m->file_of[name] < 0 ? NULL : &m->files[m->file_of[name]];
+}
+
+/* The attributes of a name or of a directory, or NULL if it is not there. */
+static uint64_t *attributes_of(model *m, int owner) {
+    int dir = owner - MODEL_NAMES;
+    if (dir >= 0) return dir <= MODEL_DIRS || m->has_dir ? m->of_dirs[dir] : NULL;
+    return file_of(m, owner) ? file_of(m, owner)->attributes : NULL;
 }
 
 static void name_goes(model *m, int name) {
@@ -126,6 +143,19 @@ static void make_or_remove_dir(turn *t) {
     if (t->fs && !has) t->code = bpfs_mkdir(t->fs, empty_dir.text, empty_dir.length, &t->lack);
     if (is_refused(t)) return;
     t->m->has_dir = !has;
+    memset(t->m->of_dirs[MODEL_DIRS + 1], 0, sizeof t->m->of_dirs[MODEL_DIRS + 1]);
+}
+
+static void set_attribute(turn *t, int owner) {
+    path at = path_of_owner(owner);
+    uint32_t number = draw(&t->m->state, BPFS_ATTRIBUTES);
+    uint64_t value = draw(&t->m->state, 1u << 31);
+    value = value << 33 | draw(&t->m->state, 1u << 31);
+    if (t->fs) t->code = bpfs_set_attribute(t->fs, at.text, at.length, number, value, &t->lack);
+    if (is_refused(t)) return;
+    uint64_t *attributes = attributes_of(t->m, owner);
+    t->wanted = attributes ? BPFS_OK : BPFS_NOT_FOUND;
+    if (attributes) attributes[number] = value;
 }
 
 static void fill(uint64_t *state, uint8_t *bytes, uint32_t count) {
@@ -178,7 +208,7 @@ static void write_batch(turn *t, int name, int other) {
 bool model_call(model *m, bpfs *fs) {
     turn t = {.m = m, .fs = fs};
     int name = (int)draw(&m->state, MODEL_NAMES), other = (int)draw(&m->state, MODEL_NAMES);
-    switch (draw(&m->state, 16)) {
+    switch (draw(&m->state, m->has_attributes ? 18 : 16)) {
     case 0: case 1: create(&t, name); break;
     case 2: unlink_name(&t, name); break;
     case 3: rename_name(&t, name, other); break;
@@ -186,9 +216,23 @@ bool model_call(model *m, bpfs *fs) {
     case 5: truncate_file(&t, name, draw(&m->state, m->span)); break;
     case 6: make_or_remove_dir(&t); break;
     case 7: case 8: write_batch(&t, name, other); break;
+    case 16: case 17: set_attribute(&t, (int)draw(&m->state, MODEL_OWNERS)); break;
     default: write_file(&t, name);
     }
     return !fs || t.code == t.wanted;
+}
+
+static bool attributes_are_shown(const model *m, bpfs *fs, int owner) {
+    path at = path_of_owner(owner);
+    const uint64_t *attributes = attributes_of((model *)m, owner);
+    uint64_t value = 0;
+    if (!m->has_attributes) return bpfs_attribute(fs, at.text, at.length, 0, &value) == BPFS_OLD_VERSION;
+    for (int i = 0; i < BPFS_ATTRIBUTES; i++) {
+        uint32_t code = bpfs_attribute(fs, at.text, at.length, (uint64_t)i, &value);
+        if (!attributes) return code == BPFS_NOT_FOUND;
+        if (code || value != attributes[i]) return false;
+    }
+    return true;
 }
 
 static bool file_is_shown(const model_file *file, bpfs *fs, path at) {
@@ -207,6 +251,8 @@ static bool file_is_shown(const model_file *file, bpfs *fs, path at) {
 bool model_is_shown(const model *m, bpfs *fs) {
     bpfs_found found;
     if (bpfs_stat(fs, empty_dir.text, empty_dir.length, &found) != (m->has_dir ? BPFS_OK : BPFS_NOT_FOUND)) return false;
+    for (int i = 0; i < MODEL_OWNERS; i++)
+        if (!attributes_are_shown(m, fs, i)) return false;
     for (int i = 0; i < MODEL_NAMES; i++)
         if (!file_is_shown(m->file_of[i] < 0 ? NULL : &m->files[m->file_of[i]], fs, path_of(i))) return false;
     return true;

@@ -15,10 +15,12 @@ extern "C" {
 #endif
 
 enum { MODEL_NAMES = 8, MODEL_FILES = MODEL_NAMES, MODEL_SIZE = 40000, MODEL_DIRS = 2, MODEL_BLOCKS = 512 };
+enum { MODEL_OWNERS = MODEL_NAMES + MODEL_DIRS + 2 }; /* of attributes: the names and the directories */
 
 typedef struct model_file {
     int names; /* 0: no such file */
     uint32_t size;
+    uint64_t attributes[BPFS_ATTRIBUTES];
     uint8_t bytes[MODEL_SIZE]; /* 0 past the size */
 } model_file;
 
@@ -28,7 +30,9 @@ typedef struct model {
     int file_of[MODEL_NAMES]; /* the file that a name has, or -1 */
     model_file files[MODEL_FILES];
     bool has_dir;
+    uint64_t of_dirs[MODEL_OWNERS - MODEL_NAMES][BPFS_ATTRIBUTES]; /* of /d0 and /d1, of the root, of the empty directory */
     uint64_t state;
+    bool has_attributes;  /* whether the volume has version 3; false at first */
     uint32_t span;        /* no file gets longer; MODEL_SIZE at first */
     bool refused;         /* whether the volume had no space for the last call */
     const bool *refusals; /* of the calls that are repeated without a volume; NULL: none */

@@ -1,7 +1,9 @@
 #include "reader.h"
 #include <string.h>
 
-enum { MOST_BLOCKS = 65536, ENTRY_WORDS = 32, INODE_WORDS = 8, MOST_HEIGHT = 5 };
+enum { MOST_BLOCKS = 65536, ENTRY_WORDS = 32, INODE_WORDS = 8, ATTRIBUTE_WORD = 3, MOST_HEIGHT = 5, VERSIONS = 3 };
+
+static const uint64_t magic[VERSIONS] = {0x3130535253465042u, 0x3230535253465042u, 0x4133535253465042u};
 
 /* A tree of blocks, by its root word and its size; and the image. */
 typedef struct content {
@@ -9,7 +11,7 @@ typedef struct content {
 } content;
 
 static const uint64_t *words;
-static uint32_t block_count;
+static uint32_t block_count, version_of_image;
 static uint8_t is_live[MOST_BLOCKS], nodes_met[TREE_NODES];
 static uint32_t inode_of[TREE_NODES];
 static bool is_sound;
@@ -91,6 +93,7 @@ static bool is_node(const tree *t, int node, content inodes, uint64_t ino) {
     nodes_met[node] = 1;
     inode_of[node] = (uint32_t)ino;
     if (!is_sound || inode[0] != (it->is_dir ? 2 : 1)) return false;
+    if (tree_has_attributes(version_of_image) && memcmp(inode + ATTRIBUTE_WORD, it->attributes, sizeof it->attributes)) return false;
     mark_all(c);
     if (!it->is_dir) return c.size == it->size && is_file(it, c);
     size_t names = 0;
@@ -112,10 +115,11 @@ static bool is_tree(const tree *t, content inodes) {
 bool reader_shows(const uint64_t *image, uint32_t blocks, uint32_t version, const tree *now, const tree *kept, uint32_t *live) {
     words = image;
     block_count = blocks;
+    version_of_image = version;
     is_sound = blocks <= MOST_BLOCKS;
     memset(is_live, 0, sizeof is_live);
-    if (!is_sound || image[0] != (version == 1 ? 0x3130535253465042u : 0x3230535253465042u) || image[1] != blocks) return false;
-    if ((version == 2 && image[5] > 0) != (kept != NULL)) return false;
+    if (!is_sound || version < 1 || version > VERSIONS || image[0] != magic[version - 1] || image[1] != blocks) return false;
+    if ((version > 1 && image[5] > 0) != (kept != NULL)) return false;
     if (!is_tree(now, (content){image[2], image[3]})) return false;
     if (kept && !is_tree(kept, (content){image[4], image[5]})) return false;
     *live = 0;

@@ -377,6 +377,19 @@ uint32_t tree_truncate(tree *t, const tree_path *path, uint64_t size, uint32_t v
     return BPFS_OK;
 }
 
+bool tree_has_attributes(uint32_t version) {
+    return version == 3;
+}
+
+uint32_t tree_set_attribute(tree *t, const tree_path *path, uint64_t number, uint64_t value, uint32_t version) {
+    int node;
+    if (!tree_has_attributes(version)) return BPFS_OLD_VERSION;
+    uint32_t code = tree_find(t, path, &node);
+    if (code) return code;
+    own(t, node)->attributes[number] = value;
+    return BPFS_OK;
+}
+
 size_t tree_read(const tree *t, int node, uint64_t offset, uint8_t *into, size_t capacity) {
     const tree_node *file = t->nodes[node];
     if (offset >= file->size) return 0;

@@ -43,6 +43,7 @@ typedef struct tree_node {
     bool is_dir;
     uint32_t links;
     uint64_t size;
+    uint64_t attributes[BPFS_ATTRIBUTES];
     size_t count, room;
     tree_part *parts;
     tree_entry *entries;
@@ -87,6 +88,10 @@ uint32_t tree_link(tree *t, const tree_path *from, const tree_path *to);
 uint32_t tree_write(tree *t, const tree_path *path, uint64_t offset, const uint8_t *bytes, size_t count, uint32_t version);
 uint32_t tree_patch(tree *t, const tree_path *path, uint64_t offset, const uint8_t *bytes, size_t count); /* a piece of a batch */
 uint32_t tree_truncate(tree *t, const tree_path *path, uint64_t size, uint32_t version);
+uint32_t tree_set_attribute(tree *t, const tree_path *path, uint64_t number, uint64_t value, uint32_t version);
+
+/* Whether files and directories have attributes in a version. */
+bool tree_has_attributes(uint32_t version);
 
 /* Reads bytes of a file, and returns how many. */
 size_t tree_read(const tree *t, int node, uint64_t offset, uint8_t *into, size_t capacity);

@@ -1,7 +1,7 @@
 //! Properties of the paths of words, of free blocks, and of the effect of calls on the abstract tree. Each is the
 //! contract of a function with an empty body.
 
-ghost use Rattle.std.specs.Prelude.{◌≡◌, ◌≤◌, ℕ, Bool, List, [], length};
+ghost use Rattle.std.specs.Prelude.{◌≡◌, ◌<◌, ◌≤◌, ℕ, Bool, List, [], length};
 ghost use Rattle.bp_calls.specs.ContentPaths.{HasContentWord, KeepsHeights, WholePathExists};
 ghost use Rattle.bp_calls.specs.Created.{EntersName, LinksEntry};
 ghost use Rattle.bp_calls.specs.InPlace.{LiesInWord};
@@ -18,8 +18,9 @@ ghost use Rattle.bp_layout.specs.Paths.{Name, Path};
 ghost use Rattle.bp_layout.specs.Free.{AreFreeBlocks, HasFree};
 ghost use Rattle.bp_layout.specs.Inode.{IsDirectory, IsFile, size_of};
 ghost use Rattle.bp_layout.specs.Need.{Change, need};
-ghost use Rattle.bp_layout.specs.Need.Change.{leaves, resizes, writes};
+ghost use Rattle.bp_layout.specs.Need.Change.{leaves, resizes, sets, writes};
 ghost use Rattle.bp_layout.specs.Reached.{IsReached};
+ghost use Rattle.bp_limits.specs.Limits.{attributes};
 ghost use Rattle.bp_layout.specs.WellFormed.{IsWellFormed};
 ghost use Rattle.bp_layout.specs.Words.{block_count};
 ghost use Rattle.bp_plain.specs.Calls.{Piece};
@@ -49,14 +50,15 @@ pub fn set_has_the_free(image: &[u64], blocks: &Blocks)
         → HasFree image.now in_snapshot 0 }
 {}
 
-/// States that a change that is one store in place needs no block: a name is removed, a file is not made longer, or
-/// bytes are written that lie in one word below its size, and not in a hole.
+/// States that a change that is one store in place needs no block: a name is removed, a file is not made longer, bytes
+/// are written that lie in one word below its size and not in a hole, or an attribute is set.
 pub fn changes_in_place_need_no_block(image: &[u64])
     requires { IsWellFormed image.now }
     ensures leaves { (i s j : ℕ) → CanUnlink image.now i s j → need image.now (leaves i s) ≡ 0 }
     ensures shorter { (i size : ℕ) → IsReached image.now i → IsFile image.now i → size ≤ size_of image.now i
         → need image.now (resizes i size) ≡ 0 }
     ensures in_word { (i offset len : ℕ) → LiesInWord image.now i offset len → need image.now (writes i offset len) ≡ 0 }
+    ensures attribute { (i number : ℕ) → IsReached image.now i → number < attributes → need image.now (sets i number) ≡ 0 }
 {}
 
 /// States that a directory with a new name gains it in the abstract tree, at each path that finds the directory.

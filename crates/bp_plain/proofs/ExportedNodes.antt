@@ -92,7 +92,7 @@ module _ (tree : FileTree) (text : List ℕ) (path : Path) (spells : parse text 
 abbrev pub stage : Version → PathMap → FileTree
 stage version map = record { version = version; now = map; snap = None }
 
--- the map with a node at a new path, without its attributes: no call sets them yet
+-- the map with a node at a new path, without its attributes: an export leaves them out
 abbrev pub placed : PathMap → Path → Node → PathMap
 placed map path (dir attributes) = with_dir map path
 placed map path (file attributes content) = record { nodes = insert map.nodes path (file no_attributes content); one = alone map.one path }

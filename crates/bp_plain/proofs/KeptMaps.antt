@@ -8,11 +8,11 @@ use Rattle.bp_plain.specs.declared.trees.entries.Change.{Change}
 use Rattle.bp_plain.specs.declared.trees.maps.FileMap.TheInside.{Inside}
 use Rattle.bp_plain.specs.Numbered.{Numbered, NumberedFiles, map_of, number_at, number_in, plain_node, plain_nodes, root_alone}
 use Rattle.bp_plain.specs.Numbered.Numbered.{directory, numbered_file}
-use Rattle.bp_plain.specs.Plain.{attributes_at, file_refusal, is_empty_dir, is_root_path, move_refusal, moved, new_refusal, with_content, with_dir, with_file, with_moved, with_name, with_nothing}
+use Rattle.bp_plain.specs.Plain.{attributes_at, bytes_at, file_refusal, is_dir_at, is_empty_dir, is_root_path, move_refusal, moved, new_refusal, with_attributes, with_content, with_dir, with_file, with_moved, with_name, with_nothing}
 use Rattle.bp_plain.specs.PlainTree.{IsDirAt, PathMap}
 use Rattle.bp_plain.specs.SeenMap.{IsKept, map_seen}
 use Rattle.bp_plain.specs.SeenTree.{HasNoneBelow, IsRooted}
-use Rattle.bp_plain.proofs.MapLaws.{AreBelow, below_moved, below_more, below_put, below_set, below_taken, content_set, dir_made, file_made, linked_made, path_taken, paths_moved, root_below, root_rooted, rooted_set}
+use Rattle.bp_plain.proofs.MapLaws.{AreBelow, attributes_set, below_moved, below_more, below_put, below_set, below_taken, content_set, dir_below, dir_made, dir_rooted, dir_set, file_made, linked_made, path_taken, paths_moved, root_below, root_rooted, rooted_set}
 use Rattle.bp_plain.proofs.Numbers.{get-plain, plain-moved, plain-put, plain-taken}
 use Rattle.bp_plain.proofs.Rooted.{IsFileAt, IsNew, Moves, empty_below, file_below, file_no_dir, file_there, moves_there, new_there, not_root_path, rooted_moved, rooted_put, rooted_taken}
 
@@ -113,6 +113,19 @@ module _ (old : Inside) (was : IsKept old) where
   sets_content p change id attributes bytes each is own = record {
     view = content_set old.files change id attributes bytes each p is own;
     kept = record { above = rooted_set old.files change id attributes bytes each are.above; below = below_set old.files change id attributes bytes each old.next are.below };
+  }
+
+  pub sets_attributes : (p : Path) (change : Change) (id : ℕ) (attributes : Attributes) (bytes : List ℕ) → ((e : Path × Numbered) → changed change e ≡ Some (e.0, with_bytes_in id attributes bytes e.1)) →
+      number_at old.files p ≡ Some id → bytes ≡ bytes_at (map_seen old).nodes p → Becomes (changed_files change old.files) old.next (with_attributes (map_seen old) p attributes)
+  sets_attributes p change id attributes bytes each is own = record {
+    view = attributes_set old.files change id attributes bytes each p is own;
+    kept = record { above = rooted_set old.files change id attributes bytes each are.above; below = below_set old.files change id attributes bytes each old.next are.below };
+  }
+
+  pub sets_dir : (p : Path) (attributes : Attributes) → is_dir_at (map_seen old).nodes p ≡ true → Becomes (insert old.files p (directory attributes)) old.next (with_attributes (map_seen old) p attributes)
+  sets_dir p attributes is = record {
+    view = dir_set old.files p attributes is;
+    kept = record { above = dir_rooted old.files p attributes is are.above; below = dir_below old.files p attributes is old.next are.below };
   }
 
   pub moves_paths : (p q : Path) → move_refusal (map_seen old).nodes p q ≡ None → same_path p q ≡ false → Becomes (moved p q old.files) old.next (with_moved (map_seen old) p q)

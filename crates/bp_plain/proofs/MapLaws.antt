@@ -11,7 +11,7 @@ use Rattle.bp_plain.specs.Changed.{changed, changed_files, with_bytes_in}
 use Rattle.bp_plain.specs.declared.trees.entries.Change.{Change}
 use Rattle.bp_plain.specs.Numbered.{Numbered, NumberedFiles, map_of, number_at, number_in, plain_node, plain_nodes, root_alone}
 use Rattle.bp_plain.specs.Numbered.Numbered.{directory, numbered_file}
-use Rattle.bp_plain.specs.Plain.{attributes_at, attributes_in, bytes_in, moved, paths_of, with_node_at, with_content, with_dir, with_file, with_moved, with_name, with_nothing}
+use Rattle.bp_plain.specs.Plain.{attributes_at, attributes_in, bytes_at, bytes_in, is_a_dir, is_dir_at, moved, paths_of, with_node_at, with_attributes, with_content, with_dir, with_file, with_moved, with_name, with_nothing}
 use Rattle.bp_plain.specs.PlainTree.{IsDirAt, Nodes, PathMap, empty_map, pair_cmp, path_cmp}
 use Rattle.bp_plain.specs.SeenTree.{IsRooted}
 use Rattle.bp_plain.proofs.Kernels.{any_path, are_one-back, before_move, get-with_node_at, kernel_alone, kernel_linked, kernel_moved, kernel_same, kernel_without, paths_of-any}
@@ -97,6 +97,26 @@ same_number id attributes bytes None = refl
 same_number id attributes bytes (Some (directory own)) = refl
 same_number id attributes bytes (Some (numbered_file i own content)) = refl
 
+-- this file at each path of the one at p
+abbrev put_at : NumberedFiles → Path → Attributes → List ℕ → PathMap
+put_at files p attributes bytes = record { nodes = with_node_at (paths_of (map_of files).one p) (file attributes bytes) (plain_nodes files); one = (map_of files).one }
+
+-- the map with other attributes, where it is known whether a directory is at p
+abbrev attributes_by : NumberedFiles → Path → Attributes → Bool → PathMap
+attributes_by files p attributes is_dir = record {
+  nodes = if is_dir then insert (plain_nodes files) p (dir attributes)
+      else with_node_at (paths_of (map_of files).one p) (file attributes (bytes_at (plain_nodes files) p)) (plain_nodes files);
+  one = (map_of files).one;
+}
+
+file_not_dir : (files : NumberedFiles) (p : Path) (id : ℕ) → number_at files p ≡ Some id → is_dir_at (plain_nodes files) p ≡ false
+file_not_dir files p id is = ap is_a_dir (get-plain files p) ∙ go (get files p) is
+  where
+    go : (o : Option Numbered) → number_in o ≡ Some id → is_a_dir (option_map plain_node o) ≡ false
+    go None e = refl
+    go (Some (directory own)) e = absurd (not_some id e)
+    go (Some (numbered_file i own content)) e = refl
+
 module _ (files : NumberedFiles) (change : Change) (id : ℕ) (attributes : Attributes) (bytes : List ℕ)
     (each : (e : Path × Numbered) → changed change e ≡ Some (e.0, with_bytes_in id attributes bytes e.1)) where
   at_path : (q : Path) → get (changed_files change files) q ≡ option_map (with_bytes_in id attributes bytes) (get files q)
@@ -108,17 +128,16 @@ module _ (files : NumberedFiles) (change : Change) (id : ℕ) (attributes : Attr
   plain_at : (q : Path) → get (plain_nodes (changed_files change files)) q ≡ option_map plain_node (option_map (with_bytes_in id attributes bytes) (get files q))
   plain_at q = get-plain (changed_files change files) q ∙ ap (option_map plain_node) (at_path q)
 
-  pub content_set : (p : Path) → number_at files p ≡ Some id → attributes ≡ attributes_at (plain_nodes files) p → map_of (changed_files change files) ≡ with_content (map_of files) p bytes
-  content_set p is own =
-      let made : Attributes → PathMap = λ (a : Attributes). record { nodes = with_node_at (paths_of (map_of files).one p) (file a bytes) (plain_nodes files); one = (map_of files).one } in
-      map_is (changed_files change files) (made attributes)
+  -- the map of the files with this file at each path of the one at p
+  pub file_set : (p : Path) → number_at files p ≡ Some id → map_of (changed_files change files) ≡ put_at files p attributes bytes
+  file_set p is =
+      map_is (changed_files change files) (put_at files p attributes bytes)
       (same_nodes _ _ (λ q.
       plain_at q ∙ at q (get files q) refl
       ∙ sym (get-with_node_at (paths_of (map_of files).one p) (file attributes bytes) (plain_nodes files) q
       ∙ ap (λ b. cond b (Some (file attributes bytes)) (get (plain_nodes files) q))
       (paths_of-any (map_of files).one p q ∙ (pairs_of files).each p q ∙ ap (λ x. are_one x (number_at files q)) is))))
       (kernel_same (number_at files) (number_at (changed_files change files)) (map_of files).one numbers_stay (pairs_of files))
-      ∙ ap made own
     where
       at : (q : Path) (o : Option Numbered) → get files q ≡ o → option_map plain_node (option_map (with_bytes_in id attributes bytes) (get files q)) ≡ cond (are_one (Some id) (number_at files q)) (Some (file attributes bytes)) (get (plain_nodes files) q)
       at q None e = rw (get-plain files q, e) refl
@@ -128,6 +147,14 @@ module _ (files : NumberedFiles) (change : Change) (id : ℕ) (attributes : Attr
           by_number : (b : Bool) → (i == id) ≡ b → Some (file (if i == id then attributes else own) (if i == id then bytes else content)) ≡ cond (id == i) (Some (file attributes bytes)) (Some (file own content))
           by_number true f = rw (f, are_one-back (Some id) (Some i) ∙ f) refl
           by_number false f = rw (f, are_one-back (Some id) (Some i) ∙ f) refl
+
+  pub content_set : (p : Path) → number_at files p ≡ Some id → attributes ≡ attributes_at (plain_nodes files) p → map_of (changed_files change files) ≡ with_content (map_of files) p bytes
+  content_set p is own = file_set p is ∙ ap (λ (a : Attributes). put_at files p a bytes) own
+
+  pub attributes_set : (p : Path) → number_at files p ≡ Some id → bytes ≡ bytes_at (plain_nodes files) p → map_of (changed_files change files) ≡ with_attributes (map_of files) p attributes
+  attributes_set p is own =
+      file_set p is ∙ ap (λ (b : List ℕ). put_at files p attributes b) own
+      ∙ sym (ap (attributes_by files p attributes) (file_not_dir files p id is))
 
   pub rooted_set : IsRooted (plain_nodes files) → IsRooted (plain_nodes (changed_files change files))
   rooted_set rooted = rooted_same (plain_nodes files) rooted (plain_nodes (changed_files change files))
@@ -147,11 +174,67 @@ no_paths : (paths : List Path) → ((q : Path) → any_path q paths ≡ false) �
 no_paths [] none = refl
 no_paths (p ∷ paths) none = absurd (true≢false (sym (ap (λ b. b || any_path p paths) (same_path-self p)) ∙ none p))
 
+no_paths_there : (files : NumberedFiles) (p : Path) → number_at files p ≡ None → paths_of (map_of files).one p ≡ []
+no_paths_there files p none =
+    no_paths (paths_of (map_of files).one p) (λ q. paths_of-any (map_of files).one p q ∙ (pairs_of files).each p q ∙ ap (λ x. are_one x (number_at files q)) none)
+
 pub no_content_set : (files : NumberedFiles) (p : Path) (bytes : List ℕ) → number_at files p ≡ None → with_content (map_of files) p bytes ≡ map_of files
 no_content_set files p bytes none =
     let made : List Path → PathMap = λ paths. record { nodes = with_node_at paths (file (attributes_at (plain_nodes files) p) bytes) (plain_nodes files); one = (map_of files).one } in
-    ap made
-    (no_paths (paths_of (map_of files).one p) (λ q. paths_of-any (map_of files).one p q ∙ (pairs_of files).each p q ∙ ap (λ x. are_one x (number_at files q)) none))
+    ap made (no_paths_there files p none)
+
+pub no_attributes_set : (files : NumberedFiles) (p : Path) (attributes : Attributes) → is_dir_at (plain_nodes files) p ≡ false → number_at files p ≡ None → with_attributes (map_of files) p attributes ≡ map_of files
+no_attributes_set files p attributes not_dir none =
+    let made : List Path → PathMap = λ paths. record { nodes = with_node_at paths (file attributes (bytes_at (plain_nodes files) p)) (plain_nodes files); one = (map_of files).one } in
+    ap (attributes_by files p attributes) not_dir ∙ ap made (no_paths_there files p none)
+
+-- ---- other attributes of a directory
+
+module _ (files : NumberedFiles) (p : Path) (attributes : Attributes) (is_dir : is_dir_at (plain_nodes files) p ≡ true) where
+  dir_unnumbered : number_at files p ≡ None
+  dir_unnumbered = go (get files p) (sym (ap is_a_dir (get-plain files p)) ∙ is_dir)
+    where
+      go : (o : Option Numbered) → is_a_dir (option_map plain_node o) ≡ true → number_in o ≡ None
+      go None e = refl
+      go (Some (directory own)) e = refl
+      go (Some (numbered_file i own content)) e = absurd (true≢false (sym e))
+
+  dir_numbers : (q : Path) → number_at (insert files p (directory attributes)) q ≡ number_at files q
+  dir_numbers q = at (case_of q p)
+    where
+      at : Case q p → number_at (insert files p (directory attributes)) q ≡ number_at files q
+      at (same e) = rw e (ap number_in (put_there files p (directory attributes)) ∙ sym dir_unnumbered)
+      at (other apart) = ap number_in (put_elsewhere files p (directory attributes) q apart)
+
+  pub dir_set : map_of (insert files p (directory attributes)) ≡ with_attributes (map_of files) p attributes
+  dir_set =
+      map_is (insert files p (directory attributes)) (attributes_by files p attributes true) (plain-put files p (directory attributes))
+      (kernel_same (number_at files) (number_at (insert files p (directory attributes))) (map_of files).one dir_numbers (pairs_of files))
+      ∙ sym (ap (attributes_by files p attributes) is_dir)
+
+  pub dir_rooted : IsRooted (plain_nodes files) → IsRooted (plain_nodes (insert files p (directory attributes)))
+  dir_rooted rooted = rooted_same (plain_nodes files) rooted (plain_nodes (insert files p (directory attributes)))
+      (λ q e. dirs q e (case_of q p)) (λ q e. none q e (case_of q p))
+    where
+      got : (q : Path) → get (plain_nodes (insert files p (directory attributes))) q ≡ get (insert (plain_nodes files) p (dir attributes)) q
+      got q = ap (λ (nodes : Nodes). get nodes q) (plain-put files p (directory attributes))
+
+      dirs : (q : Path) → IsDirAt (plain_nodes files) q → Case q p → IsDirAt (plain_nodes (insert files p (directory attributes))) q
+      dirs q e (same here) = record {
+        attributes = attributes;
+        is = got q ∙ rw here (put_there (plain_nodes files) p (dir attributes));
+      }
+      dirs q e (other apart) = record {
+        attributes = e.attributes;
+        is = got q ∙ put_elsewhere (plain_nodes files) p (dir attributes) q apart ∙ e.is;
+      }
+
+      none : (q : Path) → get (plain_nodes files) q ≡ None → Case q p → get (plain_nodes (insert files p (directory attributes))) q ≡ None
+      none q e (same here) = absurd (true≢false (sym is_dir ∙ ap (λ x. is_dir_at (plain_nodes files) x) (sym here) ∙ ap is_a_dir e))
+      none q e (other apart) = got q ∙ put_elsewhere (plain_nodes files) p (dir attributes) q apart ∙ e
+
+  pub dir_below : (next : ℕ) → AreBelow files next → AreBelow (insert files p (directory attributes)) next
+  dir_below next are = record { below = λ q i e. are.below q i (sym (dir_numbers q) ∙ e) }
 
 -- ---- paths that move
 

@@ -32,6 +32,9 @@ pub data Call : Type 0 where
   snap_stat : List ℕ → Call
   snap_read : List ℕ → ℕ → ℕ → Call
   batch : List Piece → Call
+  -- a path and the number of an attribute; then the value to set
+  attribute : List ℕ → ℕ → Call
+  set_attribute : List ℕ → ℕ → ℕ → Call
 
 pub data Refusal : Type 0 where
   bad_path : Refusal
@@ -59,4 +62,5 @@ pub data Answer : Type 0 where
   dir_of : ℕ → Answer
   names : List (Kind × Name) → Answer
   links_of : ℕ → Answer
+  attribute_of : ℕ → Answer
   refused : Refusal → Answer

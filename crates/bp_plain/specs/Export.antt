@@ -89,7 +89,7 @@ pub record IsExportable (tree : FileTree) : Type 0 where
   pub sized : (path : Path) (attributes : Attributes) (content : List ℕ)
       → get tree.now.nodes path ≡ Some (file attributes content) → length content ≤ greatest_size tree.version
 
--- No file or directory has attributes. An exported tree must have none to be made again: no call sets attributes yet.
+-- No file or directory has attributes. An exported tree must have none to be made again: an export leaves them out.
 abbrev pub HasNoAttributes : PathMap → Type 0
 HasNoAttributes map = (path : Path) → attributes_at map.nodes path ≡ no_attributes
 

@@ -1,19 +1,19 @@
 -- The abstract file tree, and the answer and the effect of each call on it: first the node at each path, then which
 -- paths are one file, and last the calls.
-use Rattle.std.specs.Prelude.{ℕ, ◌+◌, ◌-◌, List, [], ◌∷◌, ◌++◌, map, length, take, drop, replicate, Bool, true, false, not, ◌&&◌, ◌||◌, ◌==◌, nat_lt, Option, None, Some, is_some, is_none, option_map, unwrap_or, if◌then◌else◌}
+use Rattle.std.specs.Prelude.{ℕ, ◌+◌, ◌-◌, List, [], ◌∷◌, ◌++◌, map, length, take, drop, replicate, Bool, true, false, not, ◌&&◌, ◌||◌, ◌==◌, nat_lt, Option, None, Some, is_some, is_none, option_map, unwrap_or, slice_index, slice_set, if◌then◌else◌}
 use Rattle.std.specs.List.{filter_map, list_any, sum_by}
 use Rattle.std.specs.FinMap.{FinMap, get, insert, remove, entries, from_entries}
 use Rattle.std.specs.FinSet as set
 use Rattle.bp_layout.specs.Paths.{Attributes, Name, Path, Node, no_attributes, same_path, rest_below, parse}
 use Rattle.bp_layout.specs.Paths.Node.{dir, file}
-use Rattle.bp_limits.specs.CallLimits.{greatest_size, greatest_write, allows_snapshot, max_batch}
+use Rattle.bp_limits.specs.CallLimits.{allows_attributes, greatest_size, greatest_write, allows_snapshot, max_batch}
 use Rattle.bp_plain.specs.PlainTree.{FileTree, Nodes, Aliases, PathMap, is_one, path_cmp}
 use Rattle.bp_layout.specs.declared.fields.Kind.{Kind}
 use Rattle.bp_layout.specs.declared.fields.Kind.TheVariants.{File, Dir}
 use Rattle.bp_plain.specs.Calls.{Call, Piece, Refusal, Answer}
-use Rattle.bp_plain.specs.Calls.Call.{create, mkdir, unlink, rmdir, list, stat, read, write, truncate, rename, link, links, upgrade, snap, unsnap, snap_list, snap_stat, snap_read, batch}
+use Rattle.bp_plain.specs.Calls.Call.{create, mkdir, unlink, rmdir, list, stat, read, write, truncate, rename, link, links, upgrade, snap, unsnap, snap_list, snap_stat, snap_read, batch, attribute, set_attribute}
 use Rattle.bp_plain.specs.Calls.Refusal.{bad_path, not_found, not_dir, is_dir, exists, not_empty, into_self, is_root, too_long, too_big, no_snap, has_snap, old_version, past_end}
-use Rattle.bp_plain.specs.Calls.Answer.{done, bytes, file_of, dir_of, names, links_of, refused}
+use Rattle.bp_plain.specs.Calls.Answer.{done, bytes, file_of, dir_of, names, links_of, attribute_of, refused}
 use Rattle.bp_limits.specs.declared.version.Version.TheVariants.{Two}
 
 -- ---- paths
@@ -208,6 +208,10 @@ with_attributes map path attributes = record {
   one = map.one;
 }
 
+abbrev pub with_attribute : PathMap → Path → ℕ → ℕ → PathMap
+with_attribute map path number value =
+    with_attributes map path (slice_set (attributes_at map.nodes path) number value)
+
 abbrev pub with_name : PathMap → Path → Path → PathMap
 with_name map path new = record {
   nodes = with_node map.nodes new (file (attributes_at map.nodes path) (bytes_at map.nodes path));
@@ -274,6 +278,10 @@ abbrev pub on_snap : Option PathMap → (Nodes → Option Refusal) → Option Re
 on_snap None refusals = Some no_snap
 on_snap (Some map) refusals = refusals map.nodes
 
+-- the first refusal of a call on the attributes of the file or directory at a path
+abbrev pub attribute_refusal : FileTree → Path → Option Refusal
+attribute_refusal tree p = first (when (not (allows_attributes tree.version)) old_version ∷ walk tree.now.nodes p ∷ [])
+
 -- the first refusal of a call in the order of the checks, or none if the call is carried out
 abbrev pub refusal : FileTree → Call → Option Refusal
 refusal tree (create text) = on_path text (new_refusal tree.now.nodes)
@@ -293,6 +301,8 @@ refusal tree (stat text) = on_path text (walk tree.now.nodes)
 refusal tree (link from to) = on_path from (λ p. on_path to (λ q. first (
     file_refusal tree.now.nodes p ∷ new_refusal tree.now.nodes q ∷ [])))
 refusal tree (links text) = on_path text (file_refusal tree.now.nodes)
+refusal tree (attribute text number) = on_path text (attribute_refusal tree)
+refusal tree (set_attribute text number value) = on_path text (attribute_refusal tree)
 refusal tree upgrade = None
 refusal tree snap = first (when (not (allows_snapshot tree.version)) old_version ∷ when (is_some tree.snap) has_snap ∷ [])
 refusal tree unsnap = when (is_none tree.snap) no_snap
@@ -318,6 +328,7 @@ tree_after tree (unlink text) = with_now tree (with_nothing tree.now (path_named
 tree_after tree (rmdir text) = with_now tree (with_nothing tree.now (path_named text))
 tree_after tree (rename from to) = with_now tree (with_moved tree.now (path_named from) (path_named to))
 tree_after tree (link from to) = with_now tree (with_name tree.now (path_named from) (path_named to))
+tree_after tree (set_attribute text number value) = with_now tree (with_attribute tree.now (path_named text) number value)
 tree_after tree upgrade = record tree { version = Two }
 tree_after tree snap = record tree { snap = Some tree.now }
 tree_after tree unsnap = record tree { snap = None }
@@ -336,6 +347,7 @@ changes tree (truncate text size) = not (size == length (bytes_at tree.now.nodes
 changes tree (rename from to) = not (same_path (path_named from) (path_named to))
     && not (is_one tree.now.one (path_named from) (path_named to))
 changes tree (link from to) = true
+changes tree (set_attribute text number value) = true
 changes tree upgrade = not (allows_snapshot tree.version)
 changes tree snap = true
 changes tree unsnap = true
@@ -364,6 +376,7 @@ answer tree (read text offset len) = read_answer tree.now.nodes text offset len
 answer tree (list text) = names (listing tree.now.nodes (path_named text))
 answer tree (stat text) = stat_answer tree.now.nodes (path_named text) (get tree.now.nodes (path_named text))
 answer tree (links text) = links_of (path_count tree.now.one (path_named text))
+answer tree (attribute text number) = attribute_of (slice_index (attributes_at tree.now.nodes (path_named text)) number)
 answer tree (snap_read text offset len) = read_answer (snap_nodes tree.snap) text offset len
 answer tree (snap_list text) = names (listing (snap_nodes tree.snap) (path_named text))
 answer tree (snap_stat text) =

@@ -8,7 +8,7 @@ use Rattle.bp_plain.specs.declared.replies.Held.{Held}
 use Rattle.bp_plain.specs.declared.replies.Held.TheVariants as held
 use Rattle.bp_plain.specs.declared.replies.Reply.TheInside.{Inside}
 use Rattle.bp_plain.specs.Calls.{Answer}
-use Rattle.bp_plain.specs.Calls.Answer.{done, bytes, file_of, dir_of, names, links_of, refused}
+use Rattle.bp_plain.specs.Calls.Answer.{done, bytes, file_of, dir_of, names, links_of, attribute_of, refused}
 use Rattle.bp_plain.specs.ReplyView.{ReplyView}
 use Rattle.bp_plain.specs.Seen.{refusal_of}
 
@@ -19,6 +19,7 @@ answer_seen (given.FileOf size) = file_of size
 answer_seen (given.DirOf count) = dir_of count
 answer_seen (given.Names listing) = names listing.now
 answer_seen (given.LinksOf count) = links_of count
+answer_seen (given.AttributeOf value) = attribute_of value
 answer_seen (given.Refused error) = refused (refusal_of error)
 
 -- the answer that a reply holds; for an answer of bytes, the first `count` bytes of its buffer
@@ -29,6 +30,7 @@ held_answer (held.FileOf size) buffer = file_of size
 held_answer (held.DirOf count) buffer = dir_of count
 held_answer (held.Names listing) buffer = names listing
 held_answer (held.LinksOf count) buffer = links_of count
+held_answer (held.AttributeOf value) buffer = attribute_of value
 held_answer (held.Refused error) buffer = refused (refusal_of error)
 
 abbrev pub reply_seen : Inside → ReplyView

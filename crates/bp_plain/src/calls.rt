@@ -95,6 +95,22 @@ pub enum Call<'a> {
         /// Greatest number of bytes to return.
         len: usize,
     },
+    /// Returns an attribute of the file or directory at a path.
+    Attribute {
+        /// Path of the file or directory.
+        path: &'a [u8],
+        /// Number of the attribute, from 0 to 2.
+        number: u64,
+    },
+    /// Sets an attribute of the file or directory at a path. The file system gives it no meaning.
+    SetAttribute {
+        /// Path of the file or directory.
+        path: &'a [u8],
+        /// Number of the attribute, from 0 to 2.
+        number: u64,
+        /// New value.
+        value: u64,
+    },
     /// Writes bytes to one or several files, all at once: the pieces are written in their order.
     Batch {
         /// Text that contains the paths and bytes of the pieces.

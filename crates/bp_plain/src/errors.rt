@@ -56,7 +56,7 @@ pub enum FsError {
     /// There is a snapshot already.
     #[error("a snapshot is there")]
     HasSnap,
-    /// The format is of version 1, which has no snapshots.
+    /// The version of the format has no snapshots (version 1), or no attributes (versions 1 and 2).
     #[error("old version")]
     OldVersion,
     /// Bytes of a batch end past the end of their file.

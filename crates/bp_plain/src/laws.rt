@@ -40,7 +40,7 @@ pub fn format_is_empty(_image: &[u64], _version: Version, _blocks: u64)
 {}
 
 /// States that all calls of a tree's export succeed, applied one after the other to the empty tree of its version, and
-/// make that tree without its snapshot, if nothing in it has attributes: no call sets them yet.
+/// make that tree without its snapshot, if nothing in it has attributes: an export leaves them out.
 pub fn exports_come_back()
     ensures { (tree : FileTree) → IsExportable tree → HasNoAttributes tree.now →
         AllDone (empty_tree tree.version) (export_calls tree) (without_snapshot tree) }

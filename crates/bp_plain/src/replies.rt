@@ -1,7 +1,7 @@
 //! The answers of calls.
 
 ghost use Rattle.bp_limits.specs.Limits.{max_read};
-ghost use Rattle.bp_plain.specs.Calls.Answer.{bytes, dir_of, done, file_of, links_of, names, refused};
+ghost use Rattle.bp_plain.specs.Calls.Answer.{attribute_of, bytes, dir_of, done, file_of, links_of, names, refused};
 ghost use Rattle.bp_plain.specs.Seen.{refusal_of};
 ghost use Rattle.std.specs.Prelude.{IfOk, length, take, ◌≡◌, ◌≤◌};
 
@@ -26,6 +26,8 @@ pub enum Answer<'a> {
     Names(&'a Listing),
     /// A file, with the number of its paths.
     LinksOf(u32),
+    /// The value of an attribute.
+    AttributeOf(u64),
     /// The call was refused, and has changed nothing.
     Refused(FsError),
 }
@@ -39,6 +41,7 @@ enum Held {
     DirOf(u64),
     Names(Listing),
     LinksOf(u32),
+    AttributeOf(u64),
     Refused(FsError),
 }
 
@@ -91,6 +94,7 @@ impl Reply {
             Held::DirOf(count) => Answer::DirOf(*count),
             Held::Names(listing) => Answer::Names(listing),
             Held::LinksOf(count) => Answer::LinksOf(*count),
+            Held::AttributeOf(value) => Answer::AttributeOf(*value),
             Held::Refused(error) => Answer::Refused(*error),
         }
     }
@@ -143,6 +147,14 @@ impl Reply {
         ensures buffer { self.new.buffer ≡ self.old.buffer }
     {
         self.held = Held::LinksOf(count);
+    }
+
+    /// Sets the answer to the value of an attribute.
+    pub fn set_attribute(&mut self, value: u64)
+        ensures answer { self.new.answer ≡ attribute_of value }
+        ensures buffer { self.new.buffer ≡ self.old.buffer }
+    {
+        self.held = Held::AttributeOf(value);
     }
 
     /// Sets the answer to a refusal.

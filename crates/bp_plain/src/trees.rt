@@ -1,13 +1,13 @@
 //! The abstract file tree as a program. It is slow and easy to understand; tests compare a volume with it.
 
-ghost use Rattle.bp_limits.specs.Limits.{max_read};
-ghost use Rattle.bp_limits.specs.CallLimits.{allows_snapshot};
-ghost use Rattle.bp_plain.specs.Calls.Call.{create, link, links, list, mkdir, read, rmdir, snap, snap_list, snap_read, snap_stat, stat, truncate, unlink, unsnap, upgrade, write};
+ghost use Rattle.bp_limits.specs.Limits.{attributes, max_read};
+ghost use Rattle.bp_limits.specs.CallLimits.{allows_attributes, allows_snapshot};
+ghost use Rattle.bp_plain.specs.Calls.Call.{attribute, create, link, links, list, mkdir, read, rmdir, set_attribute, snap, snap_list, snap_read, snap_stat, stat, truncate, unlink, unsnap, upgrade, write};
 ghost use Rattle.bp_plain.specs.Plain as plain;
 ghost use Rattle.bp_plain.specs.PlainTree.{empty_tree};
 ghost use Rattle.bp_plain.specs.Seen.{CanAsk, call_of, refusal_of};
 ghost use Rattle.bp_plain.specs.SeenTree.{carried_out, names_of};
-ghost use Rattle.std.specs.Prelude.{IfOk, None, OnErr, OnOk, ◌≡◌, ◌≤◌, not, option_map};
+ghost use Rattle.std.specs.Prelude.{IfOk, None, OnErr, OnOk, ◌<◌, ◌≡◌, ◌≤◌, not, option_map};
 
 mod batches;
 mod entries;
@@ -82,8 +82,8 @@ impl Plain {
         }
     }
 
-    /// Carries out a call and puts its answer into the reply. A read may ask for at most 65,536 bytes, and a batch has
-    /// 1 to 16 pieces whose parts lie within its text.
+    /// Carries out a call and puts its answer into the reply. A read may ask for at most 65,536 bytes, a batch has 1
+    /// to 16 pieces whose parts lie within its text, and the number of an attribute is at most 2.
     ///
     /// # Errors
     ///
@@ -137,6 +137,8 @@ impl Plain {
             Call::SnapRead { path, offset, len } => self.refuses_snap_read(
                 alloc, path, offset, len,
             ),
+            Call::Attribute { path, .. } | Call::SetAttribute { path, .. } =>
+                self.refuses_attribute(alloc, path),
             Call::Batch { text, pieces } => self.refuses_batch(alloc, text, pieces),
         }
     }
@@ -321,6 +323,20 @@ impl Plain {
         }
     }
 
+    /// Returns why an attribute cannot be returned. Setting it has the same refusals.
+    fn refuses_attribute(&self, alloc: Global, text: &[u8]) -> Result<Option<FsError>, AllocError>
+        ensures { IfOk result (λ found.
+            option_map refusal_of found ≡ plain.on_path text.now (plain.attribute_refusal self.now)) }
+    {
+        match parse(alloc, text)? {
+            None => Ok(Some(FsError::BadPath)),
+            Some(path) => Ok(first(&[
+                when(!has_attributes(self.version()), FsError::OldVersion),
+                self.current().walk(&path),
+            ])),
+        }
+    }
+
     /// Returns why a path is no directory of the snapshot.
     fn refuses_dir_then(&self, path: &[Name]) -> Option<FsError>
         ensures { option_map refusal_of result
@@ -390,6 +406,12 @@ impl Plain {
             Call::SnapList(text) => self.snap_list(alloc, text, reply),
             Call::SnapStat(text) => self.snap_stat(alloc, text, reply),
             Call::SnapRead { path, offset, len } => self.snap_read(alloc, path, offset, len, reply),
+            Call::Attribute { path, number } => self.attribute(alloc, path, number, reply),
+            Call::SetAttribute {
+                path,
+                number,
+                value,
+            } => self.set_attribute(alloc, path, number, value, reply),
             Call::Batch { text, pieces } => self.batch(alloc, text, pieces, reply),
         }
     }
@@ -593,6 +615,40 @@ impl Plain {
             None => unreachable!(),
         }
     }
+
+    fn attribute(
+        &self,
+        alloc: Global,
+        text: &[u8],
+        number: u64,
+        reply: &mut Reply,
+    ) -> Result<(), AllocError>
+        requires { number < attributes }
+        ensures { OnOk result ((reply.new.answer, self.now) ≡ carried_out self.now (attribute text.now number)) }
+    {
+        let path = path_of(alloc, text)?;
+        reply.set_attribute(self.current().attribute(&path, number));
+        Ok(())
+    }
+
+    fn set_attribute(
+        &mut self,
+        alloc: Global,
+        text: &[u8],
+        number: u64,
+        value: u64,
+        reply: &mut Reply,
+    ) -> Result<(), AllocError>
+        requires { number < attributes }
+        ensures done { OnOk result
+            ((reply.new.answer, self.new) ≡ carried_out self.old (set_attribute text.now number value)) }
+        ensures kept { OnErr result (self.new ≡ self.old) }
+    {
+        let path = path_of(alloc, text)?;
+        self.current.set_attribute(alloc, &path, number, value)?;
+        reply.set_done();
+        Ok(())
+    }
 }
 
 /// Returns whether a version has no snapshots.
@@ -602,5 +658,15 @@ fn is_old(version: Version) -> bool
     match version {
         Version::One => true,
         Version::Two | Version::Three => false,
+    }
+}
+
+/// Returns whether files and directories have attributes in a version.
+fn has_attributes(version: Version) -> bool
+    ensures { result ≡ allows_attributes version }
+{
+    match version {
+        Version::One | Version::Two => false,
+        Version::Three => true,
     }
 }

@@ -5,7 +5,7 @@ use Rattle.std.proofs.lemmas.List.Elements.{All-head, All-replicate, All-set, Al
 use Rattle.std.proofs.lemmas.List.Sums.{sum_by_push}
 use Rattle.bp_limits.specs.Limits.{log_events}
 use Rattle.bp_plain.specs.Calls.{Answer, Refusal}
-use Rattle.bp_plain.specs.Calls.Answer.{done, bytes, file_of, dir_of, links_of, refused}
+use Rattle.bp_plain.specs.Calls.Answer.{done, bytes, file_of, dir_of, links_of, attribute_of, refused}
 use Rattle.bp_plain.specs.Calls.Answer.{names as listed}
 use Rattle.bp_plain.specs.Calls.Refusal.{bad_path, not_found, not_dir, is_dir, exists, not_empty, into_self, is_root, too_long, too_big, no_space, no_memory, no_snap, has_snap, old_version, past_end}
 use Rattle.bp_plain.specs.Refusals.{refusal_number}
@@ -75,6 +75,7 @@ none_counted (file_of size) count e = refl
 none_counted (dir_of size) count e = refl
 none_counted (listed entries) count e = refl
 none_counted (links_of names) count e = refl
+none_counted (attribute_of value) count e = refl
 none_counted (refused why) count e = absurd (let no : false ≡ true = e in cc)
 
 pub ok_counted : (old : Summary) (answer : Answer) → is_carried_out answer ≡ true → CountsReply old (answered answer) (summary (old.ok + 1) old.refused old.crashes old.kept old.of)

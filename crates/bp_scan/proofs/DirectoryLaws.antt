@@ -1,8 +1,8 @@
 -- A directory is taken up, and is done.
-use Rattle.std.proofs.Common.{◌≡◌, ℕ, zero, suc, ◌+◌, ◌*◌, ◌/◌, ◌<◌, ◌≤◌, Bool, true, length, sym, ◌∙◌, ap, subst, arith}
+use Rattle.std.proofs.Common.{◌≡◌, ℕ, zero, suc, ◌+◌, ◌/◌, ◌<◌, ◌≤◌, Bool, true, length, sym, ◌∙◌, ap, subst, arith}
 use Rattle.bp_free.specs.Set.{Set, has, members, without, IsLeast}
 use Rattle.bp_free.proofs.Members.{count_without}
-use Rattle.bp_layout.specs.Words.{Image, block_count}
+use Rattle.bp_layout.specs.Words.{Image}
 use Rattle.bp_layout.specs.Tree.{IsSound, IsFull}
 use Rattle.bp_layout.specs.Inode.{kind_of, root_of, size_of}
 use Rattle.bp_layout.specs.Checks.{Fails}

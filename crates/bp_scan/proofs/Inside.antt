@@ -1,5 +1,5 @@
 -- What is known in the middle of a scan, of the inode file and of the directory at hand.
-use Rattle.std.proofs.Common.{◌≡◌, ◌⊎◌, ℕ, zero, suc, ◌+◌, ◌*◌, ◌/◌, ◌<◌, ◌≤◌, true, false, length, refl, sym, subst, arith, inl, inr}
+use Rattle.std.proofs.Common.{◌≡◌, ◌⊎◌, ℕ, zero, suc, ◌+◌, ◌*◌, ◌<◌, ◌≤◌, true, false, length, refl, sym, subst, arith, inl, inr}
 use Rattle.bp_free.specs.Set.{has}
 use Rattle.bp_layout.specs.Words.{Image, block_count}
 use Rattle.bp_layout.specs.Tree.{IsSound, IsFull}

@@ -1,7 +1,7 @@
 -- Properties that hold while the trees of an image are read.
-use Rattle.std.specs.Prelude.{length, replicate, true, false, ◌≡◌, ◌⊎◌, ℕ, ◌+◌, ◌*◌, ◌/◌, ◌%◌, ◌<◌, ◌≤◌}
+use Rattle.std.specs.Prelude.{length, replicate, true, false, ◌≡◌, ◌⊎◌, ℕ, ◌+◌, ◌*◌, ◌%◌, ◌<◌, ◌≤◌}
 use Rattle.bp_free.specs.Set.{Set, has, members, empty}
-use Rattle.bp_limits.specs.Limits.{block_size, block_inodes, entry_size, root_ino}
+use Rattle.bp_limits.specs.Limits.{block_size, block_inodes, root_ino}
 use Rattle.bp_layout.specs.Words.{Image, block_count}
 use Rattle.bp_layout.specs.Inode.{IsDirectory, inode_count, root_of, size_of}
 use Rattle.bp_layout.specs.Formatted.{IsFormatted}

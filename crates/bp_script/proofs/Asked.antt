@@ -14,4 +14,6 @@ can_be_asked (Ok (asks.Call (given.Batch text pieces))) served parts =
     let len = length-map pieces.now (piece_in text.now) in (omega (arith, len, served.0), omega (arith, len, served.1), parts)
 can_be_asked (Ok (asks.Call (given.Read path offset len))) served parts = served
 can_be_asked (Ok (asks.Call (given.SnapRead path offset len))) served parts = served
+can_be_asked (Ok (asks.Call (given.Attribute path number))) served parts = served
+can_be_asked (Ok (asks.Call (given.SetAttribute path number value))) served parts = served
 can_be_asked asked served parts = tt

@@ -10,7 +10,7 @@ use Rattle.std.specs.Str.Parse.{AllDigits}
 use Rattle.std.specs.Int.{IsInRange}
 use Rattle.std.proofs.lemmas.Str.Parse.{digit_from_value}
 use Rattle.std.proofs.lemmas.Bool.Decides.{nat_tests}
-use Rattle.std.proofs.lemmas.Bool.{eqb-true, le-ltb, ltb-true, ne_eqb, le-leb}
+use Rattle.std.proofs.lemmas.Bool.{eqb-true, le-ltb, lt-ltb, ltb-true, ne_eqb, le-leb}
 use Rattle.std.proofs.lemmas.List.Folds.{list_all-append}
 use Rattle.std.proofs.lemmas.List.Sums.{list_all-from_AllPass}
 use Rattle.std.proofs.lemmas.Fmt.{decimal_is_IsNumeral, decimal_nonempty, length-decimal-le}
@@ -18,9 +18,9 @@ use Rattle.hex.specs.Hex.{encode_lower, is_hex_digit, IsBytes, lower_digits}
 use Rattle.hex.proofs.HexLemmas.{decode_of-encode_lower, decode_of-ok, length-encode_with}
 use Rattle.percent_encoding.specs.Percent.{percent_encode_byte}
 use Rattle.percent_encoding.proofs.PercentLemmas.{percent_decode-nil, percent_decode_not_percent, percent_decode-percent_encode_byte}
-use Rattle.bp_limits.specs.Limits.{max_line, max_read}
+use Rattle.bp_limits.specs.Limits.{attributes, max_line, max_read}
 use Rattle.bp_plain.specs.Calls.{Call}
-use Rattle.bp_plain.specs.Calls.Call.{create, mkdir, unlink, rmdir, list, stat, read, write, truncate, rename, link, links, upgrade, snap, unsnap, snap_list, snap_stat, snap_read, batch}
+use Rattle.bp_plain.specs.Calls.Call.{create, mkdir, unlink, rmdir, list, stat, read, write, truncate, rename, link, links, upgrade, snap, unsnap, snap_list, snap_stat, snap_read, batch, attribute, set_attribute}
 use Rattle.bp_script.specs.Commands.{asked_by, bytes_spelled, command_of, decoded, decoded_call, is_empty_word, number_spelled, pair_command, part_bytes, path_bytes, unslashed, word_command, words_of}
 use Rattle.bp_script.specs.Commands.Command.{file_call}
 use Rattle.bp_plain.specs.Export.{are_bytes}
@@ -268,6 +268,19 @@ module _ (text : List ℕ) (word : IsWord text) where
       line : call_line (truncate text size) ≡ codes "truncate " ++ (w ++ 32 ∷ decimal size)
       line = simp append_assoc
 
+  attribute_asks : (number : ℕ) → number < attributes → IsRead (attribute text number)
+  attribute_asks number few fits =
+      asks (attribute text number) (codes "attr" ∷ w ∷ decimal number ∷ []) (attribute w number) fits
+      (ap words_of line ∙ ap (λ ws. codes "attr" ∷ ws) (words-prefix w (decimal number) has.whole ∙ ap (λ ws. w ∷ ws) (words-last (decimal number) (decimal_whole number small))))
+      (rw (has.some, filled (decimal number) (decimal_nonempty number small), decimal_spells number small, lt-ltb number attributes few) refl)
+      (ap (λ p. file_call (attribute p number)) has.is)
+    where
+      small : number < 2 ^ 64
+      small = omega (arith, few)
+
+      line : call_line (attribute text number) ≡ codes "attr " ++ (w ++ 32 ∷ decimal number)
+      line = simp append_assoc
+
   -- a verb, a path and two words
   three_words : (first second : List ℕ) → is_whole first ≡ true → is_whole second ≡ true
       → words_of (w ++ 32 ∷ (first ++ 32 ∷ second)) ≡ w ∷ first ∷ second ∷ []
@@ -299,6 +312,19 @@ module _ (text : List ℕ) (word : IsWord text) where
       small = omega (arith, few)
 
       line : call_line (snap_read text offset len) ≡ codes "sread " ++ (w ++ 32 ∷ (decimal offset ++ 32 ∷ decimal len))
+      line = simp append_assoc
+
+  set_attribute_asks : (number value : ℕ) → number < attributes → value < 2 ^ 64 → IsRead (set_attribute text number value)
+  set_attribute_asks number value few low fits =
+      asks (set_attribute text number value) (codes "setattr" ∷ w ∷ decimal number ∷ decimal value ∷ []) (set_attribute w number value) fits
+      (ap words_of line ∙ ap (λ ws. codes "setattr" ∷ ws) (three_words (decimal number) (decimal value) (decimal_whole number small) (decimal_whole value low)))
+      (rw (has.some, filled (decimal number) (decimal_nonempty number small), filled (decimal value) (decimal_nonempty value low), decimal_spells number small, decimal_spells value low, lt-ltb number attributes few) refl)
+      (ap (λ p. file_call (set_attribute p number value)) has.is)
+    where
+      small : number < 2 ^ 64
+      small = omega (arith, few)
+
+      line : call_line (set_attribute text number value) ≡ codes "setattr " ++ (w ++ 32 ∷ (decimal number ++ 32 ∷ decimal value))
       line = simp append_assoc
 
   write_asks : (offset : ℕ) (new : List ℕ) → offset < 2 ^ 64 → are_bytes new ≡ true → IsRead (write text offset new)
@@ -344,4 +370,6 @@ call_asks unsnap is = λ fits. refl
 call_asks (snap_list text) is = path_asks text is (codes "slist") snap_list refl refl (λ p. refl) (λ p. refl) refl
 call_asks (snap_stat text) is = path_asks text is (codes "sstat") snap_stat refl refl (λ p. refl) (λ p. refl) refl
 call_asks (snap_read text offset len) is = snap_read_asks text is.0 offset len is.1 is.2
+call_asks (attribute text number) is = attribute_asks text is.0 number is.1
+call_asks (set_attribute text number value) is = set_attribute_asks text is.0 number value is.1 is.2
 call_asks (batch pieces) is = absurd is

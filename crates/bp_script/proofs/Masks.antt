@@ -8,7 +8,7 @@ use Rattle.hex.specs.Hex.{decode_of}
 use Rattle.hex.specs.declared.error.FromHexError.{FromHexError}
 use Rattle.hex.proofs.HexLemmas.{decode_of-ok}
 use Rattle.bp_limits.specs.Limits.{max_pieces}
-use Rattle.bp_script.specs.Commands.{Command, asked_by, bare_command, batch_of, bytes_spelled, cache_command, command_by_words, decoded, in_grammar, is_empty_word, length_spelled, mask_in, masked_crash, number_spelled, pair_command, path_command, piece_words, read_command, row_command, snap_read_command, storm_command, truncate_command, whole_crash, word_command, words_of, write_command}
+use Rattle.bp_script.specs.Commands.{Command, asked_by, attribute_command, attribute_number, bare_command, batch_of, bytes_spelled, cache_command, command_by_words, decoded, in_grammar, is_empty_word, length_spelled, mask_in, masked_crash, number_spelled, pair_command, path_command, piece_words, read_command, row_command, set_attribute_command, snap_read_command, storm_command, truncate_command, whole_crash, word_command, words_of, write_command}
 use Rattle.bp_replay.specs.Wanted.Wanted.{all, nothing}
 use Rattle.bp_script.specs.Commands.Command.{file_call, sync, space, crash, log, bad_syntax}
 use Rattle.bp_plain.specs.Calls.{Piece}
@@ -62,11 +62,16 @@ truncate_none : (path : List ℕ) (size : Option ℕ) → mask_in (truncate_comm
 truncate_none path None = refl
 truncate_none path (Some size) = refl
 
+attribute_none : (path : List ℕ) (number : Option ℕ) → mask_in (attribute_command path number) ≡ []
+attribute_none path None = refl
+attribute_none path (Some number) = refl
+
 pair_none : (verb first second : List ℕ) → mask_in (pair_command verb first second) ≡ []
 pair_none verb first second =
     none_either (bytes_eq verb (codes "truncate")) (truncate_command first (number_spelled second)) _ (truncate_none first (number_spelled second))
     (none_either (bytes_eq verb (codes "rename")) (file_call (rename first second)) _ refl
-    (none_either (bytes_eq verb (codes "link")) (file_call (link first second)) bad_syntax refl refl))
+    (none_either (bytes_eq verb (codes "link")) (file_call (link first second)) _ refl
+    (none_either (bytes_eq verb (codes "attr")) (attribute_command first (attribute_number (number_spelled second))) bad_syntax (attribute_none first (attribute_number (number_spelled second))) refl)))
 
 read_none : (path : List ℕ) (offset len : Option ℕ) → mask_in (read_command path offset len) ≡ []
 read_none path None len = refl
@@ -82,6 +87,11 @@ write_none : (path : List ℕ) (offset : Option ℕ) (new : Option (List ℕ)) �
 write_none path None new = refl
 write_none path (Some offset) None = refl
 write_none path (Some offset) (Some new) = refl
+
+set_attribute_none : (path : List ℕ) (number value : Option ℕ) → mask_in (set_attribute_command path number value) ≡ []
+set_attribute_none path None value = refl
+set_attribute_none path (Some number) None = refl
+set_attribute_none path (Some number) (Some value) = refl
 
 -- ---- a mask that is spelled
 
@@ -109,13 +119,14 @@ none_short : (digits : ℕ) (mask : List ℕ) → mask ≡ [] → 2 * length mas
 none_short digits mask e = omega (arith, ap length e)
 
 -- of a line of four words, by its verb
-long_short : (digits : ℕ) (a b c d : Bool) (x y z u : Command) → mask_in x ≡ [] → mask_in y ≡ [] → 2 * length (mask_in z) ≤ digits → mask_in u ≡ []
-    → 2 * length (mask_in (if a then x else if b then y else if c then z else if d then u else bad_syntax)) ≤ digits
-long_short digits true b c d x y z u p q r s = none_short digits (mask_in x) p
-long_short digits false true c d x y z u p q r s = none_short digits (mask_in y) q
-long_short digits false false true d x y z u p q r s = r
-long_short digits false false false true x y z u p q r s = none_short digits (mask_in u) s
-long_short digits false false false false x y z u p q r s = omega arith
+long_short : (digits : ℕ) (a b c d e : Bool) (x y z u v : Command) → mask_in x ≡ [] → mask_in y ≡ [] → 2 * length (mask_in z) ≤ digits → mask_in u ≡ [] → mask_in v ≡ []
+    → 2 * length (mask_in (if a then x else if b then y else if c then z else if d then u else if e then v else bad_syntax)) ≤ digits
+long_short digits true b c d e x y z u v p q r s t = none_short digits (mask_in x) p
+long_short digits false true c d e x y z u v p q r s t = none_short digits (mask_in y) q
+long_short digits false false true d e x y z u v p q r s t = r
+long_short digits false false false true e x y z u v p q r s t = none_short digits (mask_in u) s
+long_short digits false false false false true x y z u v p q r s t = none_short digits (mask_in v) t
+long_short digits false false false false false x y z u v p q r s t = omega arith
 
 batch_none : (found : Option (List Piece)) → mask_in (batch_of found) ≡ []
 batch_none None = refl
@@ -126,12 +137,13 @@ row_short digits verb [] fit = none_short digits (mask_in (bare_command verb)) (
 row_short digits verb (word ∷ []) fit = none_short digits (mask_in (word_command verb word)) (word_none verb word)
 row_short digits verb (first ∷ second ∷ []) fit = none_short digits (mask_in (pair_command verb first second)) (pair_none verb first second)
 row_short digits verb (first ∷ second ∷ third ∷ []) fit =
-    long_short digits (bytes_eq verb (codes "read")) (bytes_eq verb (codes "write")) (bytes_eq verb (codes "crash")) (bytes_eq verb (codes "sread"))
+    long_short digits (bytes_eq verb (codes "read")) (bytes_eq verb (codes "write")) (bytes_eq verb (codes "crash")) (bytes_eq verb (codes "sread")) (bytes_eq verb (codes "setattr"))
     (read_command first (number_spelled second) (length_spelled third)) (write_command first (number_spelled second) (bytes_spelled third)) (masked_crash (number_spelled first) (number_spelled second) (bytes_spelled third))
-    (snap_read_command first (number_spelled second) (length_spelled third))
+    (snap_read_command first (number_spelled second) (length_spelled third)) (set_attribute_command first (attribute_number (number_spelled second)) (number_spelled third))
     (read_none first (number_spelled second) (length_spelled third)) (write_none first (number_spelled second) (bytes_spelled third))
     (masked_short digits (number_spelled first) (number_spelled second) (bytes_spelled third) (λ bytes is. omega (arith, bytes_short third bytes is, fit.1.1.0)))
     (snap_read_none first (number_spelled second) (length_spelled third))
+    (set_attribute_none first (attribute_number (number_spelled second)) (number_spelled third))
 row_short digits verb (a ∷ b ∷ c ∷ d ∷ words) fit = omega arith
 
 words_short : (digits : ℕ) (words : List (List ℕ)) → AllByRecursion (λ word. length word ≤ digits) words → 2 * length (mask_in (command_by_words words)) ≤ digits

@@ -5,7 +5,7 @@ use Rattle.bp_plain.specs.Calls.{Call}
 use Rattle.bp_plain.specs.Calls.Call.{create, mkdir, unlink, rmdir, list, stat, rename, link, links, upgrade, snap, unsnap, snap_list, snap_stat, batch}
 use Rattle.bp_plain.specs.declared.calls.Call.TheVariants as given
 use Rattle.bp_replay.specs.Wanted.Wanted.{all, nothing}
-use Rattle.bp_script.specs.Commands.{Command, bare_command, bytes_spelled, cache_command, decoded, decoded_call, length_spelled, long_command, masked_crash, number_spelled, pair_command, path_command, read_command, snap_read_command, storm_command, truncate_command, whole_crash, word_command, write_command}
+use Rattle.bp_script.specs.Commands.{Command, attribute_command, attribute_number, bare_command, bytes_spelled, cache_command, decoded, decoded_call, length_spelled, long_command, masked_crash, number_spelled, pair_command, path_command, read_command, set_attribute_command, snap_read_command, storm_command, truncate_command, whole_crash, word_command, write_command}
 use Rattle.bp_script.specs.Commands.Command.{file_call, sync, space, crash, log, bad_syntax}
 use Rattle.bp_script.specs.Lines.{HasItsParts, line_asks}
 use Rattle.bp_script.specs.declared.lines.Line.{Line}
@@ -46,6 +46,17 @@ none_truncate : (path : List ℕ) (size : Option ℕ) → has_batch (truncate_co
 unfolding has_batch is_batch
 none_truncate path (Some size) = refl
 none_truncate path None = refl
+
+none_attribute : (path : List ℕ) (number : Option ℕ) → has_batch (attribute_command path number) ≡ false
+unfolding has_batch is_batch
+none_attribute path (Some number) = refl
+none_attribute path None = refl
+
+none_set_attribute : (path : List ℕ) (number value : Option ℕ) → has_batch (set_attribute_command path number value) ≡ false
+unfolding has_batch is_batch
+none_set_attribute path (Some number) (Some value) = refl
+none_set_attribute path None value = refl
+none_set_attribute path (Some number) None = refl
 
 none_whole : (word : List ℕ) → has_batch (whole_crash word) ≡ false
 unfolding has_batch
@@ -100,7 +111,8 @@ unfolding has_batch is_batch
 none_pair verb first second =
     either (bytes_eq verb (codes "truncate")) (truncate_command first (number_spelled second)) _ (none_truncate first (number_spelled second))
     (either (bytes_eq verb (codes "rename")) (file_call (rename first second)) _ refl
-    (either (bytes_eq verb (codes "link")) (file_call (link first second)) bad_syntax refl refl))
+    (either (bytes_eq verb (codes "link")) (file_call (link first second)) _ refl
+    (either (bytes_eq verb (codes "attr")) (attribute_command first (attribute_number (number_spelled second))) bad_syntax (none_attribute first (attribute_number (number_spelled second))) refl)))
 
 pub none_long : (verb first second third : List ℕ) → has_batch (long_command verb first second third) ≡ false
 unfolding has_batch
@@ -108,7 +120,8 @@ none_long verb first second third =
     either (bytes_eq verb (codes "read")) (read_command first (number_spelled second) (length_spelled third)) _ (none_read first (number_spelled second) (length_spelled third))
     (either (bytes_eq verb (codes "write")) (write_command first (number_spelled second) (bytes_spelled third)) _ (none_write first (number_spelled second) (bytes_spelled third))
     (either (bytes_eq verb (codes "crash")) (masked_crash (number_spelled first) (number_spelled second) (bytes_spelled third)) _ (none_masked (number_spelled first) (number_spelled second) (bytes_spelled third))
-    (either (bytes_eq verb (codes "sread")) (snap_read_command first (number_spelled second) (length_spelled third)) bad_syntax (none_snap_read first (number_spelled second) (length_spelled third)) refl)))
+    (either (bytes_eq verb (codes "sread")) (snap_read_command first (number_spelled second) (length_spelled third)) _ (none_snap_read first (number_spelled second) (length_spelled third))
+    (either (bytes_eq verb (codes "setattr")) (set_attribute_command first (attribute_number (number_spelled second)) (number_spelled third)) bad_syntax (none_set_attribute first (attribute_number (number_spelled second)) (number_spelled third)) refl))))
 
 -- decoded paths make no batch of another call
 decoded_none : (call : Call) → is_batch (decoded_call call) ≡ is_batch call

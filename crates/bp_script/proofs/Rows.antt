@@ -14,7 +14,7 @@ use Rattle.hex.specs.Hex.{decode_of, is_hex_digit}
 use Rattle.hex.specs.declared.error.FromHexError.{FromHexError}
 use Rattle.hex.proofs.HexLemmas.{decode_of-ok}
 use Rattle.bp_plain.specs.Calls.Call.{upgrade, snap, unsnap}
-use Rattle.bp_script.specs.Commands.{Command, asked_by, bare_command, batch_of, bytes_spelled, command_by_words, decoded, is_empty_word, long_command, masked_crash, number_spelled, pair_command, path_bytes, piece_words, read_command, row_command, snap_read_command, whole_crash, word_command, words_of, write_command}
+use Rattle.bp_script.specs.Commands.{Command, asked_by, attribute_number, bare_command, batch_of, bytes_spelled, command_by_words, decoded, is_empty_word, long_command, masked_crash, number_spelled, pair_command, path_bytes, piece_words, read_command, row_command, set_attribute_command, snap_read_command, whole_crash, word_command, words_of, write_command}
 use Rattle.bp_replay.specs.Wanted.Wanted.{all, nothing}
 use Rattle.bp_script.specs.Commands.Command.{bad_syntax, crash, file_call, log, space, sync}
 use Rattle.bp_script.specs.Lines.{path_row}
@@ -126,6 +126,10 @@ no_bytes : (path : List ℕ) (offset : Option ℕ) → write_command path offset
 no_bytes path None = refl
 no_bytes path (Some offset) = refl
 
+no_value : (path : List ℕ) (number : Option ℕ) → set_attribute_command path number None ≡ bad_syntax
+no_value path None = refl
+no_value path (Some number) = refl
+
 no_mask : (moment epoch : Option ℕ) → masked_crash moment epoch None ≡ bad_syntax
 no_mask None epoch = refl
 no_mask (Some moment) None = refl
@@ -140,15 +144,17 @@ long_with_space verb first second third i inside is =
       no_bytes first (number_spelled second),
       no_mask (number_spelled first) (number_spelled second),
       no_snap_length first (number_spelled second),
+      no_value first (attribute_number (number_spelled second)),
     )
-    (go (bytes_eq verb (codes "read")) (bytes_eq verb (codes "write")) (bytes_eq verb (codes "crash")) (bytes_eq verb (codes "sread")))
+    (go (bytes_eq verb (codes "read")) (bytes_eq verb (codes "write")) (bytes_eq verb (codes "crash")) (bytes_eq verb (codes "sread")) (bytes_eq verb (codes "setattr")))
   where
-    go : (a b c d : Bool) → (if a then bad_syntax else if b then bad_syntax else if c then bad_syntax else if d then bad_syntax else bad_syntax) ≡ bad_syntax
-    go true b c d = refl
-    go false true c d = refl
-    go false false true d = refl
-    go false false false true = refl
-    go false false false false = refl
+    go : (a b c d e : Bool) → (if a then bad_syntax else if b then bad_syntax else if c then bad_syntax else if d then bad_syntax else if e then bad_syntax else bad_syntax) ≡ bad_syntax
+    go true b c d e = refl
+    go false true c d e = refl
+    go false false true d e = refl
+    go false false false true e = refl
+    go false false false false true = refl
+    go false false false false false = refl
 
 -- what is after the third space, as a whole
 pub asked_after : (verb first second rest : List ℕ) → bytes_eq verb (codes "batch") ≡ false → 0 < length first → 0 < length second → 0 < length rest
@@ -190,6 +196,11 @@ decoded-path verb.Stat path = refl
 decoded-path verb.Links path = refl
 decoded-path verb.SnapList path = refl
 decoded-path verb.SnapStat path = refl
+
+pub decoded-set_attribute : (path : List ℕ) (number value : Option ℕ) → set_attribute_command (path_bytes path) number value ≡ decoded (set_attribute_command path number value)
+decoded-set_attribute path None value = refl
+decoded-set_attribute path (Some number) None = refl
+decoded-set_attribute path (Some number) (Some value) = refl
 
 decoded_either : (test : Bool) (x y : Command) → x ≡ decoded x → y ≡ decoded y → (if test then x else y) ≡ decoded (if test then x else y)
 decoded_either true x y p q = p

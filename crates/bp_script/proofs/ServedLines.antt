@@ -1,15 +1,15 @@
 -- A volume carries out each call that a line asks for.
-use Rattle.std.proofs.Common.{◌≡◌, ℕ, List, [], ◌∷◌, Bool, true, false, Option, None, Some, codes, length, ◌&&◌, if◌then◌else◌, nat_le, refl, arith}
+use Rattle.std.proofs.Common.{◌≡◌, ℕ, List, [], ◌∷◌, Bool, true, false, Option, None, Some, codes, length, ◌&&◌, if◌then◌else◌, nat_le, nat_lt, refl, arith}
 use Rattle.std.specs.List.{list_any}
 use Rattle.std.specs.Prelude.{bytes_eq}
-use Rattle.std.proofs.lemmas.Bool.{leb-true}
+use Rattle.std.proofs.lemmas.Bool.{leb-true, ltb-true}
 use Rattle.std.proofs.lemmas.List.{length-map}
-use Rattle.bp_limits.specs.Limits.{max_pieces, max_read}
+use Rattle.bp_limits.specs.Limits.{attributes, max_pieces, max_read}
 use Rattle.bp_plain.specs.Calls.{Call, Piece}
-use Rattle.bp_plain.specs.Calls.Call.{create, mkdir, unlink, rmdir, list, stat, read, rename, link, links, upgrade, snap, unsnap, snap_list, snap_stat, snap_read, batch}
+use Rattle.bp_plain.specs.Calls.Call.{create, mkdir, unlink, rmdir, list, stat, read, rename, link, links, upgrade, snap, unsnap, snap_list, snap_stat, snap_read, batch, attribute, set_attribute}
 use Rattle.bp_plain.specs.Served.{IsServed}
 use Rattle.bp_replay.specs.Wanted.Wanted.{all, nothing}
-use Rattle.bp_script.specs.Commands.{Command, IsServedCommand, bare_command, batch_of, bytes_spelled, cache_command, command_by_words, decoded, decoded_call, decoded_piece, in_grammar, is_empty_word, length_spelled, long_command, masked_crash, number_spelled, pair_command, path_command, piece_words, read_command, row_command, short_length, snap_read_command, storm_command, truncate_command, whole_crash, word_command, words_of, write_command}
+use Rattle.bp_script.specs.Commands.{Command, IsServedCommand, attribute_command, attribute_number, bare_command, batch_of, bytes_spelled, cache_command, command_by_words, decoded, decoded_call, decoded_piece, in_grammar, is_empty_word, length_spelled, long_command, masked_crash, number_spelled, pair_command, path_command, piece_words, read_command, row_command, set_attribute_command, short_length, snap_read_command, storm_command, truncate_command, whole_crash, word_command, words_of, write_command}
 use Rattle.bp_script.specs.Commands.Command.{file_call, sync, space, crash, log, bad_syntax}
 
 served_either : (test : Bool) (first second : Command) → IsServedCommand first → IsServedCommand second → IsServedCommand (if test then first else second)
@@ -42,6 +42,23 @@ served_write path None new = tt
 served_truncate : (path : List ℕ) (size : Option ℕ) → IsServedCommand (truncate_command path size)
 served_truncate path (Some size) = tt
 served_truncate path None = tt
+
+served_attribute : (path : List ℕ) (number : Option ℕ) → IsServedCommand (attribute_command path (attribute_number number))
+served_attribute path None = tt
+served_attribute path (Some number) = go (nat_lt number attributes) refl
+  where
+    go : (few : Bool) → nat_lt number attributes ≡ few → IsServedCommand (attribute_command path (if few then Some number else None))
+    go true e = ltb-true number attributes e
+    go false e = tt
+
+served_set_attribute : (path : List ℕ) (number value : Option ℕ) → IsServedCommand (set_attribute_command path (attribute_number number) value)
+served_set_attribute path None value = tt
+served_set_attribute path (Some number) value = go (nat_lt number attributes) refl value
+  where
+    go : (few : Bool) → nat_lt number attributes ≡ few → (value : Option ℕ) → IsServedCommand (set_attribute_command path (if few then Some number else None) value)
+    go true e (Some value) = ltb-true number attributes e
+    go true e None = tt
+    go false e value = tt
 
 served_bare : (verb : List ℕ) → IsServedCommand (bare_command verb)
 served_bare verb =
@@ -90,14 +107,16 @@ served_pair : (verb first second : List ℕ) → IsServedCommand (pair_command v
 served_pair verb first second =
     served_either (bytes_eq verb (codes "truncate")) (truncate_command first (number_spelled second)) _ (served_truncate first (number_spelled second))
     (served_either (bytes_eq verb (codes "rename")) (file_call (rename first second)) _ tt
-    (served_either (bytes_eq verb (codes "link")) (file_call (link first second)) bad_syntax tt tt))
+    (served_either (bytes_eq verb (codes "link")) (file_call (link first second)) _ tt
+    (served_either (bytes_eq verb (codes "attr")) (attribute_command first (attribute_number (number_spelled second))) bad_syntax (served_attribute first (number_spelled second)) tt)))
 
 served_long : (verb first second third : List ℕ) → IsServedCommand (long_command verb first second third)
 served_long verb first second third =
     served_either (bytes_eq verb (codes "read")) (read_command first (number_spelled second) (length_spelled third)) _ (served_read first (number_spelled second) (number_spelled third))
     (served_either (bytes_eq verb (codes "write")) (write_command first (number_spelled second) (bytes_spelled third)) _ (served_write first (number_spelled second) (bytes_spelled third))
     (served_either (bytes_eq verb (codes "crash")) (masked_crash (number_spelled first) (number_spelled second) (bytes_spelled third)) _ (served_masked (number_spelled first) (number_spelled second) (bytes_spelled third))
-    (served_either (bytes_eq verb (codes "sread")) (snap_read_command first (number_spelled second) (length_spelled third)) bad_syntax (served_snap_read first (number_spelled second) (number_spelled third)) tt)))
+    (served_either (bytes_eq verb (codes "sread")) (snap_read_command first (number_spelled second) (length_spelled third)) _ (served_snap_read first (number_spelled second) (number_spelled third))
+    (served_either (bytes_eq verb (codes "setattr")) (set_attribute_command first (attribute_number (number_spelled second)) (number_spelled third)) bad_syntax (served_set_attribute first (number_spelled second) (number_spelled third)) tt))))
 
 served_batch : (found : Option (List Piece)) → IsServedCommand (batch_of found)
 served_batch None = tt
@@ -124,6 +143,8 @@ served_words (verb ∷ words) =
 served_decoded_call : (call : Call) → IsServed call → IsServed (decoded_call call)
 served_decoded_call (read path offset len) served = served
 served_decoded_call (snap_read path offset len) served = served
+served_decoded_call (attribute path number) served = served
+served_decoded_call (set_attribute path number value) served = served
 served_decoded_call (batch pieces) served = let len = length-map pieces decoded_piece in (omega (arith, len, served.0), omega (arith, len, served.1))
 served_decoded_call call served = served
 

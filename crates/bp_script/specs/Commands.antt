@@ -6,10 +6,10 @@ use Rattle.std.specs.Str.Parse.{digits_value}
 use Rattle.std.specs.Result.{result_ok}
 use Rattle.hex.specs.Hex.{decode_of}
 use Rattle.percent_encoding.specs.Percent.{percent_decode}
-use Rattle.bp_limits.specs.Limits.{max_line, max_pieces, max_read}
+use Rattle.bp_limits.specs.Limits.{attributes, max_line, max_pieces, max_read}
 use Rattle.bp_plain.specs.Calls.{Call, Piece}
 use Rattle.bp_plain.specs.Served.{IsServed}
-use Rattle.bp_plain.specs.Calls.Call.{create, mkdir, unlink, rmdir, list, stat, read, write, truncate, rename, link, links, upgrade, snap, unsnap, snap_list, snap_stat, snap_read, batch}
+use Rattle.bp_plain.specs.Calls.Call.{create, mkdir, unlink, rmdir, list, stat, read, write, truncate, rename, link, links, upgrade, snap, unsnap, snap_list, snap_stat, snap_read, batch, attribute, set_attribute}
 use Rattle.bp_replay.specs.Wanted.{Wanted}
 use Rattle.bp_replay.specs.Wanted.Wanted.{all, nothing, at}
 
@@ -91,6 +91,19 @@ write_command path offset new = bad_syntax
 abbrev pub truncate_command : List ℕ → Option ℕ → Command
 truncate_command path (Some size) = file_call (truncate path size)
 truncate_command path None = bad_syntax
+
+-- The number of an attribute, if there is such an attribute.
+abbrev pub attribute_number : Option ℕ → Option ℕ
+attribute_number (Some number) = if nat_lt number attributes then Some number else None
+attribute_number None = None
+
+abbrev pub attribute_command : List ℕ → Option ℕ → Command
+attribute_command path (Some number) = file_call (attribute path number)
+attribute_command path None = bad_syntax
+
+abbrev pub set_attribute_command : List ℕ → Option ℕ → Option ℕ → Command
+set_attribute_command path (Some number) (Some value) = file_call (set_attribute path number value)
+set_attribute_command path number value = bad_syntax
 
 -- A crash that keeps all stores, or only the durable ones.
 abbrev pub whole_crash : List ℕ → Command
@@ -175,6 +188,7 @@ pair_command verb first second =
     if bytes_eq verb (codes "truncate") then truncate_command first (number_spelled second)
     else if bytes_eq verb (codes "rename") then file_call (rename first second)
     else if bytes_eq verb (codes "link") then file_call (link first second)
+    else if bytes_eq verb (codes "attr") then attribute_command first (attribute_number (number_spelled second))
     else bad_syntax
 
 abbrev pub long_command : List ℕ → List ℕ → List ℕ → List ℕ → Command
@@ -184,6 +198,8 @@ long_command verb first second third =
     else if bytes_eq verb (codes "crash") then masked_crash (number_spelled first) (number_spelled second)
     (bytes_spelled third)
     else if bytes_eq verb (codes "sread") then snap_read_command first (number_spelled second) (length_spelled third)
+    else if bytes_eq verb (codes "setattr") then set_attribute_command first (attribute_number (number_spelled second))
+    (number_spelled third)
     else bad_syntax
 
 -- The command of a verb and the fields after it, by their number.
@@ -240,6 +256,8 @@ decoded_call (links path) = links (path_bytes path)
 decoded_call (snap_list path) = snap_list (path_bytes path)
 decoded_call (snap_stat path) = snap_stat (path_bytes path)
 decoded_call (snap_read path offset len) = snap_read (path_bytes path) offset len
+decoded_call (attribute path number) = attribute (path_bytes path) number
+decoded_call (set_attribute path number value) = set_attribute (path_bytes path) number value
 decoded_call (batch pieces) = batch (map decoded_piece pieces)
 -- The other calls have no path.
 decoded_call call = call

@@ -2,9 +2,9 @@
 use Rattle.std.specs.Prelude.{◌≡◌, ◌≤◌, ◌<◌, ◌^◌, ◌==◌, ◌&&◌, ℕ, List, [], ◌∷◌, ◌++◌, length, map, flat_map, not, true, codes, decimal, if◌then◌else◌}
 use Rattle.std.specs.List.{list_all}
 use Rattle.percent_encoding.specs.Percent.{percent_encode_byte}
-use Rattle.bp_limits.specs.Limits.{max_line, max_read, max_text}
+use Rattle.bp_limits.specs.Limits.{attributes, max_line, max_read, max_text}
 use Rattle.bp_plain.specs.Calls.{Call}
-use Rattle.bp_plain.specs.Calls.Call.{create, mkdir, unlink, rmdir, list, stat, read, write, truncate, rename, link, links, upgrade, snap, unsnap, snap_list, snap_stat, snap_read, batch}
+use Rattle.bp_plain.specs.Calls.Call.{create, mkdir, unlink, rmdir, list, stat, read, write, truncate, rename, link, links, upgrade, snap, unsnap, snap_list, snap_stat, snap_read, batch, attribute, set_attribute}
 use Rattle.bp_plain.specs.Export.{are_bytes, export_calls}
 use Rattle.bp_plain.specs.PlainTree.{FileTree}
 use Rattle.bp_script.specs.Commands.{command_of}
@@ -37,6 +37,9 @@ call_line (snap_list text) = codes "slist " ++ path_word text
 call_line (snap_stat text) = codes "sstat " ++ path_word text
 call_line (snap_read text offset len) =
     codes "sread " ++ path_word text ++ codes " " ++ decimal offset ++ codes " " ++ decimal len
+call_line (attribute text number) = codes "attr " ++ path_word text ++ codes " " ++ decimal number
+call_line (set_attribute text number value) =
+    codes "setattr " ++ path_word text ++ codes " " ++ decimal number ++ codes " " ++ decimal value
 -- The line of a batch is not defined.
 call_line (batch pieces) = []
 
@@ -47,8 +50,8 @@ pub record IsWord (text : List ℕ) : Type 0 where
   pub some : 1 ≤ length text
   pub bytes : are_bytes text ≡ true
 
--- A call that a line can spell: its paths are not empty and consist of bytes, its numbers are below 2 ^ 64, and a
--- read is of at most `max_read` bytes. A batch is none.
+-- A call that a line can spell: its paths are not empty and consist of bytes, its numbers are below 2 ^ 64, a read is
+-- of at most `max_read` bytes, and the number of an attribute is below `attributes`. A batch is none.
 abbrev pub IsSpelled : Call → Type 0
 IsSpelled (create text) = IsWord text
 IsSpelled (mkdir text) = IsWord text
@@ -68,6 +71,8 @@ IsSpelled unsnap = Unit {0}
 IsSpelled (snap_list text) = IsWord text
 IsSpelled (snap_stat text) = IsWord text
 IsSpelled (snap_read text offset len) = IsWord text × (offset < 2 ^ 64) × (len ≤ max_read)
+IsSpelled (attribute text number) = IsWord text × (number < attributes)
+IsSpelled (set_attribute text number value) = IsWord text × (number < attributes) × (value < 2 ^ 64)
 IsSpelled (batch pieces) = ⊥
 
 -- The line of the call is at most as long as a line may be.

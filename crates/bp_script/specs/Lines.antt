@@ -24,7 +24,7 @@ use Rattle.bp_script.specs.declared.decoded.TheConstants.{MOST_ROOM}
 use Rattle.bp_script.specs.declared.verbs.WordVerb.{WordVerb}
 use Rattle.bp_script.specs.declared.verbs.WordVerb.TheVariants as on
 use Rattle.bp_script.specs.contracts.decoded.Decoded.{the_row}
-use Rattle.bp_script.specs.Commands.{Command, bytes_spelled, cache_command, decoded_piece, is_empty_word, number_spelled, piece_spelled, storm_command, truncate_command, whole_crash, words_of}
+use Rattle.bp_script.specs.Commands.{Command, attribute_command, attribute_number, bytes_spelled, cache_command, decoded_piece, is_empty_word, number_spelled, piece_spelled, storm_command, truncate_command, whole_crash, words_of}
 use Rattle.bp_script.specs.Commands.Command.{file_call, sync, space, crash, storm, cache, log, bad_syntax}
 
 -- The greatest number of bytes of a line, so that an offset in it has 32 bits.
@@ -136,4 +136,5 @@ abbrev pub pair_row : Option PairVerb → List ℕ → List ℕ → Command
 pair_row (Some pair.Truncate) path last = truncate_command path (number_spelled last)
 pair_row (Some pair.Rename) path last = file_call (rename path last)
 pair_row (Some pair.Link) path last = file_call (link path last)
+pair_row (Some pair.Attribute) path last = attribute_command path (attribute_number (number_spelled last))
 pair_row None path last = bad_syntax

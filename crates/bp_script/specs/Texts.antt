@@ -6,7 +6,7 @@ use Rattle.bp_layout.specs.Paths.{Name}
 use Rattle.bp_layout.specs.declared.fields.Kind.{Kind}
 use Rattle.bp_layout.specs.declared.fields.Kind.TheVariants.{File, Dir}
 use Rattle.bp_plain.specs.Calls.{Answer, Refusal}
-use Rattle.bp_plain.specs.Calls.Answer.{done, bytes, file_of, dir_of, names, links_of, refused}
+use Rattle.bp_plain.specs.Calls.Answer.{done, bytes, file_of, dir_of, names, links_of, attribute_of, refused}
 use Rattle.bp_plain.specs.Calls.Refusal.{no_space}
 use Rattle.bp_plain.specs.Refusals.{refusal_number, refusal_word}
 
@@ -51,6 +51,9 @@ dir_text count = codes "dir " ++ decimal count ++ codes "\n"
 
 abbrev pub links_text : ℕ → List ℕ
 links_text count = codes "links " ++ decimal count ++ codes "\n"
+
+abbrev pub attribute_text : ℕ → List ℕ
+attribute_text value = codes "attr " ++ decimal value ++ codes "\n"
 
 -- A line of two numbers.
 abbrev pub pair_text : List ℕ → ℕ → ℕ → List ℕ
@@ -113,6 +116,7 @@ answer_text (file_of size) = file_text size
 answer_text (dir_of count) = dir_text count
 answer_text (names entries) = listing_text entries
 answer_text (links_of count) = links_text count
+answer_text (attribute_of value) = attribute_text value
 answer_text (refused refusal) = refusal_text refusal
 
 abbrev pub reply_text : LineReply → List ℕ

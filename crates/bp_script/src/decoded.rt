@@ -13,9 +13,10 @@ ghost use Rattle.std.specs.Prelude.{◌*◌, if◌then◌else◌, None, Ok, Some
 use crate::batches::{PieceWords, decode_pieces};
 use crate::fields::{decode_bytes, decode_escaped, decoded_or, digits_of, split_once};
 use crate::lines::{
-    Line, Syntax, bare, cache, path_line, read, snap_read, storm, truncate, whole_crash,
+    Line, Syntax, attribute, bare, cache, path_line, read, set_attribute, snap_read, storm,
+    truncate, whole_crash,
 };
-use crate::numbers::{number, read_len};
+use crate::numbers::{attribute_number, number, read_len};
 use crate::verbs::{PairVerb, PathVerb, WordVerb, is_batch, pair_verb, word_verb};
 use arrayvec::ArrayVec;
 use bp_limits::MAX_PIECES;
@@ -161,6 +162,7 @@ impl Decoded {
             Some(PairVerb::Truncate) => truncate(self.path_of(path), number(last)),
             Some(PairVerb::Rename) => Ok(self.rename(path, last)),
             Some(PairVerb::Link) => Ok(self.link(path, last)),
+            Some(PairVerb::Attribute) => attribute(self.path_of(path), attribute_number(last)),
             None => Err(Syntax),
         }
     }
@@ -269,6 +271,11 @@ impl Decoded {
             b"write" => self.write(first, number(second), third),
             b"crash" => self.crash(number(first), number(second), third),
             b"sread" => snap_read(self.path_of(first), number(second), read_len(third)),
+            b"setattr" => set_attribute(
+                self.path_of(first),
+                attribute_number(second),
+                number(third),
+            ),
             _ => Err(Syntax),
         }
     }

@@ -1,6 +1,6 @@
 //! The lines of a script, and their construction from decoded fields.
 
-ghost use Rattle.bp_script.specs.Commands.{bare_call, bare_command, cache_command, read_command, snap_read_command, storm_command, truncate_command, whole_crash};
+ghost use Rattle.bp_script.specs.Commands.{attribute_command, bare_call, bare_command, cache_command, read_command, set_attribute_command, snap_read_command, storm_command, truncate_command, whole_crash};
 ghost use Rattle.bp_script.specs.Lines.{line_asks, path_row};
 ghost use Rattle.std.specs.Prelude.{Ok, ◌≡◌};
 
@@ -135,6 +135,34 @@ pub(crate) fn snap_read(
 {
     match (offset, len) {
         (Some(offset), Some(len)) => Ok(Line::Call(Call::SnapRead { path, offset, len })),
+        _ => Err(Syntax),
+    }
+}
+
+/// Makes the line that asks for an attribute.
+pub(crate) fn attribute(path: &[u8], number: Option<u64>) -> Result<Line<'_>, Syntax>
+    ensures { line_asks result ≡ attribute_command path.now number }
+{
+    match number {
+        Some(number) => Ok(Line::Call(Call::Attribute { path, number })),
+        None => Err(Syntax),
+    }
+}
+
+/// Makes the line that sets an attribute.
+pub(crate) fn set_attribute(
+    path: &[u8],
+    number: Option<u64>,
+    value: Option<u64>,
+) -> Result<Line<'_>, Syntax>
+    ensures { line_asks result ≡ set_attribute_command path.now number value }
+{
+    match (number, value) {
+        (Some(number), Some(value)) => Ok(Line::Call(Call::SetAttribute {
+            path,
+            number,
+            value,
+        })),
         _ => Err(Syntax),
     }
 }

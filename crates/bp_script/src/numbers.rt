@@ -1,9 +1,9 @@
 //! The numbers of lines.
 
-ghost use Rattle.bp_script.specs.Commands.{length_spelled, number_spelled};
+ghost use Rattle.bp_script.specs.Commands.{attribute_number, length_spelled, number_spelled};
 ghost use Rattle.std.specs.Prelude.{length, ◌<◌, ◌≡◌, ◌≤◌};
 
-use bp_limits::MAX_READ;
+use bp_limits::{ATTRIBUTES, MAX_READ};
 
 /// The greatest number of digits of a number.
 const MOST_DIGITS: usize = 20;
@@ -61,6 +61,22 @@ pub(crate) fn read_len(word: &[u8]) -> Option<usize>
         Some(len) => {
             if len <= MAX_READ as u64 {
                 Some(len as usize)
+            } else {
+                None
+            }
+        }
+        None => None,
+    }
+}
+
+/// Decodes the number of an attribute that a field spells.
+pub(crate) fn attribute_number(word: &[u8]) -> Option<u64>
+    ensures { result ≡ attribute_number (number_spelled word.now) }
+{
+    match number(word) {
+        Some(number) => {
+            if number < ATTRIBUTES {
+                Some(number)
             } else {
                 None
             }

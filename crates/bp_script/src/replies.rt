@@ -160,6 +160,10 @@ fn say_answer(answer: Answer<'_>, into: &mut [u8]) -> usize
             let mut digits = itoa::Buffer::new();
             write_pieces(into, &[b"links ", digits.format(count).as_bytes(), b"\n"])
         }
+        Answer::AttributeOf(value) => {
+            let mut digits = itoa::Buffer::new();
+            write_pieces(into, &[b"attr ", digits.format(value).as_bytes(), b"\n"])
+        }
         Answer::Refused(error) => say_refused(error, into),
     }
 }

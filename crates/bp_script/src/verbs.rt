@@ -55,6 +55,7 @@ pub(crate) enum PairVerb {
     Truncate,
     Rename,
     Link,
+    Attribute,
 }
 
 /// Finds the verb of a line of a path and a last field.
@@ -65,6 +66,7 @@ pub(crate) fn pair_verb(verb: &[u8]) -> Option<PairVerb>
         b"truncate" => Some(PairVerb::Truncate),
         b"rename" => Some(PairVerb::Rename),
         b"link" => Some(PairVerb::Link),
+        b"attr" => Some(PairVerb::Attribute),
         _ => None,
     }
 }

@@ -3,6 +3,7 @@ use Rattle.std.proofs.Common.{◌≡◌, ◌≢◌, ℕ, ◌≤◌, List, [], �
 use Rattle.std.specs.Prelude.{◌&&◌, is_none, nat_lt, not}
 use Rattle.std.proofs.lemmas.Bool.{eqb-false}
 use Rattle.bp_calls.specs.InPlace.{LiesInWord}
+use Rattle.bp_calls.proofs.AttributeWords.{none_setting}
 use Rattle.bp_calls.proofs.InWord.{none_writing}
 use Rattle.bp_calls.proofs.Leaving.{none_leaving}
 use Rattle.bp_calls.proofs.MayLeave.{found_entry, found_reached}
@@ -21,13 +22,13 @@ use Rattle.bp_path.specs.Walk.{Walked, walk_from}
 use Rattle.bp_path.specs.Walk.Walked.{found, missing, in_file}
 use Rattle.bp_path.proofs.WalkLaws.{walk_is_lookup}
 use Rattle.bp_plain.specs.Calls.{Call, Refusal}
-use Rattle.bp_plain.specs.Calls.Call.{unlink, rmdir, truncate, write}
+use Rattle.bp_plain.specs.Calls.Call.{unlink, rmdir, truncate, write, set_attribute}
 use Rattle.bp_plain.specs.Calls.Refusal.{is_dir, is_root, not_dir, not_empty, too_big}
 use Rattle.bp_plain.specs.Plain.{refusal, file_refusal, changes, is_changing, walk, first, when, is_dir_at, is_empty_dir, is_root_path, bytes_at, path_named}
 use Rattle.bp_plain.specs.PlainTree.{FileTree}
 use Rattle.bp_plain.specs.Stands.{ShowsSnapshot, Stands}
 use Rattle.bp_volume.specs.Step.{FindsEntry, HasNeed, IsChange, IsNeverShort, PathFinds, StandsIn}
-use Rattle.bp_volume.specs.Step.IsChange.{by_unlink, by_rmdir, by_truncate}
+use Rattle.bp_volume.specs.Step.IsChange.{by_unlink, by_rmdir, by_truncate, by_set_attribute}
 use Rattle.bp_volume.specs.Step.StepFor.{no_room, unchanged, changed}
 use Rattle.bp_volume.specs.Queries.{refusal_of_walk}
 use Rattle.bp_volume.proofs.FileLaws.{has_bytes, write_alike}
@@ -156,3 +157,14 @@ module _ (image : Image) (tree : FileTree) (stands : Stands image tree) (alone :
     write_plainly _ _ (no_room changing has fewer) = absurd (needed_by (write text offset new) _ _ has (write_none has.change has.is) fewer)
     write_plainly _ _ (unchanged still) = refl
     write_plainly _ _ (changed changing fits becomes) = refl
+
+  -- an attribute
+
+  module _ (text : List ℕ) (number value : ℕ) (few : number < 3) where
+    set_none : (change : Change) → IsChange image (set_attribute text number value) change → need image change ≡ 0
+    set_none _ (by_set_attribute {i = i} at) = none_setting image stands.now.well_formed i number (reached_at image stands.now.well_formed at.path i at.inode) few
+
+    pub set_plainly : IsNeverShort image tree (set_attribute text number value)
+    set_plainly _ _ (no_room changing has fewer) = absurd (needed_by (set_attribute text number value) _ _ has (set_none has.change has.is) fewer)
+    set_plainly _ _ (unchanged still) = refl
+    set_plainly _ _ (changed changing fits becomes) = refl

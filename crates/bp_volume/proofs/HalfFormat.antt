@@ -57,9 +57,28 @@ module _ (base : Image) (version : Version) (blocks : ℕ) (whole : length base 
       go : (version : Version) → StoresMay (AnyAt (λ p. p ≢ 0)) (stores_epoch (empty_words version blocks))
       go One = (λ e. omega (arith, e), (λ e. omega (arith, e), (λ e. omega (arith, e), (λ e. omega (arith, e), (λ e. omega (arith, e), (λ e. omega (arith, e), tt))))))
       go Two = (λ e. omega (arith, e), (λ e. omega (arith, e), (λ e. omega (arith, e), (λ e. omega (arith, e), (λ e. omega (arith, e), (λ e. omega (arith, e), (λ e. omega (arith, e), (λ e. omega (arith, e), tt))))))))
-      go Three =
-          (λ e. omega (arith, e), (λ e. omega (arith, e), (λ e. omega (arith, e), (λ e. omega (arith, e), (λ e. omega (arith, e), (λ e. omega (arith, e), (λ e. omega (arith, e),
-          (λ e. omega (arith, e), (λ e. omega (arith, e), (λ e. omega (arith, e), (λ e. omega (arith, e), (λ e. omega (arith, e), (λ e. omega (arith, e), tt)))))))))))))
+      go Three = (
+        λ e. omega (arith, e),
+        (
+          λ e. omega (arith, e),
+          (
+            λ e. omega (arith, e),
+            (
+              λ e. omega (arith, e),
+              (
+                λ e. omega (arith, e),
+                (
+                  λ e. omega (arith, e),
+                  (
+                    λ e. omega (arith, e),
+                    (λ e. omega (arith, e), (λ e. omega (arith, e), (λ e. omega (arith, e), (λ e. omega (arith, e), (λ e. omega (arith, e), (λ e. omega (arith, e), tt)))))),
+                  ),
+                ),
+              ),
+            ),
+          ),
+        ),
+      )
 
   filling_closed : IsClosed filling
   filling_closed = go version

@@ -5,6 +5,7 @@ pub mod StepLaws
 pub mod FileCallLaws
 pub mod CreateLaws
 pub mod AskingLaws
+pub mod AttributeLaws
 pub mod ChangeLaws
 pub mod FewBlocks
 pub mod FewThawed

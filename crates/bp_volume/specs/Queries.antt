@@ -5,7 +5,7 @@ use Rattle.bp_layout.specs.Paths.{Path}
 use Rattle.bp_plain.specs.PlainTree.{FileTree}
 use Rattle.bp_plain.specs.Stands.{Stands}
 use Rattle.bp_plain.specs.Calls.{Call, Answer, Piece, Refusal}
-use Rattle.bp_plain.specs.Plain.{on_path, refusal, walk, walk_parent, first, when, file_refusal, is_root_path, move_refusal, new_refusal, piece_refusal}
+use Rattle.bp_plain.specs.Plain.{on_path, attribute_refusal, refusal, walk, walk_parent, first, when, file_refusal, is_root_path, move_refusal, new_refusal, piece_refusal}
 use Rattle.bp_plain.specs.Calls.Refusal.{not_found, not_dir}
 use Rattle.bp_path.specs.Walk.{Walked}
 use Rattle.bp_path.specs.Walk.Walked.{found, missing, in_file}
@@ -46,6 +46,11 @@ RefusesFileAt image path why = (tree : FileTree) → Stands image tree → refus
 -- The text is no path, or a call on a file at the path is refused, with `why`.
 abbrev pub StopsAtFile : Image → List ℕ → Refusal → Type 0
 StopsAtFile image text why = (tree : FileTree) → Stands image tree → on_path text (refusal_of_file tree) ≡ Some why
+
+-- The text is no path, or a call on the attributes at the path is refused, with `why`.
+abbrev pub StopsAtAttributes : Image → List ℕ → Refusal → Type 0
+StopsAtAttributes image text why = (tree : FileTree) → Stands image tree →
+    on_path text (attribute_refusal tree) ≡ Some why
 
 -- The first refusal that applies to a new file at a path.
 abbrev pub refusal_of_new : FileTree → Path → Option Refusal

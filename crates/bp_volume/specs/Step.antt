@@ -2,18 +2,20 @@
 use Rattle.std.specs.Prelude.{◌≡◌, ◌≢◌, ℕ, ◌<◌, ◌≤◌, List, [], ◌∷◌, length, Bool, true, false, Option, None, Some}
 use Rattle.bp_layout.specs.Words.{Image}
 use Rattle.bp_layout.specs.Directory.{slot_named}
+use Rattle.bp_layout.specs.Formatted.{version_of}
 use Rattle.bp_layout.specs.Paths.{Name, IsName, Path, parse}
 use Rattle.bp_layout.specs.Inode.{IsDirectory, IsFile, size_of}
 use Rattle.bp_layout.specs.Lookup.{lookup}
+use Rattle.bp_limits.specs.CallLimits.{allows_attributes}
 use Rattle.bp_plain.specs.PlainTree.{FileTree}
 use Rattle.bp_plain.specs.Stands.{Stands}
 use Rattle.bp_plain.specs.Calls.{Call, Piece, Answer}
-use Rattle.bp_plain.specs.Calls.Call.{create, mkdir, unlink, rmdir, list, write, truncate, rename, link, snap_list, batch}
+use Rattle.bp_plain.specs.Calls.Call.{create, mkdir, unlink, rmdir, list, write, truncate, rename, link, snap_list, batch, set_attribute}
 use Rattle.bp_plain.specs.Calls.Refusal.{no_space, no_memory}
 use Rattle.bp_plain.specs.Calls.Answer.{refused}
 use Rattle.bp_plain.specs.Plain.{plain, is_changing, refusal, parent_of}
 use Rattle.bp_layout.specs.Need.{Change, Stretch}
-use Rattle.bp_layout.specs.Need.Change.{writes, resizes, enters, leaves, replaces, moves, respells, overwrites}
+use Rattle.bp_layout.specs.Need.Change.{writes, resizes, enters, leaves, replaces, moves, respells, overwrites, sets}
 use Rattle.bp_layout.specs.Need.Entrant.{linked}
 use Rattle.bp_layout.specs.Free.{HasFree, IsLeastFree}
 use Rattle.bp_layout.specs.Thaw.{full_need}
@@ -72,6 +74,11 @@ pub record FindsFile (image : Image) (text : List ℕ) (i size : ℕ) : Type 0 w
   pub kind : IsFile image i
   pub sized : size ≡ size_of image i
 
+-- The text spells a path to this inode, which has attributes in this version.
+pub record FindsAttributes (image : Image) (text : List ℕ) (i : ℕ) : Type 0 where
+  pub found : PathFinds image text i
+  pub version : allows_attributes (version_of image) ≡ true
+
 -- The pieces of a batch as stretches: each path is replaced by the inode of its file, and the bytes by their number.
 pub data AreStretches (image : Image) : List Piece → List Stretch → Type 0 where
   none : AreStretches image [] []
@@ -94,6 +101,8 @@ pub data IsChange (image : Image) : Call → Change → Type 0 where
       IsChange image (write text offset new) (writes i offset (length new))
   by_truncate : {text : List ℕ} {i size : ℕ} → PathFinds image text i →
       IsChange image (truncate text size) (resizes i size)
+  by_set_attribute : {text : List ℕ} {i number value : ℕ} → PathFinds image text i →
+      IsChange image (set_attribute text number value) (sets i number)
   by_unlink : {text : List ℕ} {i s : ℕ} → StandsIn image text i s → IsChange image (unlink text) (leaves i s)
   by_rmdir : {text : List ℕ} {i s : ℕ} → StandsIn image text i s → IsChange image (rmdir text) (leaves i s)
   onto : {from to : List ℕ} {i s j r : ℕ} → StandsIn image from i s → StandsIn image to j r →

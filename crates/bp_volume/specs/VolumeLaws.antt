@@ -1,9 +1,10 @@
 -- Properties that hold for all volumes.
-use Rattle.std.specs.Prelude.{◌≡◌, ℕ, ◌≤◌, List, length, None}
+use Rattle.std.specs.Prelude.{◌≡◌, ℕ, ◌<◌, ◌≤◌, List, length, None}
 use Rattle.bp_calls.specs.InPlace.{LiesInWord}
 use Rattle.bp_layout.specs.Whole.{SameFiles}
 use Rattle.bp_layout.specs.Words.{Image}
-use Rattle.bp_plain.specs.Calls.Call.{truncate, write}
+use Rattle.bp_limits.specs.Limits.{attributes}
+use Rattle.bp_plain.specs.Calls.Call.{set_attribute, truncate, write}
 use Rattle.bp_plain.specs.Plain.{bytes_at, path_named}
 use Rattle.bp_plain.specs.PlainTree.{FileTree}
 use Rattle.bp_plain.specs.Stands.{Stands}
@@ -30,6 +31,11 @@ ShortensInPlace image tree text size =
 abbrev pub WritesInPlace : Image → FileTree → List ℕ → ℕ → ℕ → List ℕ → Type 0
 WritesInPlace image tree text i offset new =
     PathFinds image text i → LiesInWord image i offset (length new) → IsNeverShort image tree (write text offset new)
+
+-- The call that sets an attribute is never refused for lack of space or memory.
+abbrev pub SetsInPlace : Image → FileTree → List ℕ → ℕ → ℕ → Type 0
+SetsInPlace image tree text number value =
+    number < attributes → IsNeverShort image tree (set_attribute text number value)
 
 -- The property holds for each tree for which the image stands, if it has no snapshot.
 abbrev pub WithoutSnapshot : Image → (FileTree → Type 0) → Type 0

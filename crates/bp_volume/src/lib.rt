@@ -1,6 +1,7 @@
 //! A volume: a file system over a region of persistent memory.
 #![tactic(auto)]
 
+mod attributes;
 mod batch;
 mod create;
 mod format_stores;

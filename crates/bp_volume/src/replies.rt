@@ -2,7 +2,7 @@
 
 ghost use Rattle.std.specs.Prelude.{◌≡◌, ◌≤◌, IfOk};
 ghost use Rattle.bp_limits.specs.Limits.{max_read};
-ghost use Rattle.bp_volume.specs.Seen.{links_answer, list_answer_of, read_answer_of, stat_answer_of, unit_answer};
+ghost use Rattle.bp_volume.specs.Seen.{attribute_answer, links_answer, list_answer_of, read_answer_of, stat_answer_of, unit_answer};
 
 use bp_layout::{Listing, Stat};
 use bp_plain::{FsError, Reply};
@@ -34,6 +34,16 @@ pub(crate) fn report_links(reply: &mut Reply, outcome: Result<u32, FsError>)
 {
     match outcome {
         Ok(count) => reply.set_links(count),
+        Err(error) => reply.set_refused(error),
+    }
+}
+
+/// Sets the reply to the result of `attribute`.
+pub(crate) fn report_attribute(reply: &mut Reply, outcome: Result<u64, FsError>)
+    ensures { reply.new.answer ≡ attribute_answer outcome }
+{
+    match outcome {
+        Ok(value) => reply.set_attribute(value),
         Err(error) => reply.set_refused(error),
     }
 }

@@ -1,20 +1,20 @@
 //! The volume.
 
 ghost use Rattle.std.specs.List.{All};
-ghost use Rattle.std.specs.Prelude.{[], ◌*◌, ◌≡◌, ◌⊎◌, ◌≤◌, ◌↔◌, IfErr, IfOk, IsOk, OnErr, OnOk, drop, length, map};
+ghost use Rattle.std.specs.Prelude.{[], ◌*◌, ◌≡◌, ◌⊎◌, ◌<◌, ◌≤◌, ◌↔◌, IfErr, IfOk, IsOk, OnErr, OnOk, drop, length, map};
 ghost use Rattle.bp_cache.specs.Cache.{IsCacheOf};
 ghost use Rattle.bp_layout.specs.Formatted.{IsSized};
 ghost use Rattle.bp_layout.specs.Whole.{HasSpace, IsFileSystem, SameFiles};
 ghost use Rattle.bp_layout.specs.Words.{block_count};
-ghost use Rattle.bp_limits.specs.Limits.{block_inodes, call_room, max_pieces, max_read};
+ghost use Rattle.bp_limits.specs.Limits.{attributes, block_inodes, call_room, max_pieces, max_read};
 ghost use Rattle.pm_epochs.specs.Log.{call_ends};
 ghost use Rattle.pm_epochs.specs.Replay.{IsRight, after_calls, kept_calls};
 ghost use Rattle.pm_region.specs.Memory.{crashed, current_words, drained, room_in, with_room};
 ghost use Rattle.pm_region.specs.Safe.{IsSafe};
 ghost use Rattle.bp_limits.specs.declared.version.Version.TheVariants.{One};
 ghost use Rattle.bp_plain.specs.Calls.Answer.{done};
-ghost use Rattle.bp_plain.specs.Calls.Call.{batch, create, link, links, list, mkdir, read, rename, rmdir, snap, snap_list, snap_read, snap_stat, stat};
-ghost use Rattle.bp_plain.specs.Calls.Call.{truncate, unlink, unsnap, upgrade, write};
+ghost use Rattle.bp_plain.specs.Calls.Call.{attribute, batch, create, link, links, list, mkdir, read, rename, rmdir};
+ghost use Rattle.bp_plain.specs.Calls.Call.{set_attribute, snap, snap_list, snap_read, snap_stat, stat, truncate, unlink, unsnap, upgrade, write};
 ghost use Rattle.bp_plain.specs.PlainTree.{empty_tree};
 ghost use Rattle.bp_plain.specs.Seen.{CanAsk, LiesIn, call_of, piece_in};
 ghost use Rattle.bp_plain.specs.Stands.{Stands};
@@ -22,8 +22,9 @@ ghost use Rattle.bp_scan.specs.Faults.{IsFault};
 ghost use Rattle.bp_scan.specs.Totals.{HasLive, HasTotals};
 ghost use Rattle.bp_volume.specs.FileCall.{FileCall};
 ghost use Rattle.bp_volume.specs.Laid.{formatted_memory};
-ghost use Rattle.bp_volume.specs.Seen.{links_answer, list_answer_of, read_answer_of, stat_answer_of, unit_answer};
+ghost use Rattle.bp_volume.specs.Seen.{attribute_answer, links_answer, list_answer_of, read_answer_of, stat_answer_of, unit_answer};
 
+use crate::attributes::{do_attribute, do_set_attribute};
 use crate::batch::do_batch;
 use crate::create::do_create;
 use crate::format_stores::lay_out;
@@ -31,7 +32,9 @@ use crate::link::do_link;
 use crate::queries::{do_links, do_list, do_read, do_stat};
 use crate::remove::{do_rmdir, do_unlink};
 use crate::rename::do_rename;
-use crate::replies::{report_done, report_links, report_list, report_read, report_stat};
+use crate::replies::{
+    report_attribute, report_done, report_links, report_list, report_read, report_stat,
+};
 use crate::rescan::rescan;
 use crate::resize::do_truncate;
 use crate::sets::{Sets, memory_for};
@@ -489,6 +492,44 @@ impl<R: Region> Volume<R> {
         reported
     }
 
+    /// Returns an attribute of the file or directory at a path. The attributes have the numbers 0 to 2.
+    ///
+    /// # Errors
+    ///
+    /// The first of these that applies.
+    ///
+    /// - `BadPath`: the text is no path.
+    /// - `OldVersion`: the image is of version 1 or 2, whose inodes have no attributes.
+    /// - The others of [`Volume::stat`].
+    pub fn attribute(&mut self, path: &[u8], number: u64) -> Result<u64, FsError>
+        requires number { number < attributes }
+        ensures { FileCall self.old (attribute path.now number) (attribute_answer result) self.new }
+    {
+        self.make_room();
+        let reported = do_attribute(&self.parts.region, &mut self.cache, path, number);
+        self.parts.region.end_call();
+        reported
+    }
+
+    /// Gives an attribute of the file or directory at a path a value, which is any word of the caller's own. A file has
+    /// its attributes at each of its paths.
+    ///
+    /// # Errors
+    ///
+    /// The first of these that applies. Nothing has changed then.
+    ///
+    /// - Those of [`Volume::attribute`].
+    /// - `NoSpace`: there is a snapshot, and fewer blocks are free than the call has to copy because of it.
+    pub fn set_attribute(&mut self, path: &[u8], number: u64, value: u64) -> Result<(), FsError>
+        requires number { number < attributes }
+        ensures { FileCall self.old (set_attribute path.now number value) (unit_answer result) self.new }
+    {
+        self.make_room();
+        let made = do_set_attribute(&mut self.parts, &mut self.cache, path, number, value);
+        self.parts.region.end_call();
+        made
+    }
+
     /// Returns the names in the directory at a path, in byte order.
     ///
     /// # Errors
@@ -612,7 +653,8 @@ impl<R: Region> Volume<R> {
         reported
     }
 
-    /// Makes a call, and sets the reply to its result. A read may ask for at most 65,536 bytes.
+    /// Makes a call, and sets the reply to its result. A read may ask for at most 65,536 bytes, and the number of an
+    /// attribute is at most 2.
     pub fn apply(&mut self, alloc: Global, call: &Call, reply: &mut Reply)
         requires can { CanAsk call.now }
         ensures { FileCall self.old (call_of call.now) reply.new.answer self.new }
@@ -634,6 +676,14 @@ impl<R: Region> Volume<R> {
             Call::Rename { from, to } => report_done(reply, self.rename(from, to)),
             Call::Link { from, to } => report_done(reply, self.link(from, to)),
             Call::Links(path) => report_links(reply, self.links(path)),
+            Call::Attribute { path, number } => {
+                report_attribute(reply, self.attribute(path, *number));
+            }
+            Call::SetAttribute {
+                path,
+                number,
+                value,
+            } => report_done(reply, self.set_attribute(path, *number, *value)),
             Call::Upgrade => self.apply_upgrade(reply),
             Call::Batch { text, pieces } => report_done(reply, self.batch(text, pieces)),
             Call::Snap => report_done(reply, self.snap()),

@@ -3,7 +3,7 @@ use Rattle.std.proofs.Common.{◌≡◌, ℕ, List, Option, Result, Ok, Err, ref
 use Rattle.bp_layout.specs.declared.fields.Stat.{Stat}
 use Rattle.bp_layout.specs.declared.fields.Stat.TheVariants.{Dir, File}
 use Rattle.bp_plain.specs.declared.errors.FsError.{FsError}
-use Rattle.bp_volume.specs.Seen.{links_answer, read_answer_of, stat_answer_of, unit_answer}
+use Rattle.bp_volume.specs.Seen.{attribute_answer, links_answer, read_answer_of, stat_answer_of, unit_answer}
 use Rattle.bpfs_c.specs.Listings.{Names, listing_after}
 
 module _ (kept : Option Names) where
@@ -18,6 +18,10 @@ module _ (kept : Option Names) where
   pub links_keeps : (ending : Result ℕ FsError) → listing_after (links_answer ending) kept ≡ kept
   links_keeps (Ok count) = refl
   links_keeps (Err error) = refl
+
+  pub attribute_keeps : (ending : Result ℕ FsError) → listing_after (attribute_answer ending) kept ≡ kept
+  attribute_keeps (Ok value) = refl
+  attribute_keeps (Err error) = refl
 
   pub stat_keeps : (ending : Result Stat FsError) → listing_after (stat_answer_of ending) kept ≡ kept
   stat_keeps (Ok (File size)) = refl

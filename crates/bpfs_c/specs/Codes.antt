@@ -3,7 +3,7 @@
 use Rattle.std.specs.Prelude.{◌≡◌, ◌≤◌, ℕ, List, Result, Ok, Err, true, false, drop, length, take}
 use Rattle.bp_plain.specs.declared.errors.FsError.{FsError}
 use Rattle.bp_plain.specs.Calls.{Answer, Refusal}
-use Rattle.bp_plain.specs.Calls.Answer.{done, bytes, file_of, dir_of, names, links_of, refused}
+use Rattle.bp_plain.specs.Calls.Answer.{done, bytes, file_of, dir_of, names, links_of, attribute_of, refused}
 use Rattle.bp_plain.specs.Calls.Refusal.{no_space}
 use Rattle.bp_plain.specs.Refusals.{refusal_number}
 use Rattle.bp_plain.specs.Seen.{refusal_of}
@@ -55,6 +55,12 @@ abbrev pub ReportsLinks : Answer → ℕ → ℕ → ℕ → Type 0
 ReportsLinks (links_of count) old code new = (code ≡ 0) × (new ≡ count)
 ReportsLinks (refused why) old code new = (code ≡ refusal_number why) × (new ≡ old)
 ReportsLinks answer old code new = ⊥
+
+-- The value of an attribute, as written to the caller's variable.
+abbrev pub ReportsAttribute : Answer → ℕ → ℕ → ℕ → Type 0
+ReportsAttribute (attribute_of value) old code new = (code ≡ 0) × (new ≡ value)
+ReportsAttribute (refused why) old code new = (code ≡ refusal_number why) × (new ≡ old)
+ReportsAttribute answer old code new = ⊥
 
 -- The number of entries of a listed directory, as written to the caller's variable.
 abbrev pub IsListed : Answer → ℕ → ℕ → ℕ → Type 0

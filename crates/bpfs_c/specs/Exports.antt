@@ -2,7 +2,7 @@
 -- caller's variables, the returned number, and their new contents.
 use Rattle.std.specs.Prelude.{◌≡◌, ℕ, Bool, List, Option}
 use Rattle.bp_plain.specs.Calls.{Call}
-use Rattle.bpfs_c.specs.Codes.{IsEndedAs, IsRead, ReportsFound}
+use Rattle.bpfs_c.specs.Codes.{IsEndedAs, IsRead, ReportsAttribute, ReportsFound}
 use Rattle.bpfs_c.specs.Listings.{ReportsName, entry_at}
 use Rattle.bpfs_c.specs.Serves.{Exported, Looked}
 use Rattle.bpfs_c.specs.declared.queries.Found.{Found}
@@ -24,6 +24,11 @@ ExportsRead held call into count code new_into new_count new_held =
 abbrev pub ExportsFound : Option Mounted → Call → Found → ℕ → Found → Option Mounted → Type 0
 ExportsFound held call found code new_found new_held =
     Exported held call (λ answer. ReportsFound answer found code new_found) (new_found ≡ found) code new_held
+
+-- A call that asks for an attribute, and writes its value to the caller's variable.
+abbrev pub ExportsAttribute : Option Mounted → Call → ℕ → ℕ → ℕ → Option Mounted → Type 0
+ExportsAttribute held call value code new_value new_held =
+    Exported held call (λ answer. ReportsAttribute answer value code new_value) (new_value ≡ value) code new_held
 
 -- A look at one entry of the listing that the handle keeps, by its index: the name, its length in bytes, and whether
 -- the entry is a directory's.

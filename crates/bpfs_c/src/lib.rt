@@ -2,6 +2,7 @@
 //! caller carries the events of its log to the storage of its words.
 #![tactic(auto)]
 
+pub mod attributes;
 pub mod batch;
 pub mod calls;
 pub mod codes;

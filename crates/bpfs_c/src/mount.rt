@@ -27,7 +27,7 @@ pub struct Fault {
     /// The length of the words in bytes, at most `u64::MAX`.
     pub found: u64,
     /// The length in bytes that the image states for itself, at most `u64::MAX`. Where no image has this number of
-    /// words: the length of the image that is nearest in size.
+    /// words: the next larger length that an image can have, or the largest.
     pub wanted: u64,
 }
 

@@ -3,7 +3,7 @@
 ghost use Rattle.bp_layout.specs.Paths.{same_path};
 ghost use Rattle.bp_layout.specs.Listing.{listed};
 ghost use Rattle.bp_layout.specs.Lookup.{are_one};
-ghost use Rattle.bp_limits.specs.Limits.{max_read};
+ghost use Rattle.bp_limits.specs.Limits.{attributes, max_read};
 ghost use Rattle.bp_plain.specs.Calls.Answer.{names};
 ghost use Rattle.bp_plain.specs.Plain as plain;
 ghost use Rattle.bp_plain.specs.Plain.{is_dir_at, listing};
@@ -11,12 +11,12 @@ ghost use Rattle.bp_plain.specs.PlainTree.{empty_map, is_one};
 ghost use Rattle.bp_plain.specs.Seen.{refusal_of};
 ghost use Rattle.bp_plain.specs.SeenTree.{names_of, node_seen};
 ghost use Rattle.std.specs.FinMap.{get};
-ghost use Rattle.std.specs.Prelude.{IfOk, None, OnErr, OnOk, ◌+◌, ◌≡◌, ◌≤◌, false, is_some, option_map, true};
+ghost use Rattle.std.specs.Prelude.{IfOk, None, OnErr, OnOk, ◌+◌, ◌<◌, ◌≡◌, ◌≤◌, false, is_some, option_map, slice_index, true};
 
 use super::entries::{Attributes, Change, Files, NO_ATTRIBUTES, Node, copy};
 use crate::contents::{answer_bytes, part, resized, written};
 use crate::errors::FsError;
-use crate::paths::{first, parent_of, path_of, when};
+use crate::paths::{copied, first, parent_of, path_of, when};
 use crate::replies::Reply;
 use bp_layout::{Kind, Listing, Name};
 use std::alloc::{AllocError, Global};
@@ -240,6 +240,15 @@ impl FileMap {
         Ok(())
     }
 
+    /// Returns an attribute of the node at a path.
+    pub(super) fn attribute(&self, path: &[Name], number: u64) -> u64
+        requires { number < attributes }
+        ensures { result ≡ slice_index (plain.attributes_at self.now.nodes (names_of path.now)) number }
+    {
+        let attributes = self.attributes(path);
+        attributes[number as usize]
+    }
+
     // ---- which paths are one file
 
     /// Returns whether two paths are one file.
@@ -373,6 +382,54 @@ impl FileMap {
         match self.files.id(path) {
             Some(id) => {
                 let attributes = self.attributes(path);
+                let change = Change::Content {
+                    id,
+                    attributes,
+                    bytes,
+                };
+                let files = self.files.changed(alloc, &change)?;
+                self.files = files;
+                Ok(())
+            }
+            None => Ok(()),
+        }
+    }
+
+    /// Sets an attribute of the file or directory at a path; changes nothing if nothing is there.
+    pub(super) fn set_attribute(
+        &mut self,
+        alloc: Global,
+        path: &[Name],
+        number: u64,
+        value: u64,
+    ) -> Result<(), AllocError>
+        requires { number < attributes }
+        ensures set { OnOk result (self.new ≡ plain.with_attribute self.old (names_of path.now) number value) }
+        ensures kept { OnErr result (self.new ≡ self.old) }
+    {
+        let mut attributes = self.attributes(path);
+        attributes[number as usize] = value;
+        self.set_attributes(alloc, path, attributes)
+    }
+
+    /// Replaces the attributes of the file or directory at a path; changes nothing if nothing is there.
+    fn set_attributes(
+        &mut self,
+        alloc: Global,
+        path: &[Name],
+        attributes: Attributes,
+    ) -> Result<(), AllocError>
+        ensures set { OnOk result (self.new ≡ plain.with_attributes self.old (names_of path.now) attributes) }
+        ensures kept { OnErr result (self.new ≡ self.old) }
+    {
+        if self.is_dir(path) {
+            let same = copied(alloc, path)?;
+            self.files.put(same, Node::Dir { attributes })?;
+            return Ok(());
+        }
+        match self.files.id(path) {
+            Some(id) => {
+                let bytes = self.bytes(path);
                 let change = Change::Content {
                     id,
                     attributes,

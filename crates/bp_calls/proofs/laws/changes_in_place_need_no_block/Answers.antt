@@ -1,3 +1,4 @@
+use Rattle.bp_calls.proofs.AttributeWords.{none_setting}
 use Rattle.bp_calls.proofs.InWord.{none_writing}
 use Rattle.bp_calls.proofs.Leaving.{none_leaving}
 use Rattle.bp_calls.proofs.Shorter.{none_shrinking}
@@ -8,4 +9,5 @@ returns c = record {
   leaves = λ i s j can. none_leaving c.args.image.now c.requires i s j can.reached can.entry;
   shorter = none_shrinking c.args.image.now c.requires;
   in_word = none_writing c.args.image.now c.requires;
+  attribute = λ i number reached few. none_setting c.args.image.now c.requires i number reached few;
 }

@@ -1,7 +1,7 @@
 use Rattle.std.proofs.Common.{◌≡◌, true, refl}
 use Rattle.bp_plain.specs.SeenAnswers.{answer_seen}
 use Rattle.bp_plain.specs.declared.replies.Answer.{Answer}
-use Rattle.bp_plain.specs.declared.replies.Answer.TheVariants.{Done, Bytes, FileOf, DirOf, LinksOf, Names, Refused}
+use Rattle.bp_plain.specs.declared.replies.Answer.TheVariants.{Done, Bytes, FileOf, DirOf, LinksOf, AttributeOf, Names, Refused}
 use Rattle.bp_plain.specs.declared.errors.FsError.{FsError}
 use Rattle.bp_play.specs.Summaries.{is_carried_out}
 use Rattle.bp_play.proofs.SumLaws.{ok_counted}
@@ -16,6 +16,7 @@ carried (Bytes content) other = refl
 carried (FileOf size) other = refl
 carried (DirOf count) other = refl
 carried (LinksOf count) other = refl
+carried (AttributeOf value) other = refl
 carried (Names listing) other = refl
 carried (Refused error) other = absurd (other error refl)
 

@@ -4,7 +4,7 @@
     kill-runs.py PROGRAM [COUNT]
 
 PROGRAM is a built bpfs, such as crates/bpfs/out/bpfs. COUNT is the number of runs to kill (default 300). The images have
-256 to 8,192 blocks, in either version, in a directory in TMPDIR.
+256 to 8,192 blocks, in version 1 or 2, in a directory in TMPDIR.
 
 A run has eight rounds. Each round writes its number to many blocks of a file, adds a link to the file, and syncs. The run
 gets SIGKILL at a random time; a run that ends before is tested too, but not counted. Then:

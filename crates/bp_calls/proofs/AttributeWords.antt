@@ -1,6 +1,6 @@
 -- An attribute is set by one store: where its word stands, what the change touches and needs, and what the store
 -- makes of the image.
-use Rattle.std.proofs.Common.{◌≡◌, ℕ, zero, suc, ◌+◌, ◌-◌, ◌*◌, ◌/◌, ◌%◌, ◌<◌, ◌≤◌, [], ◌∷◌, length, set, Bool, true, false, refl, sym, ◌∙◌, ap, subst, arith, inl, inr}
+use Rattle.std.proofs.Common.{◌≡◌, ℕ, zero, suc, ◌+◌, ◌-◌, ◌*◌, ◌/◌, ◌%◌, ◌^◌, ◌<◌, ◌≤◌, [], ◌∷◌, length, set, Bool, true, false, refl, sym, ◌∙◌, ap, subst, arith, inl, inr}
 use Rattle.bp_calls.proofs.OpenPlaces.{content_live, inode_address, root_word_stays, stands_stored}
 use Rattle.bp_calls.proofs.CountLaws.{exact_files}
 use Rattle.bp_calls.proofs.SetLaws.{exact_kept}
@@ -40,13 +40,17 @@ use Rattle.pm_epochs.proofs.PieceLaws.{IsPiece-commit}
 use Rattle.pm_region.specs.Memory.{Memory, Adds, current_words}
 use Rattle.pm_region.proofs.MemoryLaws.{current_words-adds}
 
--- what stands at the place of an attribute is its value
-pub attribute_at : (image : Image) (i k place : ℕ) → 1 ≤ i → allows_attributes (version_of image) ≡ true → ContentStandsAt image 0 (8 * i + (3 + k)) place → word image place ≡ attribute image i k
-attribute_at image zero k place some version stands = absurd (omega (arith, some))
-attribute_at image (suc i) k place some version stands = rw version
-    (sym (tree_word-suc image (root_of image 0) (height_of (root_of image 0)) (8 * suc i + (3 + k))
+-- a word of 64 bits that stands at the place of an attribute is its value
+pub attribute_at : (image : Image) (i k place : ℕ) → 1 ≤ i → allows_attributes (version_of image) ≡ true → ContentStandsAt image 0 (8 * i + (3 + k)) place →
+    (value : ℕ) → value < 2 ^ 64 → value ≡ word image place → value ≡ attribute image i k
+attribute_at image zero k place some version stands value fits is = absurd (omega (arith, some))
+attribute_at image (suc i) k place some version stands value fits is = rw version
+    (whole ∙ ap (λ w. w % 2 ^ 64) (is ∙ sym (tree_word-suc image (root_of image 0) (height_of (root_of image 0)) (8 * suc i + (3 + k))
     ∙ slot_word-at image (node image (root_of image 0) (height_of (root_of image 0)) ((8 * suc i + (3 + k)) / 512)) ((8 * suc i + (3 + k)) % 512) stands.present
-    ∙ ap (word image) stands.at))
+    ∙ ap (word image) stands.at)))
+  where
+    whole : value ≡ value % 2 ^ 64
+    whole = omega (arith, fits)
 
 -- ---- what the change touches and needs
 
@@ -91,15 +95,16 @@ module _ (image : Image) (wf : IsWellFormed image) (i k : ℕ) (reached : IsReac
 
 -- ---- the store
 
--- an attribute whose word is stored to
-pub record IsSettable (image : Image) (i k place : ℕ) : Type 0 where
+-- an attribute whose word is stored to, and the value
+pub record IsSettable (image : Image) (i k place value : ℕ) : Type 0 where
   pub well_formed : IsWellFormed image
   pub reached : IsReached image i
   pub few : k < 3
   pub version : allows_attributes (version_of image) ≡ true
   pub stands : ContentStandsAt image 0 (8 * i + (3 + k)) place
+  pub fits : value < 2 ^ 64
 
-module _ {R : Type 0} (memory : R → Memory) (before after : Parts R) (n k place value : ℕ) (can : IsSettable (current_words (memory before.region)) (suc n) k place)
+module _ {R : Type 0} (memory : R → Memory) (before after : Parts R) (n k place value : ℕ) (can : IsSettable (current_words (memory before.region)) (suc n) k place value)
     (adds : Adds (memory before.region) (memory after.region) (commit place value)) where
   abbrev image : Image
   image = current_words (memory before.region)
@@ -117,7 +122,7 @@ module _ {R : Type 0} (memory : R → Memory) (before after : Parts R) (n k plac
   low = let high : suc n < inode_count image = inside image can.well_formed (suc n) k can.reached can.few in omega (arith, high, can.few)
 
   sets_last : SetsAttribute image last (suc n) k value
-  sets_last = setting.store_sets image can.well_formed n k value place can.reached can.few can.version can.stands
+  sets_last = setting.store_sets image can.well_formed n k value place can.fits can.reached can.few can.version can.stands
 
   -- the store is at the cover
   at_cover : address last (cover image (sets (suc n) k)) ≡ place
@@ -150,7 +155,7 @@ module _ {R : Type 0} (memory : R → Memory) (before after : Parts R) (n k plac
     sets_stay = rw (blocks, inodes)
         (exact_kept image last sets_last.trees.whole (sets_last.size 0 inode_file)
         (setting.reached-back image last (suc n) k value can.well_formed sets_last) (setting.reached-on image last (suc n) k value can.well_formed sets_last)
-        (setting.store_blocks image can.well_formed n k value place can.reached can.few can.version can.stands) before.free_blocks before.free_inodes exact.sets)
+        (setting.store_blocks image can.well_formed n k value place can.fits can.reached can.few can.version can.stands) before.free_blocks before.free_inodes exact.sets)
 
     still_exact : IsExact (current_words (memory after.region)) after
     still_exact = rw stored
@@ -164,7 +169,7 @@ module _ {R : Type 0} (memory : R → Memory) (before after : Parts R) (n k plac
     }
 
 -- stated of any number
-pub commits_some : {R : Type 0} (memory : R → Memory) (before after : Parts R) (i k place value : ℕ) → 1 ≤ i → IsSettable (current_words (memory before.region)) i k place →
+pub commits_some : {R : Type 0} (memory : R → Memory) (before after : Parts R) (i k place value : ℕ) → 1 ≤ i → IsSettable (current_words (memory before.region)) i k place value →
     Adds (memory before.region) (memory after.region) (commit place value) → IsExact (current_words (memory before.region)) before → after.free_blocks ≡ before.free_blocks → after.free_inodes ≡ before.free_inodes →
     after.link_counts ≡ before.link_counts → after.snapshot_blocks ≡ before.snapshot_blocks → thawed (current_words (memory before.region)) (in_snapshot_of before) (sets i k) ≡ [] →
     CommitsChange memory before after (sets i k) (λ (image new : Image). SetsAttribute image new i k value)

@@ -1,6 +1,6 @@
 -- Two images of which the second has another value of one attribute: what it shows. A store to the word of the
 -- attribute makes such an image, and so does a commit of that word.
-use Rattle.std.proofs.Common.{◌≡◌, ◌≢◌, true, Option, None, Some, ℕ, zero, suc, ◌+◌, ◌*◌, ◌/◌, ◌%◌, ◌<◌, ◌≤◌, [], ◌∷◌, set, refl, sym, ◌∙◌, ap, ap₂, subst, subst₂, arith, inl, inr, lt_of_lt_of_le, get_or-set_other}
+use Rattle.std.proofs.Common.{◌≡◌, ◌≢◌, true, Option, None, Some, ℕ, zero, suc, ◌+◌, ◌*◌, ◌/◌, ◌%◌, ◌^◌, ◌<◌, ◌≤◌, [], ◌∷◌, set, refl, sym, ◌∙◌, ap, ap₂, subst, subst₂, arith, inl, inr, lt_of_lt_of_le, get_or-set_other}
 use Rattle.std.specs.Option.{option_map}
 use Rattle.std.specs.Prelude.{slice_set}
 use Rattle.std.proofs.lemmas.List.{length-set}
@@ -128,9 +128,10 @@ module _ (old mid new : Image) (i k value : ℕ) (wf : IsWellFormed old) (same :
 
 -- ---- the words of an inode
 
--- In a version that allows attributes, the inode has one other attribute if one of its words for them is another.
-module _ (old new : Image) (n k value : ℕ) (version : version_of new ≡ version_of old) (allowed : allows_attributes (version_of old) ≡ true) where
-  attribute_is : (image : Image) → allows_attributes (version_of image) ≡ true → (l : ℕ) → attribute image (suc n) l ≡ inode_word image (suc n) (3 + l)
+-- In a version that allows attributes, the inode has one other attribute if one of its words for them is another value
+-- of 64 bits.
+module _ (old new : Image) (n k value : ℕ) (fits : value < 2 ^ 64) (version : version_of new ≡ version_of old) (allowed : allows_attributes (version_of old) ≡ true) where
+  attribute_is : (image : Image) → allows_attributes (version_of image) ≡ true → (l : ℕ) → attribute image (suc n) l ≡ inode_word image (suc n) (3 + l) % 2 ^ 64
   attribute_is image allows l = rw allows refl
 
   allowed_after : allows_attributes (version_of new) ≡ true
@@ -138,9 +139,12 @@ module _ (old new : Image) (n k value : ℕ) (version : version_of new ≡ versi
 
   pub word_sets : k < 3 → inode_word new (suc n) (3 + k) ≡ value → ((l : ℕ) → l < 3 → l ≢ k → inode_word new (suc n) (3 + l) ≡ inode_word old (suc n) (3 + l)) →
       attributes_of new (suc n) ≡ slice_set (attributes_of old (suc n)) k value
-  word_sets few is same = go k few (λ l e. attribute_is new allowed_after l ∙ ap (λ x. inode_word new (suc n) (3 + x)) e ∙ is)
-      (λ l low other. attribute_is new allowed_after l ∙ same l low other ∙ sym (attribute_is old allowed l))
+  word_sets few is same = go k few (λ l e. attribute_is new allowed_after l ∙ ap (λ x. inode_word new (suc n) (3 + x) % 2 ^ 64) e ∙ ap (λ w. w % 2 ^ 64) is ∙ whole)
+      (λ l low other. attribute_is new allowed_after l ∙ ap (λ w. w % 2 ^ 64) (same l low other) ∙ sym (attribute_is old allowed l))
     where
+      whole : value % 2 ^ 64 ≡ value
+      whole = omega (arith, fits)
+
       go : (at : ℕ) → at < 3 → ((l : ℕ) → l ≡ at → attribute new (suc n) l ≡ value) → ((l : ℕ) → l < 3 → l ≢ at → attribute new (suc n) l ≡ attribute old (suc n) l) →
           attributes_of new (suc n) ≡ slice_set (attributes_of old (suc n)) at value
       go zero low here other = λ x. here 0 refl x ∷ other 1 (omega arith) (λ e. omega (arith, e)) x ∷ other 2 (omega arith) (λ e. omega (arith, e)) x ∷ []
@@ -151,7 +155,7 @@ module _ (old new : Image) (n k value : ℕ) (version : version_of new ≡ versi
 -- ---- a store in place
 
 -- a store to the word of attribute k of inode n + 1
-module _ (old : Image) (wf : IsWellFormed old) (n k value place : ℕ) (reached : IsReached old (suc n)) (few : k < 3) (allowed : allows_attributes (version_of old) ≡ true)
+module _ (old : Image) (wf : IsWellFormed old) (n k value place : ℕ) (fits : value < 2 ^ 64) (reached : IsReached old (suc n)) (few : k < 3) (allowed : allows_attributes (version_of old) ≡ true)
     (stands : ContentStandsAt old 0 (8 * suc n + (3 + k)) place) where
   in_inodes : (t : ℕ) → IsReached old t → t < inode_count old
   in_inodes = reached-in_file old wf
@@ -248,7 +252,7 @@ module _ (old : Image) (wf : IsWellFormed old) (n k value place : ℕ) (reached 
     };
     kind = λ t r. kind_stays t (in_inodes t r);
     attributes = λ t r other. attributes_stay t (in_inodes t r) other;
-    set = word_sets old (set old place value) n k value version allowed few word_here
+    set = word_sets old (set old place value) n k value fits version allowed few word_here
         (λ l low other. inode_word_stays n (3 + l) (in_inodes (suc n) reached) (omega (arith, low)) (λ e. other (omega (arith, e))));
     size = λ t r. size_stays t (in_inodes t r);
     ino = λ u s r kind low. content_stays u (32 * s + 0) r (not_inode_file u 1 kind) (omega (arith, low));
@@ -266,14 +270,14 @@ module _ (old : Image) (wf : IsWellFormed old) (n k value place : ℕ) (reached 
 -- ---- a commit
 
 -- a commit that gives no word but that of attribute k of inode n + 1 another value
-pub commit_sets : (old new : Image) (changes : Changes) (n k value : ℕ) → IsWellFormed old → IsReached old (suc n) → k < 3 → allows_attributes (version_of old) ≡ true →
+pub commit_sets : (old new : Image) (changes : Changes) (n k value : ℕ) → value < 2 ^ 64 → IsWellFormed old → IsReached old (suc n) → k < 3 → allows_attributes (version_of old) ≡ true →
     CommitsOnly old new changes (λ t l. (t ≡ 0) × (l ≡ 8 * suc n + (3 + k))) → changed_word changes old 0 (8 * suc n + (3 + k)) ≡ value → SetsAttribute old new (suc n) k value
-commit_sets old new changes n k value wf reached few allowed only is = record {
+commit_sets old new changes n k value fits wf reached few allowed only is = record {
   reached = reached;
   trees = only.commits.trees;
   kind = λ t r. kind-kept old new changes _ only t (in_inodes t r) (λ here. omega (arith, here.1, few));
   attributes = λ t r other. attributes-kept old new changes _ only t (in_inodes t r) (λ f least small here. other (omega (arith, here.1, few, least, small)));
-  set = word_sets old new n k value (version_stays old new only.commits.trees.has_magic) allowed few
+  set = word_sets old new n k value fits (version_stays old new only.commits.trees.has_magic) allowed few
       (word_committed old new changes _ only 0 (8 * suc n + (3 + k)) inode_file (inl refl) (omega (arith, low, few)) (λ e same. omega (arith, same, few)) ∙ is)
       (λ l small other. inode_word-kept old new changes _ only n (3 + l) low (omega (arith, small)) (λ e. omega (arith, e)) (λ here. other (omega (arith, here.1))));
   size = λ t r. size-kept old new changes _ only t (in_inodes t r) (λ here. omega (arith, here.1, few));

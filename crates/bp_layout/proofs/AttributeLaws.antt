@@ -1,5 +1,5 @@
 -- Attributes of inodes: when two images have the same ones, and when an inode has none.
-use Rattle.std.proofs.Common.{◌≡◌, ℕ, zero, suc, ◌+◌, ◌≤◌, ◌<◌, ◌∷◌, [], Bool, true, false, refl, sym, ◌∙◌, ap, arith, if◌then◌else◌}
+use Rattle.std.proofs.Common.{◌≡◌, ℕ, zero, suc, ◌+◌, ◌%◌, ◌^◌, ◌≤◌, ◌<◌, ◌∷◌, [], false, refl, sym, ◌∙◌, ap, arith, if◌then◌else◌}
 use Rattle.bp_limits.specs.CallLimits.{allows_attributes}
 use Rattle.bp_limits.specs.Limits.{attribute_field, inode_fields}
 use Rattle.bp_limits.specs.declared.version.Version.{Version}
@@ -9,15 +9,21 @@ use Rattle.bp_layout.specs.Inode.{attribute, attributes_of, inode_word}
 use Rattle.bp_layout.specs.Paths.{no_attributes}
 use Rattle.bp_layout.specs.Words.{Image}
 
+-- no word of an inode from the attributes on has a meaning in a version without attributes
+pub few_fields : (version : Version) → allows_attributes version ≡ false → inode_fields version ≤ attribute_field
+few_fields One none = omega arith
+few_fields Two none = omega arith
+few_fields Three none = absurd (cc)
+
 -- attribute k by the version
 abbrev pub attribute_by : Version → ℕ → ℕ
-attribute_by version w = if allows_attributes version then w else 0
+attribute_by version w = if allows_attributes version then w % 2 ^ 64 else 0
 
 attribute_same : (version : Version) (old new k : ℕ) → k < 3 → ((f : ℕ) → attribute_field ≤ f → f < inode_fields version → f ≡ attribute_field + k → new ≡ old) →
     attribute_by version new ≡ attribute_by version old
 attribute_same One old new k low same = refl
 attribute_same Two old new k low same = refl
-attribute_same Three old new k low same = same (attribute_field + k) (omega arith) (omega (arith, low)) refl
+attribute_same Three old new k low same = ap (λ w. w % 2 ^ 64) (same (attribute_field + k) (omega arith) (omega (arith, low)) refl)
 
 -- an inode has the same attributes in both images if the words that have a meaning are the same
 pub attributes_alike : (old new : Image) (t : ℕ) → version_of new ≡ version_of old →
@@ -34,7 +40,7 @@ attributes_alike old new (suc i) version same =
 attribute_none : (version : Version) (w k : ℕ) → k < 3 → ((f : ℕ) → attribute_field ≤ f → f < inode_fields version → f ≡ attribute_field + k → w ≡ 0) → attribute_by version w ≡ 0
 attribute_none One w k low none = refl
 attribute_none Two w k low none = refl
-attribute_none Three w k low none = none (attribute_field + k) (omega arith) (omega (arith, low)) refl
+attribute_none Three w k low none = ap (λ v. v % 2 ^ 64) (none (attribute_field + k) (omega arith) (omega (arith, low)) refl)
 
 -- an inode has no attributes if its words for them that have a meaning are 0
 pub attributes_none : (image : Image) (t : ℕ) →

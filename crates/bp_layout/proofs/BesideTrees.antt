@@ -1,5 +1,5 @@
 -- Two images that differ only in words of the superblock in which no tree stands: one is a file system where the other is.
-use Rattle.std.proofs.Common.{◌≡◌, ℕ, zero, suc, ◌+◌, ◌*◌, ◌/◌, ◌%◌, ◌<◌, ◌≤◌, [], ◌∷◌, if◌then◌else◌, length, refl, sym, ◌∙◌, ap, subst, subst₂, arith, le_trans}
+use Rattle.std.proofs.Common.{◌≡◌, ℕ, zero, suc, ◌+◌, ◌*◌, ◌/◌, ◌%◌, ◌^◌, ◌<◌, ◌≤◌, [], ◌∷◌, if◌then◌else◌, length, refl, sym, ◌∙◌, ap, subst, subst₂, arith, le_trans}
 use Rattle.bp_limits.specs.CallLimits.{allows_attributes}
 use Rattle.bp_limits.specs.Limits.{attribute_field, greatest_height}
 use Rattle.bp_layout.specs.Words.{Image, word, block_of, height_of, slot_word, byte_of}
@@ -41,7 +41,7 @@ module _ (old new : Image) (same : SameTrees old new) where
   words_same root zero k = refl
   words_same root (suc d) k = ap (λ w. slot_word new (block_of w) (k % 512)) (words_same root d (k / 512)) ∙ slots_same (block_of (tree_word old root d (k / 512))) (k % 512)
 
-  inode_word-same : (i f : ℕ) → inode_word new i f ≡ inode_word old i f
+  pub inode_word-same : (i f : ℕ) → inode_word new i f ≡ inode_word old i f
   inode_word-same i f = ap (λ r. content_word new r (8 * i + f)) same.root ∙ words_same (word old 2) (suc (height_of (word old 2))) (8 * i + f)
 
   pub kind-same : (t : ℕ) → kind_of new t ≡ kind_of old t
@@ -125,18 +125,19 @@ module _ (old new : Image) (same : SameTrees old new) where
 
   attribute-same : KeepsAttributes → (t k : ℕ) → attribute new t k ≡ attribute old t k
   attribute-same both zero k = refl
-  attribute-same both (suc i) k = λ n. if both n then inode_word-same (suc i) (attribute_field + k) n else 0
+  attribute-same both (suc i) k = λ n. if both n then inode_word-same (suc i) (attribute_field + k) n % 2 ^ 64 else 0
 
   pub attributes-same : KeepsAttributes → (t : ℕ) → attributes_of new t ≡ attributes_of old t
   attributes-same both t = λ n. attribute-same both t 0 n ∷ attribute-same both t 1 n ∷ attribute-same both t 2 n ∷ []
 
-  pub view-same : KeepsAttributes → SameView old new
-  view-same both = record {
+  -- where each inode has the same attributes, it is the same to all who look
+  pub view-by : ((i : ℕ) → IsReached old i → attributes_of new i ≡ attributes_of old i) → SameView old new
+  view-by attributes = record {
     directories = directories-same;
-    attributes = λ i r. attributes-same both i;
+    attributes = attributes;
     bytes = λ i r kind. rw (size-same i) (map-same _ _ 0 _ (λ o low high. byte-same i o));
   }
 
   -- and shows the same, if both versions have attributes or neither has
   pub still_shown : KeepsAttributes → (path : Path) → shown new path ≡ shown old path
-  still_shown both = shown-same old new (view-same both)
+  still_shown both = shown-same old new (view-by (λ i r. attributes-same both i))

@@ -1,7 +1,7 @@
 -- The numbers of the trees of an image: 0 is the inode file, and any other number is the tree of that inode.
-use Rattle.std.specs.Prelude.{◌≡◌, ◌≢◌, ℕ, zero, suc, ◌+◌, ◌*◌, ◌/◌, ◌%◌, [], ◌∷◌, if◌then◌else◌}
+use Rattle.std.specs.Prelude.{◌≡◌, ◌≢◌, ◌<◌, ℕ, zero, suc, ◌+◌, ◌*◌, ◌/◌, ◌%◌, ◌^◌, [], ◌∷◌, if◌then◌else◌}
 use Rattle.bp_limits.specs.CallLimits.{allows_attributes}
-use Rattle.bp_limits.specs.Limits.{attribute_field, block_words, directory_kind, file_kind, inode_size, inode_words, root_field, size_field, super_root, super_size}
+use Rattle.bp_limits.specs.Limits.{attribute_field, attributes, block_words, directory_kind, file_kind, inode_size, inode_words, root_field, size_field, super_root, super_size}
 use Rattle.bp_layout.specs.Words.{Image, word, height_of}
 use Rattle.bp_layout.specs.Formatted.{version_of}
 use Rattle.bp_layout.specs.Paths.{Attributes}
@@ -30,17 +30,26 @@ abbrev pub size_of : Image → ℕ → ℕ
 size_of image zero = word image super_size
 size_of image (suc i) = inode_word image (suc i) size_field
 
--- attribute k of an inode, from 0 on: in version 3 a word of the inode, in earlier versions 0; and 0 for the inode file
+-- attribute k of an inode, from 0 on: in version 3 the 64 bits of a word of the inode, in earlier versions 0; and 0 for
+-- the inode file
 abbrev pub attribute : Image → ℕ → ℕ → ℕ
 attribute image zero k = 0
 attribute image (suc i) k =
-    if allows_attributes (version_of image) then inode_word image (suc i) (attribute_field + k) else 0
+    if allows_attributes (version_of image) then inode_word image (suc i) (attribute_field + k) % 2 ^ 64 else 0
 
 abbrev pub attributes_of : Image → ℕ → Attributes
 attributes_of image i = attribute image i 0 ∷ attribute image i 1 ∷ attribute image i 2 ∷ []
 
 abbrev pub inode_count : Image → ℕ
 inode_count image = size_of image 0 / inode_size
+
+-- in the inodes below this one, the words that version 3 makes attributes are 0
+abbrev pub AreClearBelow : Image → ℕ → Type 0
+AreClearBelow image count = (i k : ℕ) → i < count → k < attributes → inode_word image i (attribute_field + k) ≡ 0
+
+-- in all inodes the words that version 3 makes attributes are 0
+abbrev pub AreClear : Image → Type 0
+AreClear image = AreClearBelow image (inode_count image)
 
 -- the word number `index` at depth `depth` + 1 of tree t is at this place of the image
 pub record StandsAt (image : Image) (t depth index place : ℕ) : Type 0 where

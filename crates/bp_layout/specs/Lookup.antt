@@ -1,5 +1,5 @@
 -- What an image has at each path.
-use Rattle.std.specs.Prelude.{ℕ, List, [], ◌∷◌, ◌==◌, Bool, false, Option, None, Some, option_map, option_and_then, if◌then◌else◌}
+use Rattle.std.specs.Prelude.{ℕ, [], ◌∷◌, ◌==◌, Bool, false, Option, None, Some, option_map, option_and_then, if◌then◌else◌}
 use Rattle.bp_limits.specs.Limits.{root_ino, file_kind}
 use Rattle.bp_layout.specs.Words.{Image}
 use Rattle.bp_layout.specs.Tree.{content}

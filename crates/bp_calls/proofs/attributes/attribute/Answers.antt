@@ -1,4 +1,4 @@
-use Rattle.std.proofs.Common.{◌∙◌, arith}
+use Rattle.std.proofs.Common.{arith}
 use Rattle.bp_layout.specs.Reached.IsReached.{inode_file}
 use Rattle.bp_layout.proofs.Reached.{reached-in_file}
 use Rattle.pm_region.specs.Memory.{current_words}
@@ -16,4 +16,6 @@ pub load-requires : goal.load-requires
 load-requires g c = omega (arith, c.place-at.ensures.in_range, length-current_words (g.R.Region.memory c.args.region.now))
 
 pub returns : goal.returns
-returns g c = c.load.ensures ∙ attribute_at (current_words (g.R.Region.memory c.args.region.now)) c.args.ino c.args.number c.place-at.result c.requires.some c.requires.version c.place-at.ensures.place
+returns g c =
+    attribute_at (current_words (g.R.Region.memory c.args.region.now)) c.args.ino c.args.number c.place-at.result c.requires.some c.requires.version c.place-at.ensures.place
+    c.load.result c.load.type_inv c.load.ensures

@@ -24,5 +24,6 @@ returns g c =
       few = c.requires.number;
       version = c.requires.version;
       stands = c.place-at.ensures.place;
+      fits = c.ranges.value.fits;
     })
     c.commit_word.ensures c.requires.mounted.exact refl refl refl refl c.requires.clear

@@ -131,7 +131,7 @@ enum {
     BPFS_NO_SPACE = 11,      /* fewer blocks are free than the call needs: see bpfs_lack */
     BPFS_NO_MEMORY = 12,     /* malloc failed */
     BPFS_NO_SNAP = 13,       /* there is no snapshot */
-    BPFS_HAS_SNAP = 14,      /* there is a snapshot already */
+    BPFS_HAS_SNAP = 14,      /* there is a snapshot */
     BPFS_OLD_VERSION = 15,   /* the version has no snapshot (1), or no attributes (1 and 2) */
     BPFS_PAST_END = 16,      /* a piece of a batch ends past the end of its file */
     BPFS_HAS_NONE = 32,      /* the handle is closed: it has no volume */
@@ -141,6 +141,7 @@ enum {
     BPFS_BAD_SIZE = 36,      /* no image has this size, or this image has another: see bpfs_fault */
     BPFS_DAMAGED = 37,       /* a check of the format fails: see bpfs_fault */
     BPFS_OUT_OF_RANGE = 38,  /* no such word, index, attribute, version or block; short array */
+    BPFS_AGAIN = 39,         /* a part of an upgrade is done: carry the events, drain, call again */
 };
 
 enum {
@@ -312,6 +313,13 @@ uint32_t bpfs_set_attribute(bpfs *fs, const uint8_t *path, size_t length, uint64
 /* Changes an image of version 1 to version 2, with the same tree. Does nothing in a later version.
  * This cannot be undone. */
 uint32_t bpfs_upgrade(bpfs *fs);
+
+/* Changes an image of version 1 or 2 to version 3, with the same tree. Does nothing in version 3.
+ * This cannot be undone. The words that become attributes have to be 0 first. While there are
+ * others, the call sets up to 196,608 of them to 0 and returns BPFS_AGAIN; the files are the same
+ * then, in the old version. Carry the events, drain, and call again. BPFS_HAS_SNAP: the version is
+ * 2, and there is a snapshot. */
+uint32_t bpfs_upgrade_to_three(bpfs *fs);
 
 /* Takes a snapshot: keeps the tree as it is now, for the bpfs_snap_ calls to read. There is at most
  * one, and none in version 1. It takes no block. From then on, a call that changes the tree first

@@ -17,7 +17,7 @@ const char *bpfs_strerror(uint32_t result) {
     case BPFS_NO_SPACE: return "not enough free blocks";
     case BPFS_NO_MEMORY: return "out of memory";
     case BPFS_NO_SNAP: return "there is no snapshot";
-    case BPFS_HAS_SNAP: return "there is a snapshot already";
+    case BPFS_HAS_SNAP: return "there is a snapshot";
     case BPFS_OLD_VERSION: return "the version of the image's format has no snapshots, or no attributes";
     case BPFS_PAST_END: return "a piece of the batch ends past the end of its file";
     case BPFS_HAS_NONE: return "the handle is closed";
@@ -27,6 +27,7 @@ const char *bpfs_strerror(uint32_t result) {
     case BPFS_BAD_SIZE: return "the size of the image is wrong";
     case BPFS_DAMAGED: return "the image is damaged";
     case BPFS_OUT_OF_RANGE: return "an argument is out of range, or an array is too short";
+    case BPFS_AGAIN: return "a part is done: carry, drain, and call again";
     default: return "unknown result";
     }
 }

@@ -159,6 +159,7 @@ static void closed_handles(void) {
     IS(BPFS_HAS_NONE, bpfs_set_attribute(&fs, PATH("/a"), 0, 1, &lack));
     IS(BPFS_OUT_OF_RANGE, bpfs_set_attribute(&fs, PATH("/a"), BPFS_ATTRIBUTES, 1, &lack));
     IS(BPFS_HAS_NONE, bpfs_upgrade(&fs));
+    IS(BPFS_HAS_NONE, bpfs_upgrade_to_three(&fs));
     IS(BPFS_HAS_NONE, bpfs_snap(&fs));
     IS(BPFS_HAS_NONE, bpfs_unsnap(&fs));
     IS(BPFS_HAS_NONE, bpfs_snap_read(&fs, PATH("/a"), 0, bytes, sizeof bytes, &count));
@@ -604,6 +605,38 @@ static void full_attributes(void) {
     IS(BPFS_OK, bpfs_close(&fs));
 }
 
+/* The words of a block of inodes that version 3 makes attributes are dead before, and may be anything. */
+static void upgrades(uint32_t version) {
+    make(version);
+    IS(BPFS_OK, bpfs_create(&fs, PATH("/a"), &lack));
+    IS(0, bpfs_carry(&fs, &carrier));
+    IS(BPFS_OK, bpfs_close(&fs));
+    for (size_t i = 0; i < 64; i++)
+        for (size_t j = 3; j < 6; j++) words[BPFS_BLOCK_WORDS + 8 * i + j] = i + j;
+    IS(BPFS_OK, bpfs_mount(&fs, words, WORDS, &fault));
+    IS(0, bpfs_bind(&fs, &carrier));
+    if (version == 2) {
+        IS(BPFS_OK, bpfs_snap(&fs));
+        IS(BPFS_HAS_SNAP, bpfs_upgrade_to_three(&fs));
+        IS(BPFS_OK, bpfs_unsnap(&fs));
+    }
+    IS(BPFS_AGAIN, bpfs_upgrade_to_three(&fs));
+    IS(BPFS_OLD_VERSION, bpfs_set_attribute(&fs, PATH("/a"), 0, 1, &lack));
+    size_t events = bpfs_event_count(&fs);
+    IS(BPFS_OK, bpfs_upgrade_to_three(&fs));
+    IS(events + 8, bpfs_event_count(&fs)); /* five stores, two barriers and a marker */
+    IS(0, attribute("/", 0) | attribute("/", 1) | attribute("/", 2) | attribute("/a", 0) | attribute("/a", 1) | attribute("/a", 2));
+    IS(BPFS_OK, bpfs_set_attribute(&fs, PATH("/a"), 0, 1, &lack));
+    IS(BPFS_OK, bpfs_snap(&fs));
+    IS(BPFS_OK, bpfs_upgrade_to_three(&fs)); /* nothing is left to do */
+    IS(0, bpfs_carry(&fs, &carrier));
+    are_carried();
+    IS(BPFS_OK, bpfs_close(&fs));
+    IS(BPFS_OK, bpfs_mount(&fs, words, WORDS, &fault));
+    IS(1, attribute("/a", 0));
+    IS(BPFS_OK, bpfs_close(&fs));
+}
+
 /* A pointer to a single result may be NULL. */
 static void unwanted_results(void) {
     uint8_t bytes[BPFS_MAX_NAME];
@@ -665,6 +698,8 @@ int main(void) {
     full_snapshots();
     no_attributes(1);
     no_attributes(2);
+    upgrades(1);
+    upgrades(2);
     attributes();
     snapshots_of_attributes();
     cut_attributes(false);

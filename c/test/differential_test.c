@@ -647,6 +647,18 @@ static void call_upgrade(void) {
     remember();
 }
 
+/* While there are words to clear, the call clears some and has to be repeated. */
+static void call_upgrade_to_three(void) {
+    size_t unclear = present.version < 3 && !present.kept ? reader_unclear(shadow, blocks) : 0;
+    uint32_t wanted = present.version == 3 ? BPFS_OK : present.kept ? BPFS_HAS_SNAP : unclear ? BPFS_AGAIN : BPFS_OK;
+    uint32_t code = bpfs_upgrade_to_three(fs);
+    returns(code, is_full() ? BPFS_LOG_FULL : wanted);
+    follow(code != BPFS_LOG_FULL, code == BPFS_OK || code == BPFS_AGAIN);
+    if (code == BPFS_AGAIN) holds("words are cleared", reader_unclear(shadow, blocks) < unclear);
+    if (code == BPFS_OK) present.version = 3;
+    if (code == BPFS_OK || code == BPFS_AGAIN) remember();
+}
+
 /* ---- calls that change nothing ---- */
 
 /* The node that a call has to find, or its result. */
@@ -1184,7 +1196,7 @@ static void is_closed(void) {
     uint32_t codes[] = {
         bpfs_create(fs, p, 2, lack), bpfs_mkdir(fs, p, 2, lack), bpfs_unlink(fs, p, 2, lack), bpfs_rmdir(fs, p, 2, lack),
         bpfs_rename(fs, p, 2, p, 2, lack), bpfs_link(fs, p, 2, p, 2, lack), bpfs_write(fs, p, 2, 0, p, 1, lack), bpfs_truncate(fs, p, 2, 1, lack),
-        bpfs_batch(fs, NULL, 0, NULL, 0, lack), bpfs_upgrade(fs), bpfs_snap(fs), bpfs_unsnap(fs), bpfs_read(fs, p, 2, 0, into, 8, count),
+        bpfs_batch(fs, NULL, 0, NULL, 0, lack), bpfs_upgrade(fs), bpfs_upgrade_to_three(fs), bpfs_snap(fs), bpfs_unsnap(fs), bpfs_read(fs, p, 2, 0, into, 8, count),
         bpfs_set_attribute(fs, p, 2, 0, 1, lack), bpfs_attribute(fs, p, 2, 0, NULL), bpfs_stat(fs, p, 2, NULL), bpfs_links(fs, p, 2, NULL),
         bpfs_list(fs, p, 1, count), bpfs_snap_read(fs, p, 2, 0, into, 8, count),
         bpfs_snap_stat(fs, p, 2, NULL), bpfs_snap_list(fs, p, 1, count), bpfs_listed(fs, 0, into, 8, count, NULL), bpfs_space(fs, NULL),
@@ -1260,7 +1272,7 @@ static const struct {
     {"bpfs_rename or bpfs_link", call_two, 100, false}, {"bpfs_write", call_write, 180, false}, {"bpfs_truncate", call_truncate, 60, false},
     {"bpfs_set_attribute", call_set_attribute, 50, false},
     {"bpfs_batch", call_batch, 70, false}, {"bpfs_snap", call_snap, 8, false}, {"bpfs_unsnap", call_unsnap, 6, false},
-    {"bpfs_upgrade", call_upgrade, 1, false}, {"bpfs_read", call_read, 90, false}, {"bpfs_stat", call_stat, 60, false},
+    {"bpfs_upgrade", call_upgrade, 1, false}, {"bpfs_upgrade_to_three", call_upgrade_to_three, 1, false}, {"bpfs_read", call_read, 90, false}, {"bpfs_stat", call_stat, 60, false},
     {"bpfs_links", call_links, 30, false}, {"bpfs_attribute", call_attribute, 30, false},
     {"bpfs_list", call_list, 30, false}, {"bpfs_listed", call_listed, 40, false},
     {"bpfs_totals", call_totals, 10, false}, {"bpfs_words", call_words, 20, false}, {"bpfs_events", call_events, 20, false},

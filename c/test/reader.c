@@ -126,3 +126,15 @@ bool reader_shows(const uint64_t *image, uint32_t blocks, uint32_t version, cons
     for (uint32_t i = 0; i < blocks; i++) *live += is_live[i];
     return true;
 }
+
+size_t reader_unclear(const uint64_t *image, uint32_t blocks) {
+    content inodes = {image[2], image[3]};
+    size_t count = 0;
+    words = image;
+    block_count = blocks;
+    for (uint64_t at = 0; at < inodes.size; at += INODE_WORDS * 8) {
+        const uint64_t *inode = words_of(inodes, at);
+        for (int i = 0; i < BPFS_ATTRIBUTES; i++) count += inode[ATTRIBUTE_WORD + i] != 0;
+    }
+    return count;
+}

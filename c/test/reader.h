@@ -13,6 +13,9 @@ extern "C" {
  * snapshot, or NULL. Sets *live to the number of blocks in use. */
 bool reader_shows(const uint64_t *image, uint32_t blocks, uint32_t version, const tree *now, const tree *kept, uint32_t *live);
 
+/* How many words of the inodes of an image are not 0 that version 3 makes attributes. */
+size_t reader_unclear(const uint64_t *image, uint32_t blocks);
+
 #ifdef __cplusplus
 }
 #endif

@@ -79,3 +79,5 @@ pub mod RowLaws
 pub mod CoverPaths
 pub mod WaysStay
 pub mod AttributeWords
+pub mod ClearedImages
+pub mod ClearedSteps

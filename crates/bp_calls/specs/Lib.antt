@@ -29,3 +29,4 @@ pub mod Rows
 pub mod ContentPaths
 pub mod Commits
 pub mod CommitsTouched
+pub mod Cleared

@@ -3,6 +3,7 @@
 
 mod attributes;
 mod batches;
+pub mod clear;
 mod commit;
 mod creation;
 mod growth;

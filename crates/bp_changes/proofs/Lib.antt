@@ -5,6 +5,7 @@ pub mod SameMeaning
 pub mod Frame
 pub mod Stores
 pub mod Separation
+pub mod ClearedWords
 pub mod ContentStore
 pub mod GainsEntry
 pub mod EntryAdded

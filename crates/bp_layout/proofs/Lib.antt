@@ -20,6 +20,7 @@ pub mod BothTrees
 pub mod NoSnapshot
 pub mod Format
 pub mod Upgrade
+pub mod ToThree
 pub mod FewLeaves
 pub mod WordBytes
 pub mod NameBytes

@@ -1,7 +1,7 @@
 -- An upgrade: before its magic number the image is what it was, and then one of version 2 that shows the same.
-use Rattle.std.proofs.Common.{◌≡◌, ℕ, ◌/◌, ◌≤◌, false, length, refl, sym, ◌∙◌, ap, arith, ne_eqb}
+use Rattle.std.proofs.Common.{◌≡◌, ◌⊎◌, inl, inr, ℕ, ◌/◌, ◌≤◌, ◌&&◌, nat_lt, false, length, refl, sym, ◌∙◌, ap, arith, ne_eqb}
 use Rattle.bp_limits.specs.declared.version.Version.TheVariants.{One, Two}
-use Rattle.bp_limits.specs.CallLimits.{allows_attributes}
+use Rattle.bp_limits.specs.CallLimits.{allows_attributes, allows_snapshot}
 use Rattle.bp_limits.specs.Limits.{magic, version_at}
 use Rattle.bp_limits.proofs.Versions.{height_most, version_of_magic}
 use Rattle.bp_layout.specs.Words.{Image, word}
@@ -17,13 +17,13 @@ use Rattle.bp_layout.proofs.NoSnapshot.{alone_file_system, first_has_none, has_n
 use Rattle.bp_layout.proofs.BesideTrees.{SameTrees, still_well_formed, still_one, still_shown}
 use Rattle.bp_layout.proofs.LastValue.{AllWithinImage, last_value, length-after_stores, word-after_stores}
 
--- in version 1 the words that version 2 keeps for a second inode file may be any
-module _ (old new : Image) (wf : IsWellFormed old) (same : SameTrees old new) (has_magic : word new 0 ≡ word old 0) (counted : word new 1 ≡ word old 1) (first : version_of old ≡ One) where
+-- words of the superblock other than those of the first tree, the magic number and the number of blocks may be any
+module _ (old new : Image) (wf : IsWellFormed old) (same : SameTrees old new) (has_magic : word new 0 ≡ word old 0) (counted : word new 1 ≡ word old 1) where
   version-stays : version_of new ≡ version_of old
   version-stays = ap version_at has_magic
 
-  formatted_first : IsFormatted new
-  formatted_first = record {
+  formatted_still : IsFormatted new
+  formatted_still = record {
     sized = record {
       whole = rw same.whole wf.formatted.sized.whole;
       at_least = rw same.whole wf.formatted.sized.at_least;
@@ -33,23 +33,33 @@ module _ (old new : Image) (wf : IsWellFormed old) (same : SameTrees old new) (h
     counted = counted ∙ rw same.whole wf.formatted.counted;
   }
 
-  pub same_first : Same old new
-  same_first = record {
+  same_beside : Same old new
+  same_beside = record {
     old_well_formed = wf;
-    new_well_formed = still_well_formed old new same wf formatted_first (rw version-stays (omega arith));
+    new_well_formed = still_well_formed old new same wf formatted_still (rw version-stays (omega arith));
     version = version-stays;
     shows = still_shown old new same (ap allows_attributes version-stays);
     one = still_one old new same;
   }
 
-  pub same_files_first : SameFiles old new
-  same_files_first = record {
-    first = same_first;
-    second = record {
-      there = first_has_none new (version-stays ∙ first) ∙ sym (first_has_none old first);
-      same = λ there. let none : has_snapshot old ≡ false = first_has_none old first in absurd (cc);
-    };
+  -- with no snapshot before and after
+  same_files_beside : has_snapshot old ≡ false → has_snapshot new ≡ false → SameFiles old new
+  same_files_beside none still = record {
+    first = same_beside;
+    second = record { there = still ∙ sym none; same = λ there. absurd (cc) };
   }
+
+  -- in version 1 the words that version 2 keeps for a second inode file may be any
+  pub same_files_first : version_of old ≡ One → SameFiles old new
+  same_files_first first = same_files_beside (first_has_none old first) (first_has_none new (version-stays ∙ first))
+
+  -- in any version the size of a snapshot may become 0 where there is none
+  pub same_files_alone : has_snapshot old ≡ false → (word new 5 ≡ word old 5) ⊎ (word new 5 ≡ 0) → SameFiles old new
+  same_files_alone none size = same_files_beside none (still size)
+    where
+      still : (word new 5 ≡ word old 5) ⊎ (word new 5 ≡ 0) → has_snapshot new ≡ false
+      still (inl stays) = (λ n. allows_snapshot (version-stays n) && nat_lt 0 (stays n)) ∙ none
+      still (inr zero) = has_none new (λ allows. zero)
 
 module _ (image : Image) (wf : IsWellFormed image) where
   within : AllWithinImage (length image) upgrade_stores

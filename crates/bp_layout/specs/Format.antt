@@ -62,3 +62,16 @@ upgrade_stores = flat_map (λ stores. stores) upgrade_epochs
 
 abbrev pub upgraded : Image → Image
 upgraded image = after_stores image upgrade_stores
+
+-- ---- an upgrade to version 3
+
+-- The stores of an upgrade to version 3, in two epochs: the words of the superblock that have a meaning there, and then
+-- its magic number.
+abbrev pub to_three_epochs : List (List (ℕ × ℕ))
+to_three_epochs = kept_words Three ∷ ((super_magic, magic Three) ∷ []) ∷ []
+
+abbrev pub to_three_stores : List (ℕ × ℕ)
+to_three_stores = flat_map (λ stores. stores) to_three_epochs
+
+abbrev pub upgraded_to_three : Image → Image
+upgraded_to_three image = after_stores image to_three_stores

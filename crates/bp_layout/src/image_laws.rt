@@ -4,9 +4,9 @@ ghost use Rattle.std.specs.Prelude.{None, Some, [], ℕ, ◌*◌, ◌∷◌, ◌
 ghost use Rattle.bp_layout.specs.Checks.{NoneFails};
 ghost use Rattle.bp_layout.specs.Formatted.{IsFormatted, version_of};
 ghost use Rattle.bp_layout.specs.Paths.{Name, Path, no_attributes};
-ghost use Rattle.bp_layout.specs.Format.{formatted, upgraded};
-ghost use Rattle.bp_limits.specs.declared.version.Version.TheVariants.{Two};
-ghost use Rattle.bp_layout.specs.Inode.{IsDirectory};
+ghost use Rattle.bp_layout.specs.Format.{formatted, upgraded, upgraded_to_three};
+ghost use Rattle.bp_limits.specs.declared.version.Version.TheVariants.{Three, Two};
+ghost use Rattle.bp_layout.specs.Inode.{AreClear, IsDirectory};
 ghost use Rattle.bp_limits.specs.CallLimits.{allows_attributes};
 ghost use Rattle.bp_limits.specs.Limits.{block_words, max_blocks, min_blocks};
 ghost use Rattle.bp_layout.specs.Lookup.{find_one, lookup, shown};
@@ -51,6 +51,19 @@ pub fn upgrade_shows_the_same(image: &[u64])
     ensures shows { allows_attributes (version_of image.now) ≡ false
         → (path : Path) → shown (upgraded image.now) path ≡ shown image.now path }
     ensures one { (p q : Path) → find_one (upgraded image.now) p q ≡ find_one image.now p q }
+{}
+
+/// States that an upgrade to version 3 makes a well-formed image a file system of version 3, without a snapshot. The
+/// contents at each path are the same if the image's version has no attributes and the words that become attributes
+/// are 0.
+pub fn upgrade_to_three_shows_the_same(image: &[u64])
+    requires { IsWellFormed image.now }
+    ensures well_formed { IsFileSystem (upgraded_to_three image.now) }
+    ensures single { has_snapshot (upgraded_to_three image.now) ≡ false }
+    ensures version { version_of (upgraded_to_three image.now) ≡ Three }
+    ensures shows { AreClear image.now → allows_attributes (version_of image.now) ≡ false
+        → (path : Path) → shown (upgraded_to_three image.now) path ≡ shown image.now path }
+    ensures one { (p q : Path) → find_one (upgraded_to_three image.now) p q ≡ find_one image.now p q }
 {}
 
 /// States that a directory of a well-formed image has only one path.

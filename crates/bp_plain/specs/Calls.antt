@@ -24,7 +24,9 @@ pub data Call : Type 0 where
   -- an existing path of a file, and the new path
   link : List ℕ → List ℕ → Call
   links : List ℕ → Call
+  -- to version 2 of the format, and to version 3
   upgrade : Call
+  upgrade_to_three : Call
   snap : Call
   unsnap : Call
   -- the same calls on the snapshot

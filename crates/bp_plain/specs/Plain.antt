@@ -11,10 +11,10 @@ use Rattle.bp_plain.specs.PlainTree.{FileTree, Nodes, Aliases, PathMap, is_one, 
 use Rattle.bp_layout.specs.declared.fields.Kind.{Kind}
 use Rattle.bp_layout.specs.declared.fields.Kind.TheVariants.{File, Dir}
 use Rattle.bp_plain.specs.Calls.{Call, Piece, Refusal, Answer}
-use Rattle.bp_plain.specs.Calls.Call.{create, mkdir, unlink, rmdir, list, stat, read, write, truncate, rename, link, links, upgrade, snap, unsnap, snap_list, snap_stat, snap_read, batch, attribute, set_attribute}
+use Rattle.bp_plain.specs.Calls.Call.{create, mkdir, unlink, rmdir, list, stat, read, write, truncate, rename, link, links, upgrade, upgrade_to_three, snap, unsnap, snap_list, snap_stat, snap_read, batch, attribute, set_attribute}
 use Rattle.bp_plain.specs.Calls.Refusal.{bad_path, not_found, not_dir, is_dir, exists, not_empty, into_self, is_root, too_long, too_big, no_snap, has_snap, old_version, past_end}
 use Rattle.bp_plain.specs.Calls.Answer.{done, bytes, file_of, dir_of, names, links_of, attribute_of, refused}
-use Rattle.bp_limits.specs.declared.version.Version.TheVariants.{Two}
+use Rattle.bp_limits.specs.declared.version.Version.TheVariants.{Two, Three}
 
 -- ---- paths
 
@@ -304,6 +304,7 @@ refusal tree (links text) = on_path text (file_refusal tree.now.nodes)
 refusal tree (attribute text number) = on_path text (attribute_refusal tree)
 refusal tree (set_attribute text number value) = on_path text (attribute_refusal tree)
 refusal tree upgrade = None
+refusal tree upgrade_to_three = when (not (allows_attributes tree.version) && is_some tree.snap) has_snap
 refusal tree snap = first (when (not (allows_snapshot tree.version)) old_version ∷ when (is_some tree.snap) has_snap ∷ [])
 refusal tree unsnap = when (is_none tree.snap) no_snap
 refusal tree (snap_list text) = on_path text (λ p. on_snap tree.snap (λ nodes. dir_refusal nodes p))
@@ -330,6 +331,7 @@ tree_after tree (rename from to) = with_now tree (with_moved tree.now (path_name
 tree_after tree (link from to) = with_now tree (with_name tree.now (path_named from) (path_named to))
 tree_after tree (set_attribute text number value) = with_now tree (with_attribute tree.now (path_named text) number value)
 tree_after tree upgrade = record tree { version = Two }
+tree_after tree upgrade_to_three = record tree { version = Three }
 tree_after tree snap = record tree { snap = Some tree.now }
 tree_after tree unsnap = record tree { snap = None }
 tree_after tree (batch pieces) = with_now tree (with_pieces tree.now pieces)
@@ -349,6 +351,7 @@ changes tree (rename from to) = not (same_path (path_named from) (path_named to)
 changes tree (link from to) = true
 changes tree (set_attribute text number value) = true
 changes tree upgrade = not (allows_snapshot tree.version)
+changes tree upgrade_to_three = not (allows_attributes tree.version)
 changes tree snap = true
 changes tree unsnap = true
 changes tree (batch pieces) = list_any (λ piece. nat_lt 0 (length piece.bytes)) pieces

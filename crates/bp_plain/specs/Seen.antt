@@ -9,7 +9,7 @@ use Rattle.bp_plain.specs.declared.errors.FsError.TheVariants as fault
 use Rattle.bp_plain.specs.declared.calls.Piece.{Piece as GivenPiece}
 use Rattle.bp_plain.specs.declared.calls.Span.{Span}
 use Rattle.bp_plain.specs.Calls.{Call, Piece, Refusal}
-use Rattle.bp_plain.specs.Calls.Call.{create, mkdir, unlink, rmdir, list, stat, read, write, truncate, rename, link, links, upgrade, snap, unsnap, snap_list, snap_stat, snap_read, batch, attribute, set_attribute}
+use Rattle.bp_plain.specs.Calls.Call.{create, mkdir, unlink, rmdir, list, stat, read, write, truncate, rename, link, links, upgrade, upgrade_to_three, snap, unsnap, snap_list, snap_stat, snap_read, batch, attribute, set_attribute}
 use Rattle.bp_plain.specs.Calls.Refusal.{bad_path, not_found, not_dir, is_dir, exists, not_empty, into_self, is_root, too_long, too_big, no_space, no_memory, no_snap, has_snap, old_version, past_end}
 
 -- the bytes of a part of a text; `piece_in` is a piece whose path and bytes are parts of a text
@@ -34,6 +34,7 @@ call_of (given.Rename from to) = rename from.now to.now
 call_of (given.Link from to) = link from.now to.now
 call_of (given.Links path) = links path.now
 call_of given.Upgrade = upgrade
+call_of given.UpgradeToThree = upgrade_to_three
 call_of given.Snap = snap
 call_of given.Unsnap = unsnap
 call_of (given.SnapList path) = snap_list path.now

@@ -78,6 +78,8 @@ pub enum Call<'a> {
     Links(&'a [u8]),
     /// Changes the format from version 1 to version 2. Later versions stay.
     Upgrade,
+    /// Changes the format from version 1 or 2 to version 3, unless there is a snapshot. Version 3 stays.
+    UpgradeToThree,
     /// Takes a snapshot: keeps the files and directories as they are now, for later calls to read.
     Snap,
     /// Deletes the snapshot.

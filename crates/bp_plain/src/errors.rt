@@ -53,7 +53,7 @@ pub enum FsError {
     /// There is no snapshot.
     #[error("no snapshot")]
     NoSnap,
-    /// There is a snapshot already.
+    /// There is a snapshot. It must be deleted before another is taken, and before an upgrade to version 3.
     #[error("a snapshot is there")]
     HasSnap,
     /// The version of the format has no snapshots (version 1), or no attributes (versions 1 and 2).

@@ -2,7 +2,7 @@
 
 ghost use Rattle.bp_limits.specs.Limits.{attributes, max_read};
 ghost use Rattle.bp_limits.specs.CallLimits.{allows_attributes, allows_snapshot};
-ghost use Rattle.bp_plain.specs.Calls.Call.{attribute, create, link, links, list, mkdir, read, rmdir, set_attribute, snap, snap_list, snap_read, snap_stat, stat, truncate, unlink, unsnap, upgrade, write};
+ghost use Rattle.bp_plain.specs.Calls.Call.{attribute, create, link, links, list, mkdir, read, rmdir, set_attribute, snap, snap_list, snap_read, snap_stat, stat, truncate, unlink, unsnap, upgrade, upgrade_to_three, write};
 ghost use Rattle.bp_plain.specs.Plain as plain;
 ghost use Rattle.bp_plain.specs.PlainTree.{empty_tree};
 ghost use Rattle.bp_plain.specs.Seen.{CanAsk, call_of, refusal_of};
@@ -130,6 +130,7 @@ impl Plain {
             Call::Link { from, to } => self.refuses_link(alloc, from, to),
             Call::Links(text) => self.refuses_links(alloc, text),
             Call::Upgrade => Ok(None),
+            Call::UpgradeToThree => Ok(self.refuses_upgrade_to_three()),
             Call::Snap => Ok(self.refuses_snap()),
             Call::Unsnap => Ok(self.refuses_unsnap()),
             Call::SnapList(text) => self.refuses_snap_list(alloc, text),
@@ -274,6 +275,15 @@ impl Plain {
         }
     }
 
+    fn refuses_upgrade_to_three(&self) -> Option<FsError>
+        ensures { option_map refusal_of result ≡ plain.refusal self.now upgrade_to_three }
+    {
+        when(
+            !has_attributes(self.version()) && self.snapshot().is_some(),
+            FsError::HasSnap,
+        )
+    }
+
     fn refuses_snap(&self) -> Option<FsError>
         ensures { option_map refusal_of result ≡ plain.refusal self.now snap }
     {
@@ -401,6 +411,7 @@ impl Plain {
             Call::Link { from, to } => self.link(alloc, from, to, reply),
             Call::Links(text) => self.links(alloc, text, reply),
             Call::Upgrade => self.upgrade(reply),
+            Call::UpgradeToThree => self.upgrade_to_three(reply),
             Call::Snap => self.snap(alloc, reply),
             Call::Unsnap => self.unsnap(reply),
             Call::SnapList(text) => self.snap_list(alloc, text, reply),
@@ -556,6 +567,15 @@ impl Plain {
         if is_old(self.version) {
             self.version = Version::Two;
         }
+        reply.set_done();
+        Ok(())
+    }
+
+    fn upgrade_to_three(&mut self, reply: &mut Reply) -> Result<(), AllocError>
+        ensures done { OnOk result ((reply.new.answer, self.new) ≡ carried_out self.old upgrade_to_three) }
+        ensures kept { OnErr result (self.new ≡ self.old) }
+    {
+        self.version = Version::Three;
         reply.set_done();
         Ok(())
     }

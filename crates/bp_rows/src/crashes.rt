@@ -21,6 +21,9 @@ const STRIDE: usize = 64;
 /// The room for replies, in bytes.
 const ROOM: usize = 65_536;
 
+/// The greatest number of lines of a script.
+const LINES: u64 = 65_536;
+
 /// The stores of its epoch that a crash keeps.
 #[derive(Clone, Copy)]
 enum Mask {
@@ -52,6 +55,10 @@ struct Cuts<'a> {
     image: &'a [u8],
     script: &'a str,
     asks: &'a str,
+    /// How many of the first lines of the script are durable after it.
+    durable: usize,
+    /// Whether a step that clears words for an upgrade follows the script.
+    clears: bool,
     work: Work,
     choice: Choice,
     /// The kind of each event of the log.
@@ -167,6 +174,8 @@ impl<'a> Cuts<'a> {
             image,
             script: row.script.as_str(),
             asks: row.asks.as_str(),
+            durable: row.durable.min(LINES) as usize,
+            clears: row.clears,
             work,
             choice,
             events: Vec::new(alloc),
@@ -174,16 +183,26 @@ impl<'a> Cuts<'a> {
         })
     }
 
-    /// Runs the script, without its replies.
+    /// Runs the script, without its replies, and the step that clears words, if the row asks for one.
     fn run(&mut self) -> Result<Option<Volume<RawRegion>>, AllocError> {
         let mut sink = NullSink::new();
-        serve_over(
+        let served = serve_over(
             self.alloc,
             &mut self.work,
             self.image,
             self.script,
             &mut sink,
-        )
+        )?;
+        match served {
+            Some(mut volume) => {
+                if self.clears {
+                    // If it is refused, the log lacks its call, which is reported.
+                    let _ = volume.clear_for_upgrade();
+                }
+                Ok(Some(volume))
+            }
+            None => Ok(None),
+        }
     }
 
     /// Tries all crashes of a run of the script.
@@ -198,7 +217,7 @@ impl<'a> Cuts<'a> {
     }
 
     /// Reads the log of a run of the script. Returns false if the script cannot be run, or has not a call for each
-    /// line: the calls that a crash keeps would not be its first lines then.
+    /// line that is not durable: the calls that a crash keeps would not be its next lines then.
     fn read_log(&mut self) -> Result<bool, AllocError> {
         match self.run()? {
             Some(volume) => self.take_events(volume.region()),
@@ -206,14 +225,20 @@ impl<'a> Cuts<'a> {
         }
     }
 
-    /// Copies the kinds of the events of a region's log. Returns whether they are of a call for each line.
+    /// Copies the kinds of the events of a region's log. Returns whether they are of a call for each line that is not
+    /// durable, and of the step that clears words.
     fn take_events<R: Region>(&mut self, region: &R) -> Result<bool, AllocError> {
         for i in 0..region.event_count() {
             self.events.push(region.kind(i))?;
         }
         let calls = calls_of(&self.events);
         self.kept = vec![in self.alloc; false; calls.saturating_add(1)]?;
-        Ok(calls == self.script.lines().count())
+        let lines = self
+            .script
+            .lines()
+            .count()
+            .saturating_add(usize::from(self.clears));
+        Ok(calls.saturating_add(self.durable) == lines)
     }
 
     /// Tries the crashes at each event count that is tried. Returns false if one is wrong.
@@ -327,10 +352,10 @@ impl<'a> Cuts<'a> {
         Ok(volume.is_some())
     }
 
-    /// Returns the answers of the abstract tree after the first calls of the script.
+    /// Returns the answers of the abstract tree after the durable lines of the script and this number of calls.
     fn expected(&self, calls: usize) -> Result<String, AllocError> {
         let mut tree = Comparison::new(self.alloc, self.version, "")?;
-        self.answers(calls, &mut tree)
+        self.answers(calls.saturating_add(self.durable), &mut tree)
     }
 
     /// Returns the answers of an empty abstract tree after the first calls of the script.

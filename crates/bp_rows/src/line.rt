@@ -93,8 +93,13 @@ pub enum InputLine<'a> {
     Plain(&'a str),
     /// A line that is asked after each crash.
     Ask(&'a str),
-    /// Runs the row over a format of this number of blocks repeatedly, each time with another crash after it.
+    /// Runs the row over a format of this number of blocks, or over FILE, repeatedly, each time with another crash after
+    /// it.
     Cuts(&'a str),
+    /// This number of the first lines of the script are durable after it.
+    Durable(u64),
+    /// The script is followed by a step that clears words for an upgrade to version 3.
+    Clears,
     /// Serves lines and scripts by the parts of a session.
     Parts,
     /// Runs the row repeatedly, each time with another call of a device failing, from 0 up to a number of calls.
@@ -143,6 +148,8 @@ pub fn read(line: &str) -> Option<InputLine<'_>> {
         "plain" => InputLine::Plain(rest),
         "?" => InputLine::Ask(rest),
         "cuts" => InputLine::Cuts(rest),
+        "durable" => InputLine::Durable(number(rest)?),
+        "clears" => InputLine::Clears,
         "parts" => InputLine::Parts,
         "sweep" => {
             let (device, count) = rest.split_once(' ')?;

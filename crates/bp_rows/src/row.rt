@@ -58,6 +58,10 @@ pub struct Row {
     pub script: String,
     /// The lines that are asked after each crash.
     pub asks: String,
+    /// How many of the first lines of the script are durable after it.
+    pub durable: u64,
+    /// Whether a step that clears words for an upgrade to version 3 follows the script.
+    pub clears: bool,
     /// The greatest number of bytes of a piece of the source.
     pub piece: usize,
     /// The calls of the devices that fail.
@@ -80,6 +84,8 @@ impl Row {
             words: None,
             script: String::new(alloc),
             asks: String::new(alloc),
+            durable: 0,
+            clears: false,
             piece: PIECE,
             failing: Failing::none(alloc),
         }
@@ -116,6 +122,8 @@ impl Row {
             InputLine::Script(text) => return add_line(text, &mut self.script),
             InputLine::Part(text) => return expand(text, &mut self.script),
             InputLine::Ask(text) => return add_line(text, &mut self.asks),
+            InputLine::Durable(count) => self.durable = count,
+            InputLine::Clears => self.clears = true,
             _ => {}
         }
         Ok(true)

@@ -100,10 +100,14 @@ impl Side {
     }
 
     fn cut(&mut self, text: &str, blocks: &str, report: &mut String) -> Result<(), AllocError> {
-        let Some(image) = formatted(self.alloc, blocks, self.row.version)? else {
-            return refuse(text, report);
+        let image = match blocks {
+            "file" => copy_of(self.alloc, &self.row.file)?,
+            _ => formatted(self.alloc, blocks, self.row.version)?,
         };
-        cut_all_over(self.alloc, &self.row, &image, report)
+        match image {
+            Some(image) => cut_all_over(self.alloc, &self.row, &image, report),
+            None => refuse(text, report),
+        }
     }
 
     fn sweep(&mut self, device: Device, count: u64, report: &mut String) -> Result<(), AllocError> {

@@ -20,7 +20,7 @@ use Rattle.percent_encoding.specs.Percent.{percent_encode_byte}
 use Rattle.percent_encoding.proofs.PercentLemmas.{percent_decode-nil, percent_decode_not_percent, percent_decode-percent_encode_byte}
 use Rattle.bp_limits.specs.Limits.{attributes, max_line, max_read}
 use Rattle.bp_plain.specs.Calls.{Call}
-use Rattle.bp_plain.specs.Calls.Call.{create, mkdir, unlink, rmdir, list, stat, read, write, truncate, rename, link, links, upgrade, snap, unsnap, snap_list, snap_stat, snap_read, batch, attribute, set_attribute}
+use Rattle.bp_plain.specs.Calls.Call.{create, mkdir, unlink, rmdir, list, stat, read, write, truncate, rename, link, links, upgrade, upgrade_to_three, snap, unsnap, snap_list, snap_stat, snap_read, batch, attribute, set_attribute}
 use Rattle.bp_script.specs.Commands.{asked_by, bytes_spelled, command_of, decoded, decoded_call, is_empty_word, number_spelled, pair_command, part_bytes, path_bytes, unslashed, word_command, words_of}
 use Rattle.bp_script.specs.Commands.Command.{file_call}
 use Rattle.bp_plain.specs.Export.{are_bytes}
@@ -365,6 +365,7 @@ call_asks (truncate text size) is = truncate_asks text is.0 size is.1
 call_asks (rename from to) is = pair_asks from to is.0 is.1 (codes "rename") rename refl refl (λ p q. refl) (λ p q. refl) (simp append_assoc)
 call_asks (link from to) is = pair_asks from to is.0 is.1 (codes "link") link refl refl (λ p q. refl) (λ p q. refl) (simp append_assoc)
 call_asks upgrade is = λ fits. refl
+call_asks upgrade_to_three is = λ fits. refl
 call_asks snap is = λ fits. refl
 call_asks unsnap is = λ fits. refl
 call_asks (snap_list text) is = path_asks text is (codes "slist") snap_list refl refl (λ p. refl) (λ p. refl) refl

@@ -8,11 +8,11 @@ use Rattle.hex.specs.Hex.{decode_of}
 use Rattle.hex.specs.declared.error.FromHexError.{FromHexError}
 use Rattle.hex.proofs.HexLemmas.{decode_of-ok}
 use Rattle.bp_limits.specs.Limits.{max_pieces}
-use Rattle.bp_script.specs.Commands.{Command, asked_by, attribute_command, attribute_number, bare_command, batch_of, bytes_spelled, cache_command, command_by_words, decoded, in_grammar, is_empty_word, length_spelled, mask_in, masked_crash, number_spelled, pair_command, path_command, piece_words, read_command, row_command, set_attribute_command, snap_read_command, storm_command, truncate_command, whole_crash, word_command, words_of, write_command}
+use Rattle.bp_script.specs.Commands.{Command, asked_by, attribute_command, attribute_number, bare_command, batch_of, bytes_spelled, cache_command, command_by_words, decoded, in_grammar, is_empty_word, length_spelled, mask_in, masked_crash, number_spelled, pair_command, path_command, piece_words, read_command, row_command, set_attribute_command, snap_read_command, storm_command, truncate_command, upgrade_command, whole_crash, word_command, words_of, write_command}
 use Rattle.bp_replay.specs.Wanted.Wanted.{all, nothing}
 use Rattle.bp_script.specs.Commands.Command.{file_call, sync, space, crash, log, bad_syntax}
 use Rattle.bp_plain.specs.Calls.{Piece}
-use Rattle.bp_plain.specs.Calls.Call.{create, mkdir, unlink, rmdir, list, stat, rename, link, links, upgrade, snap, unsnap, snap_list, snap_stat, batch}
+use Rattle.bp_plain.specs.Calls.Call.{create, mkdir, unlink, rmdir, list, stat, rename, link, links, upgrade, upgrade_to_three, snap, unsnap, snap_list, snap_stat, batch}
 use Rattle.bp_script.proofs.Rows.{parts_within}
 
 -- ---- most commands have none
@@ -52,11 +52,15 @@ cache_none : (seed : Option ℕ) → mask_in (cache_command seed) ≡ []
 cache_none None = refl
 cache_none (Some seed) = refl
 
+upgrade_none : (word : List ℕ) → mask_in (upgrade_command word) ≡ []
+upgrade_none word = none_either (bytes_eq word (codes "3")) (file_call upgrade_to_three) bad_syntax refl refl
+
 word_none : (verb word : List ℕ) → mask_in (word_command verb word) ≡ []
 word_none verb word =
     none_either (bytes_eq verb (codes "crash")) (whole_crash word) _ (whole_none word)
     (none_either (bytes_eq verb (codes "storm")) (storm_command (number_spelled word)) _ (storm_none (number_spelled word))
-    (none_either (bytes_eq verb (codes "cache")) (cache_command (number_spelled word)) _ (cache_none (number_spelled word)) (path_none verb word)))
+    (none_either (bytes_eq verb (codes "cache")) (cache_command (number_spelled word)) _ (cache_none (number_spelled word))
+    (none_either (bytes_eq verb (codes "upgrade")) (upgrade_command word) _ (upgrade_none word) (path_none verb word))))
 
 truncate_none : (path : List ℕ) (size : Option ℕ) → mask_in (truncate_command path size) ≡ []
 truncate_none path None = refl

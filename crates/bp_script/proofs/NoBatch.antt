@@ -2,10 +2,10 @@
 use Rattle.std.proofs.Common.{◌≡◌, ℕ, List, Bool, true, false, Option, None, Some, Result, Ok, codes, if◌then◌else◌, refl, ◌∙◌, ap, true≢false}
 use Rattle.std.specs.Prelude.{bytes_eq}
 use Rattle.bp_plain.specs.Calls.{Call}
-use Rattle.bp_plain.specs.Calls.Call.{create, mkdir, unlink, rmdir, list, stat, rename, link, links, upgrade, snap, unsnap, snap_list, snap_stat, batch}
+use Rattle.bp_plain.specs.Calls.Call.{create, mkdir, unlink, rmdir, list, stat, rename, link, links, upgrade, upgrade_to_three, snap, unsnap, snap_list, snap_stat, batch}
 use Rattle.bp_plain.specs.declared.calls.Call.TheVariants as given
 use Rattle.bp_replay.specs.Wanted.Wanted.{all, nothing}
-use Rattle.bp_script.specs.Commands.{Command, attribute_command, attribute_number, bare_command, bytes_spelled, cache_command, decoded, decoded_call, length_spelled, long_command, masked_crash, number_spelled, pair_command, path_command, read_command, set_attribute_command, snap_read_command, storm_command, truncate_command, whole_crash, word_command, write_command}
+use Rattle.bp_script.specs.Commands.{Command, attribute_command, attribute_number, bare_command, bytes_spelled, cache_command, decoded, decoded_call, length_spelled, long_command, masked_crash, number_spelled, pair_command, path_command, read_command, set_attribute_command, snap_read_command, storm_command, truncate_command, upgrade_command, whole_crash, word_command, write_command}
 use Rattle.bp_script.specs.Commands.Command.{file_call, sync, space, crash, log, bad_syntax}
 use Rattle.bp_script.specs.Lines.{HasItsParts, line_asks}
 use Rattle.bp_script.specs.declared.lines.Line.{Line}
@@ -79,6 +79,10 @@ unfolding has_batch
 none_cache (Some seed) = refl
 none_cache None = refl
 
+none_upgrade : (word : List ℕ) → has_batch (upgrade_command word) ≡ false
+unfolding has_batch is_batch
+none_upgrade word = either (bytes_eq word (codes "3")) (file_call upgrade_to_three) bad_syntax refl refl
+
 pub none_bare : (verb : List ℕ) → has_batch (bare_command verb) ≡ false
 unfolding has_batch is_batch
 none_bare verb =
@@ -104,7 +108,8 @@ pub none_word : (verb word : List ℕ) → has_batch (word_command verb word) �
 none_word verb word =
     either (bytes_eq verb (codes "crash")) (whole_crash word) _ (none_whole word)
     (either (bytes_eq verb (codes "storm")) (storm_command (number_spelled word)) _ (none_storm (number_spelled word))
-    (either (bytes_eq verb (codes "cache")) (cache_command (number_spelled word)) _ (none_cache (number_spelled word)) (none_path verb word)))
+    (either (bytes_eq verb (codes "cache")) (cache_command (number_spelled word)) _ (none_cache (number_spelled word))
+    (either (bytes_eq verb (codes "upgrade")) (upgrade_command word) _ (none_upgrade word) (none_path verb word))))
 
 pub none_pair : (verb first second : List ℕ) → has_batch (pair_command verb first second) ≡ false
 unfolding has_batch is_batch

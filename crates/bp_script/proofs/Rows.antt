@@ -13,8 +13,8 @@ use Rattle.std.specs.Str.Parse.{digits_value}
 use Rattle.hex.specs.Hex.{decode_of, is_hex_digit}
 use Rattle.hex.specs.declared.error.FromHexError.{FromHexError}
 use Rattle.hex.proofs.HexLemmas.{decode_of-ok}
-use Rattle.bp_plain.specs.Calls.Call.{upgrade, snap, unsnap}
-use Rattle.bp_script.specs.Commands.{Command, asked_by, attribute_number, bare_command, batch_of, bytes_spelled, command_by_words, decoded, is_empty_word, long_command, masked_crash, number_spelled, pair_command, path_bytes, piece_words, read_command, row_command, set_attribute_command, snap_read_command, whole_crash, word_command, words_of, write_command}
+use Rattle.bp_plain.specs.Calls.Call.{upgrade, upgrade_to_three, snap, unsnap}
+use Rattle.bp_script.specs.Commands.{Command, asked_by, attribute_number, bare_command, batch_of, bytes_spelled, command_by_words, decoded, is_empty_word, long_command, masked_crash, number_spelled, pair_command, path_bytes, piece_words, read_command, row_command, set_attribute_command, snap_read_command, upgrade_command, whole_crash, word_command, words_of, write_command}
 use Rattle.bp_replay.specs.Wanted.Wanted.{all, nothing}
 use Rattle.bp_script.specs.Commands.Command.{bad_syntax, crash, file_call, log, space, sync}
 use Rattle.bp_script.specs.Lines.{path_row}
@@ -216,6 +216,9 @@ decoded-bare verb =
 
 pub decoded-whole : (word : List ℕ) → whole_crash word ≡ decoded (whole_crash word)
 decoded-whole word = decoded_either (bytes_eq word (codes "all")) (crash all) _ refl (decoded_either (bytes_eq word (codes "none")) (crash nothing) bad_syntax refl refl)
+
+pub decoded-upgrade : (word : List ℕ) → upgrade_command word ≡ decoded (upgrade_command word)
+decoded-upgrade word = decoded_either (bytes_eq word (codes "3")) (file_call upgrade_to_three) bad_syntax refl refl
 
 pub bare_asked : (verb : List ℕ) → bare_command verb ≡ decoded (asked_by (verb ∷ []))
 bare_asked verb = decoded-bare verb ∙ ap decoded (sym (asked_one verb))

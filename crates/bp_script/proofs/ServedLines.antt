@@ -6,10 +6,10 @@ use Rattle.std.proofs.lemmas.Bool.{leb-true, ltb-true}
 use Rattle.std.proofs.lemmas.List.{length-map}
 use Rattle.bp_limits.specs.Limits.{attributes, max_pieces, max_read}
 use Rattle.bp_plain.specs.Calls.{Call, Piece}
-use Rattle.bp_plain.specs.Calls.Call.{create, mkdir, unlink, rmdir, list, stat, read, rename, link, links, upgrade, snap, unsnap, snap_list, snap_stat, snap_read, batch, attribute, set_attribute}
+use Rattle.bp_plain.specs.Calls.Call.{create, mkdir, unlink, rmdir, list, stat, read, rename, link, links, upgrade, upgrade_to_three, snap, unsnap, snap_list, snap_stat, snap_read, batch, attribute, set_attribute}
 use Rattle.bp_plain.specs.Served.{IsServed}
 use Rattle.bp_replay.specs.Wanted.Wanted.{all, nothing}
-use Rattle.bp_script.specs.Commands.{Command, IsServedCommand, attribute_command, attribute_number, bare_command, batch_of, bytes_spelled, cache_command, command_by_words, decoded, decoded_call, decoded_piece, in_grammar, is_empty_word, length_spelled, long_command, masked_crash, number_spelled, pair_command, path_command, piece_words, read_command, row_command, set_attribute_command, short_length, snap_read_command, storm_command, truncate_command, whole_crash, word_command, words_of, write_command}
+use Rattle.bp_script.specs.Commands.{Command, IsServedCommand, attribute_command, attribute_number, bare_command, batch_of, bytes_spelled, cache_command, command_by_words, decoded, decoded_call, decoded_piece, in_grammar, is_empty_word, length_spelled, long_command, masked_crash, number_spelled, pair_command, path_command, piece_words, read_command, row_command, set_attribute_command, short_length, snap_read_command, storm_command, truncate_command, upgrade_command, whole_crash, word_command, words_of, write_command}
 use Rattle.bp_script.specs.Commands.Command.{file_call, sync, space, crash, log, bad_syntax}
 
 served_either : (test : Bool) (first second : Command) → IsServedCommand first → IsServedCommand second → IsServedCommand (if test then first else second)
@@ -85,6 +85,9 @@ served_cache : (seed : Option ℕ) → IsServedCommand (cache_command seed)
 served_cache (Some seed) = tt
 served_cache None = tt
 
+served_upgrade : (word : List ℕ) → IsServedCommand (upgrade_command word)
+served_upgrade word = served_either (bytes_eq word (codes "3")) (file_call upgrade_to_three) bad_syntax tt tt
+
 served_path : (verb path : List ℕ) → IsServedCommand (path_command verb path)
 served_path verb path =
     served_either (bytes_eq verb (codes "create")) (file_call (create path)) _ tt
@@ -101,7 +104,8 @@ served_word : (verb word : List ℕ) → IsServedCommand (word_command verb word
 served_word verb word =
     served_either (bytes_eq verb (codes "crash")) (whole_crash word) _ (served_whole word)
     (served_either (bytes_eq verb (codes "storm")) (storm_command (number_spelled word)) _ (served_storm (number_spelled word))
-    (served_either (bytes_eq verb (codes "cache")) (cache_command (number_spelled word)) _ (served_cache (number_spelled word)) (served_path verb word)))
+    (served_either (bytes_eq verb (codes "cache")) (cache_command (number_spelled word)) _ (served_cache (number_spelled word))
+    (served_either (bytes_eq verb (codes "upgrade")) (upgrade_command word) _ (served_upgrade word) (served_path verb word))))
 
 served_pair : (verb first second : List ℕ) → IsServedCommand (pair_command verb first second)
 served_pair verb first second =

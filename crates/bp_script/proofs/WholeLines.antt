@@ -3,7 +3,7 @@ use Rattle.std.proofs.Common.{◌≡◌, ◌∙◌, ℕ, ◌^◌, ◌<◌, ◌==
 use Rattle.std.specs.Cmp.{first_so}
 use Rattle.std.proofs.lemmas.List.Folds.{list_all-append}
 use Rattle.bp_plain.specs.Calls.{Call}
-use Rattle.bp_plain.specs.Calls.Call.{create, mkdir, unlink, rmdir, list, stat, read, write, truncate, rename, link, links, upgrade, snap, unsnap, snap_list, snap_stat, snap_read, batch, attribute, set_attribute}
+use Rattle.bp_plain.specs.Calls.Call.{create, mkdir, unlink, rmdir, list, stat, read, write, truncate, rename, link, links, upgrade, upgrade_to_three, snap, unsnap, snap_list, snap_stat, snap_read, batch, attribute, set_attribute}
 use Rattle.bp_script.specs.Export.{IsOneLine, IsSpelled, IsWord, call_line, path_word}
 use Rattle.bp_script.specs.Texts.{digits_or_dash}
 use Rattle.bp_script.proofs.CallLines.{all_from, both_true, dash_whole, decimal_whole, is_inner, is_whole, path_whole}
@@ -46,6 +46,7 @@ one_line (truncate text size) is = following (codes "truncate " ++ path_word tex
 one_line (rename from to) is = following (codes "rename " ++ path_word from) (path_word to) (both (codes "rename ") (path_word from) refl (path_line from is.0)) (path_line to is.1)
 one_line (link from to) is = following (codes "link " ++ path_word from) (path_word to) (both (codes "link ") (path_word from) refl (path_line from is.0)) (path_line to is.1)
 one_line upgrade is = refl
+one_line upgrade_to_three is = refl
 one_line snap is = refl
 one_line unsnap is = refl
 one_line (snap_list text) is = both (codes "slist ") (path_word text) refl (path_line text is)

@@ -9,7 +9,7 @@ use Rattle.percent_encoding.specs.Percent.{percent_decode}
 use Rattle.bp_limits.specs.Limits.{attributes, max_line, max_pieces, max_read}
 use Rattle.bp_plain.specs.Calls.{Call, Piece}
 use Rattle.bp_plain.specs.Served.{IsServed}
-use Rattle.bp_plain.specs.Calls.Call.{create, mkdir, unlink, rmdir, list, stat, read, write, truncate, rename, link, links, upgrade, snap, unsnap, snap_list, snap_stat, snap_read, batch, attribute, set_attribute}
+use Rattle.bp_plain.specs.Calls.Call.{create, mkdir, unlink, rmdir, list, stat, read, write, truncate, rename, link, links, upgrade, upgrade_to_three, snap, unsnap, snap_list, snap_stat, snap_read, batch, attribute, set_attribute}
 use Rattle.bp_replay.specs.Wanted.{Wanted}
 use Rattle.bp_replay.specs.Wanted.Wanted.{all, nothing, at}
 
@@ -147,6 +147,10 @@ abbrev pub cache_command : Option ℕ → Command
 cache_command (Some seed) = cache seed
 cache_command None = bad_syntax
 
+-- An upgrade with a field. The field is `3`, the number of the new version; no other number is allowed.
+abbrev pub upgrade_command : List ℕ → Command
+upgrade_command word = if bytes_eq word (codes "3") then file_call upgrade_to_three else bad_syntax
+
 -- Lines of one, of two, of three and of four fields.
 abbrev pub bare_call : List ℕ → Command
 bare_call verb =
@@ -175,12 +179,13 @@ path_command verb path =
     else if bytes_eq verb (codes "sstat") then file_call (snap_stat path)
     else bad_syntax
 
--- A line of two fields. The second is a path, except after `crash`, `storm` and `cache`.
+-- A line of two fields. The second is a path, except after `crash`, `storm`, `cache` and `upgrade`.
 abbrev pub word_command : List ℕ → List ℕ → Command
 word_command verb word =
     if bytes_eq verb (codes "crash") then whole_crash word
     else if bytes_eq verb (codes "storm") then storm_command (number_spelled word)
     else if bytes_eq verb (codes "cache") then cache_command (number_spelled word)
+    else if bytes_eq verb (codes "upgrade") then upgrade_command word
     else path_command verb word
 
 abbrev pub pair_command : List ℕ → List ℕ → List ℕ → Command

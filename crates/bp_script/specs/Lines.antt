@@ -24,7 +24,7 @@ use Rattle.bp_script.specs.declared.decoded.TheConstants.{MOST_ROOM}
 use Rattle.bp_script.specs.declared.verbs.WordVerb.{WordVerb}
 use Rattle.bp_script.specs.declared.verbs.WordVerb.TheVariants as on
 use Rattle.bp_script.specs.contracts.decoded.Decoded.{the_row}
-use Rattle.bp_script.specs.Commands.{Command, attribute_command, attribute_number, bytes_spelled, cache_command, decoded_piece, is_empty_word, number_spelled, piece_spelled, storm_command, truncate_command, whole_crash, words_of}
+use Rattle.bp_script.specs.Commands.{Command, attribute_command, attribute_number, bytes_spelled, cache_command, decoded_piece, is_empty_word, number_spelled, piece_spelled, storm_command, truncate_command, upgrade_command, whole_crash, words_of}
 use Rattle.bp_script.specs.Commands.Command.{file_call, sync, space, crash, storm, cache, log, bad_syntax}
 
 -- The greatest number of bytes of a line, so that an offset in it has 32 bits.
@@ -128,6 +128,7 @@ abbrev pub word_row : Option WordVerb → List ℕ → Command
 word_row (Some on.Crash) word = whole_crash word
 word_row (Some on.Storm) word = storm_command (number_spelled word)
 word_row (Some on.Cache) word = cache_command (number_spelled word)
+word_row (Some on.Upgrade) word = upgrade_command word
 word_row (Some (on.Path verb)) word = path_row verb word
 word_row None word = bad_syntax
 

@@ -14,7 +14,7 @@ use crate::batches::{PieceWords, decode_pieces};
 use crate::fields::{decode_bytes, decode_escaped, decoded_or, digits_of, split_once};
 use crate::lines::{
     Line, Syntax, attribute, bare, cache, path_line, read, set_attribute, snap_read, storm,
-    truncate, whole_crash,
+    truncate, upgrade, whole_crash,
 };
 use crate::numbers::{attribute_number, number, read_len};
 use crate::verbs::{PairVerb, PathVerb, WordVerb, is_batch, pair_verb, word_verb};
@@ -132,6 +132,7 @@ impl Decoded {
             Some(WordVerb::Crash) => whole_crash(word),
             Some(WordVerb::Storm) => storm(number(word)),
             Some(WordVerb::Cache) => cache(number(word)),
+            Some(WordVerb::Upgrade) => upgrade(word),
             Some(WordVerb::Path(verb)) => Ok(self.on_path(verb, word)),
             None => Err(Syntax),
         }

@@ -1,6 +1,6 @@
 //! The lines of a script, and their construction from decoded fields.
 
-ghost use Rattle.bp_script.specs.Commands.{attribute_command, bare_call, bare_command, cache_command, read_command, set_attribute_command, snap_read_command, storm_command, truncate_command, whole_crash};
+ghost use Rattle.bp_script.specs.Commands.{attribute_command, bare_call, bare_command, cache_command, read_command, set_attribute_command, snap_read_command, storm_command, truncate_command, upgrade_command, whole_crash};
 ghost use Rattle.bp_script.specs.Lines.{line_asks, path_row};
 ghost use Rattle.std.specs.Prelude.{Ok, ◌≡◌};
 
@@ -85,6 +85,16 @@ pub(crate) fn cache(seed: Option<u64>) -> Result<Line<'static>, Syntax>
     match seed {
         Some(seed) => Ok(Line::Cache(seed)),
         None => Err(Syntax),
+    }
+}
+
+/// Decodes the line of an upgrade with a field, which has to be the number 3 of the new version.
+pub(crate) fn upgrade(word: &[u8]) -> Result<Line<'static>, Syntax>
+    ensures { line_asks result ≡ upgrade_command word.now }
+{
+    match word {
+        b"3" => Ok(Line::Call(Call::UpgradeToThree)),
+        _ => Err(Syntax),
     }
 }
 

@@ -10,6 +10,7 @@ pub(crate) enum WordVerb {
     Crash,
     Storm,
     Cache,
+    Upgrade,
     /// The other field is a path.
     Path(PathVerb),
 }
@@ -22,6 +23,7 @@ pub(crate) fn word_verb(verb: &[u8]) -> Option<WordVerb>
         b"crash" => Some(WordVerb::Crash),
         b"storm" => Some(WordVerb::Storm),
         b"cache" => Some(WordVerb::Cache),
+        b"upgrade" => Some(WordVerb::Upgrade),
         b"create" => Some(WordVerb::Path(PathVerb::Create)),
         b"mkdir" => Some(WordVerb::Path(PathVerb::Mkdir)),
         b"unlink" => Some(WordVerb::Path(PathVerb::Unlink)),

@@ -11,8 +11,11 @@ use Rattle.bp_layout.specs.Bytes.{image_bytes}
 use Rattle.bp_scan.specs.Totals.{HasLive}
 use Rattle.bp_io.specs.Views.{View}
 use Rattle.bp_plain.specs.Calls.{Call, Answer}
+use Rattle.bp_plain.specs.Calls.Call.{upgrade_to_three}
 use Rattle.bp_layout.specs.Whole.{HasSpace}
 use Rattle.bp_limits.specs.Limits.{call_room, max_line, max_mask}
+use Rattle.bp_volume.specs.Called.{Called}
+use Rattle.bp_volume.specs.Called.Called.{at_once, cleared}
 use Rattle.bp_volume.specs.FileCall.{FileCall}
 use Rattle.std.proofs.lemmas.Bool.{le-ltb, lt-ltb}
 use Rattle.bp_replay.proofs.CachePlayed.{taken_more}
@@ -24,7 +27,7 @@ use Rattle.bp_script.specs.Commands.{Command, command_of, in_grammar, mask_in}
 use Rattle.bp_script.specs.Commands.Command.{file_call, sync, space, crash, storm, cache, log, too_long}
 use Rattle.bp_script.specs.Texts.LineReply.{synced}
 use Rattle.bp_session.specs.Files.{Holds, HoldsBytes}
-use Rattle.bp_session.specs.Acting.{CrashesByCaches, CrashesTo, Does, HasCrashed, may_come_to, reply_of, state, to_save}
+use Rattle.bp_session.specs.Acting.{CrashesByCaches, CrashesTo, Does, HasCrashed, KeepsDrained, may_come_to, reply_of, state, to_save}
 use Rattle.bp_session.specs.Serving.{Acts, SyncFails}
 use Rattle.bp_session.specs.Session.{Crashes, SessionLine, caches_cut}
 use Rattle.bp_session.specs.declared.outcome.Outcome.{Outcome}
@@ -51,18 +54,32 @@ capacity-with_room wanted memory = elim (nat_lt (room_in memory) wanted) as (λ 
 capacity-file_call : (old : Memory) (call : Call) (answer : Answer) (new : Memory) → FileCall old call answer new → new.capacity ≡ old.capacity
 capacity-file_call old call answer new done = ap (λ (m : Memory). m.capacity) done.adds ∙ capacity-with_room call_room old
 
-pub size-file_call : (old : Memory) (call : Call) (answer : Answer) (new : Memory) → FileCall old call answer new → length new.base ≡ length old.base
+size-file_call : (old : Memory) (call : Call) (answer : Answer) (new : Memory) → FileCall old call answer new → length new.base ≡ length old.base
 size-file_call old call answer new done = ap (λ (m : Memory). length m.base) done.adds ∙ size-with_room call_room old
+
+capacity-called : (old : Memory) (call : Call) (answer : Answer) (new : Memory) → Called old call answer new → new.capacity ≡ old.capacity
+capacity-called old call answer new (at_once done) = capacity-file_call old call answer new done
+capacity-called old call answer new (cleared {between = between} is some clears done) = capacity-file_call between call answer new done ∙ clears.capacity
+
+size-called : (old : Memory) (call : Call) (answer : Answer) (new : Memory) → Called old call answer new → length new.base ≡ length old.base
+size-called old call answer new (at_once done) = size-file_call old call answer new done
+size-called old call answer new (cleared {between = between} is some clears done) = size-file_call between call answer new done ∙ clears.whole
+
+-- only an upgrade to version 3 drains more than once
+drained_once : (old : Memory) (call : Call) (answer : Answer) (new : Memory) → Called old call answer new → KeepsDrained call old new
+drained_once old upgrade_to_three answer new done = tt
+drained_once old call answer new (at_once done) = ap (λ (m : Memory). m.base) done.adds
+drained_once old call answer new (cleared is some clears done) = absurd (cc)
 
 -- ---- what a line did
 
-pub does_call : (old new : Memory) (call : Call) (answer : Answer) → FileCall old call answer new → Does old (file_call call) Answered answer new
+pub does_call : (old new : Memory) (call : Call) (answer : Answer) → Called old call answer new → Does old (file_call call) Answered answer new
 does_call old new call answer done = record {
   line = λ saved. record { answer = answer; reported = refl; does = done; saved = refl };
-  size = size-file_call old call answer new done;
-  capacity = capacity-file_call old call answer new done;
+  size = size-called old call answer new done;
+  capacity = capacity-called old call answer new done;
   comes = refl;
-  base = ap (λ (m : Memory). m.base) done.adds;
+  base = drained_once old call answer new done;
 }
 
 pub does_sync : (old new : Memory) (answer : Answer) → new ≡ drained old → Does old sync Synced answer new

@@ -9,7 +9,10 @@ use Rattle.pm_epochs.specs.declared.event.Event.TheVariants.{Barrier, CallEnd, S
 use Rattle.pm_epochs.specs.Log.{stores, words_after}
 use Rattle.pm_region.specs.Memory.{AreInRow, AreWithin, Follows, Memory, current_words, drained, room_in}
 use Rattle.bp_layout.specs.Words.{Image, word}
-use Rattle.bp_session.specs.Changed.{AreDirty, AreClean, CoversChanges, CoversDrain, is_dirty}
+use Rattle.bp_plain.specs.declared.calls.Call.{Call as GivenCall}
+use Rattle.bp_plain.specs.declared.calls.Call.TheVariants.{UpgradeToThree}
+use Rattle.bp_plain.specs.Seen.{call_of}
+use Rattle.bp_session.specs.Changed.{AreDirty, AreClean, CoversAll, CoversCall, CoversChanges, CoversDrain, is_dirty}
 
 -- each word to which one of the first events stores, as many, lies in a block that is dirty
 abbrev pub CoversStores : List Bool → List Event → ℕ → Type 0
@@ -180,6 +183,17 @@ all_are_dirty flags each i = go (cases_lt i (length flags))
     go : (i < length flags) ⊎ (length flags ≤ i) → is_dirty flags i ≡ true
     go (inl inside) = each i inside
     go (inr following) = get_or_past flags i true following
+
+-- ---- the flags of a call
+
+pub covers_all : (before after : List Bool) → length after ≡ length before → ((i : ℕ) → i < length after → is_dirty after i ≡ true) → CoversAll before after
+covers_all before after size each = record { size = size; all = all_are_dirty after each }
+
+pub covers_call : (call : GivenCall) (memory : Memory) (before after : List Bool) → ¬ (call ≡ UpgradeToThree) → CoversDrain memory before after → CoversCall (call_of call) memory before after
+covers_call UpgradeToThree memory before after other covers = absurd (other refl)
+covers_call call memory before after other covers = covers
+
+-- ---- flags of which none is dirty
 
 -- the first of flags of which none is
 pub prefix_clean : (count : ℕ) → AreClean (take count (replicate max_file_blocks false))

@@ -4,11 +4,13 @@ use Rattle.pm_epochs.specs.Replay.{PowerCut}
 use Rattle.bp_io.specs.Views.{View}
 use Rattle.bp_layout.specs.Words.{Image}
 use Rattle.bp_limits.specs.Limits.{call_room}
-use Rattle.bp_plain.specs.Calls.{Answer}
+use Rattle.bp_plain.specs.Calls.{Call, Answer}
+use Rattle.bp_plain.specs.Calls.Call.{upgrade_to_three}
 use Rattle.bp_script.specs.Commands.{Command}
+use Rattle.bp_script.specs.Commands.Command.{file_call}
 use Rattle.pm_region.specs.Memory.{Memory, current_words, drained, with_room}
-use Rattle.bp_session.specs.Acting.{CrashesByCaches, CrashesTo, Does, LeavesDirty, NotesDrain, is_crash, to_save}
-use Rattle.bp_session.specs.Changed.{AreDirty, AreClean, CoversDrain}
+use Rattle.bp_session.specs.Acting.{CrashesByCaches, CrashesTo, Does, KeepsBase, KeepsDrained, LeavesDirty, NotesDrain, is_crash, to_save}
+use Rattle.bp_session.specs.Changed.{AreDirty, AreClean, CoversCall, CoversDrain}
 use Rattle.bp_session.specs.Files.{Holds, HoldsAs}
 use Rattle.bp_session.specs.declared.outcome.Outcome.{Outcome}
 use Rattle.bp_session.specs.declared.outcome.Outcome.TheVariants.{Answered, Synced, Counted, Kept, Logged, BadChoice, BadSyntax, TooLong, NoMemory}
@@ -17,31 +19,31 @@ use Rattle.bp_session.proofs.ChangedLaws.{holds_drained, holds_lost, holds_more}
 
 -- ---- which blocks may
 
-pub leaves_synced : (memory : Memory) (before after : List Bool) → AreClean after → LeavesDirty Synced memory before after
-leaves_synced memory before after cleared = record {
+pub leaves_synced : (command : Command) (memory : Memory) (before after : List Bool) → AreClean after → LeavesDirty Synced command memory before after
+leaves_synced command memory before after cleared = record {
   crashed = λ e. absurd (let no : false ≡ true = e in cc);
   synced = λ _. cleared;
   others = λ _ other. absurd (other refl);
 }
 
-pub leaves_other : (outcome : Outcome) (memory : Memory) (before noted after : List Bool) → ¬ (outcome ≡ Synced) → NotesDrain outcome memory before noted → (is_crash outcome ≡ true → AreDirty after) → (is_crash outcome ≡ false → after ≡ noted)
-    → LeavesDirty outcome memory before after
-leaves_other outcome memory before noted after other notes crashed others = record {
+pub leaves_other : (outcome : Outcome) (command : Command) (memory : Memory) (before noted after : List Bool) → ¬ (outcome ≡ Synced) → NotesDrain outcome command memory before noted → (is_crash outcome ≡ true → AreDirty after) → (is_crash outcome ≡ false → after ≡ noted)
+    → LeavesDirty outcome command memory before after
+leaves_other outcome command memory before noted after other notes crashed others = record {
   crashed = crashed;
   synced = λ e. absurd (other e);
-  others = λ no _. subst (λ (flags : List Bool). NotesDrain outcome memory before flags) (sym (others no)) notes;
+  others = λ no _. subst (λ (flags : List Bool). NotesDrain outcome command memory before flags) (sym (others no)) notes;
 }
 
-pub notes_crash : (old new : Memory) (cut : PowerCut) (outcome : Outcome) (flags : List Bool) → CrashesTo old cut outcome new → NotesDrain outcome old flags flags
-notes_crash old new cut outcome flags (inl does) = rw does.reported refl
-notes_crash old new cut outcome flags (inr does) = rw does.reported refl
+pub notes_crash : (old new : Memory) (cut : PowerCut) (outcome : Outcome) (command : Command) (flags : List Bool) → CrashesTo old cut outcome new → NotesDrain outcome command old flags flags
+notes_crash old new cut outcome command flags (inl does) = rw does.reported refl
+notes_crash old new cut outcome command flags (inr does) = rw does.reported refl
 
-pub notes_cache : (old new : Memory) (seed : ℕ) (outcome : Outcome) (flags : List Bool) → CrashesByCaches old seed outcome new → NotesDrain outcome old flags flags
-notes_cache old new seed outcome flags (inl does) = rw does.reported refl
-notes_cache old new seed outcome flags (inr lacks) = rw lacks.reported refl
+pub notes_cache : (old new : Memory) (seed : ℕ) (outcome : Outcome) (command : Command) (flags : List Bool) → CrashesByCaches old seed outcome new → NotesDrain outcome command old flags flags
+notes_cache old new seed outcome command flags (inl does) = rw does.reported refl
+notes_cache old new seed outcome command flags (inr lacks) = rw lacks.reported refl
 
-pub notes_log : (memory : Memory) (outcome : Outcome) (events barriers calls : ℕ) (flags : List Bool) → outcome ≡ Logged events barriers calls → NotesDrain outcome memory flags flags
-notes_log memory outcome events barriers calls flags is = rw is refl
+pub notes_log : (memory : Memory) (outcome : Outcome) (command : Command) (events barriers calls : ℕ) (flags : List Bool) → outcome ≡ Logged events barriers calls → NotesDrain outcome command memory flags flags
+notes_log memory outcome command events barriers calls flags is = rw is refl
 
 -- ---- a line that is no sync, over a file that stays
 
@@ -49,13 +51,24 @@ module _ (old new : Memory) (command : Command) (answer : Answer) (before after 
   stays : after ≡ before → new.base ≡ old.base → HoldsAs after files new.base name saved
   stays flags base = rw (flags, base) held
 
-  holds_after : (outcome : Outcome) → Does old command outcome answer new → ¬ (outcome ≡ Synced) → LeavesDirty outcome old before after → HoldsAs after files new.base name saved
-  holds_after Synced does other leaves = absurd (other refl)
-  holds_after Answered does other leaves =
-      let notes : CoversDrain old before after = leaves.others refl other in
+  -- after a call: a file with the words that its drain wrote back, or one whose blocks are all dirty
+  holds_drained_once : new.base ≡ (with_room call_room old).base → CoversDrain old before after → HoldsAs after files new.base name saved
+  holds_drained_once base notes =
       let next : length (with_room call_room old).base ≡ 512 * files.blocks = size-with_room call_room old ∙ size in
-      subst (λ (base : Image). HoldsAs after files base name saved) (sym does.base)
+      subst (λ (words : Image). HoldsAs after files words name saved) (sym base)
       (holds_more before after old.base (with_room call_room old).base files.blocks size next notes.more notes.changes files name saved refl held)
+
+  holds_called : (call : Call) → KeepsDrained call old new → CoversCall call old before after → HoldsAs after files new.base name saved
+  holds_called upgrade_to_three base notes = holds_lost after files new.base name saved notes.all held.file
+  holds_called call base notes = holds_drained_once base notes
+
+  holds_answered : (asked : Command) → KeepsBase Answered asked old new → NotesDrain Answered asked old before after → HoldsAs after files new.base name saved
+  holds_answered (file_call call) base notes = holds_called call base notes
+  holds_answered asked base notes = stays notes base
+
+  holds_after : (outcome : Outcome) → Does old command outcome answer new → ¬ (outcome ≡ Synced) → LeavesDirty outcome command old before after → HoldsAs after files new.base name saved
+  holds_after Synced does other leaves = absurd (other refl)
+  holds_after Answered does other leaves = holds_answered command does.base (leaves.others refl other)
   holds_after (Kept c n) does other leaves = holds_lost after files new.base name saved (leaves.crashed refl) held.file
   holds_after (Counted free live) does other leaves = stays (leaves.others refl other) does.base
   holds_after (Logged events barriers calls) does other leaves =
@@ -65,7 +78,7 @@ module _ (old new : Memory) (command : Command) (answer : Answer) (before after 
   holds_after BadSyntax does other leaves = stays (leaves.others refl other) does.base
   holds_after TooLong does other leaves = stays (leaves.others refl other) does.base
 
-  pub acts_done : (outcome : Outcome) → Does old command outcome answer new → ¬ (outcome ≡ Synced) → LeavesDirty outcome old before after → HoldsAs after files new.base name (to_save command old saved)
+  pub acts_done : (outcome : Outcome) → Does old command outcome answer new → ¬ (outcome ≡ Synced) → LeavesDirty outcome command old before after → HoldsAs after files new.base name (to_save command old saved)
   acts_done outcome does other leaves = rw (saves_nothing old new command answer does other saved) (holds_after outcome does other leaves)
 
 -- ---- a sync

@@ -21,6 +21,10 @@ use Rattle.bp_replay.specs.Wanted.Wanted.{all, nothing, at}
 use Rattle.bp_replay.proofs.Ends.{kept_calls_all, right_all}
 use Rattle.bp_layout.specs.Words.{Image}
 use Rattle.bp_plain.specs.Calls.{Call, Answer}
+use Rattle.bp_volume.proofs.WholeLaws.{whole_equivalence}
+use Rattle.bp_volume.specs.Called.{Called, ClearsAll}
+use Rattle.bp_volume.specs.Called.Called.{at_once, cleared}
+use Rattle.bp_volume.specs.FileCall.{FileCall}
 use Rattle.bp_volume.specs.Step.{StepFor}
 use Rattle.bp_volume.specs.Step.StepFor.{no_room, no_listing, no_snap_listing, unchanged, changed}
 use Rattle.bp_plain.specs.Plain.{plain, is_changing, refusal, changes}
@@ -196,7 +200,7 @@ follows_more old new p added tree before none adds right stands =
 follows_crash : (memory : Memory) (p : PlainState) (cut : PowerCut) → FollowsPlainState memory p → IsRight memory.events cut → FollowsPlainState (crashed memory cut) (fresh (after_crash p (kept_calls memory.events cut)))
 follows_crash memory p cut before right = follows_fresh (crashed memory cut) (after_crash p (kept_calls memory.events cut)) refl (before.crash cut right)
 
--- ---- lines
+-- ---- calls
 
 pub record SettlesTo (old : PlainState) (memory : Memory) : Type 0 where
   pub plain : PlainState
@@ -208,6 +212,46 @@ settles wanted memory p before = elim (nat_lt (room_in memory) wanted) as (λ fu
   | true ↦ record { plain = fresh (tree_now p); follows = follows_fresh (drained memory) (tree_now p) refl before.now; is = inr refl }
   | false ↦ record { plain = p; follows = before; is = inl refl }
 ]
+
+-- the plain state after a call, whose words follow it
+record CallFollows (p : PlainState) (call : Call) (answer : Answer) (new : Memory) : Type 0 where
+  pub tree : FileTree
+  pub plain : PlainState
+  pub does : PlainCall (tree_now p) call answer tree
+  pub goes_on : (plain ≡ with_call p tree) ⊎ (plain ≡ with_call (fresh (tree_now p)) tree)
+  pub follows : FollowsPlainState new plain
+
+file_call_follows : (old new : Memory) (p : PlainState) (call : Call) (answer : Answer) → FollowsPlainState old p → FileCall old call answer new → CallFollows p call answer new
+file_call_follows old new p call answer before done =
+    let first = settles call_room old p before in
+    let step = plain_step (current_words old) (tree_now p) call answer (current_words new) before.now (done.step (tree_now p) before.now) in
+    record {
+      tree = step.after;
+      plain = with_call first.plain step.after;
+      does = step.does;
+      goes_on = elim first.is [ inl e ↦ inl (ap (λ q. with_call q step.after) e) | inr e ↦ inr (ap (λ q. with_call q step.after) e) ];
+      follows = follows_more (with_room call_room old) new first.plain done.added step.after first.follows done.no_call_end done.adds done.safe.right step.stands;
+    }
+
+-- words that were cleared still represent the tree, which is durable
+cleared_follows : (old new : Memory) (p : PlainState) → FollowsPlainState old p → ClearsAll old new → FollowsPlainState new (fresh (tree_now p))
+cleared_follows old new p before clears =
+    let same : SameFiles (current_words new) (current_words old) = whole_equivalence.symmetric (current_words old) (current_words new) clears.files in
+    follows_fresh new (tree_now p) clears.durable (rw clears.durable at (stands_by_same (current_words new) (current_words old) (tree_now p) same before.now))
+
+called_follows : (old new : Memory) (p : PlainState) (call : Call) (answer : Answer) → FollowsPlainState old p → Called old call answer new → CallFollows p call answer new
+called_follows old new p call answer before (at_once done) = file_call_follows old new p call answer before done
+called_follows old new p call answer before (cleared {between = between} is some clears done) =
+    let next = file_call_follows between new (fresh (tree_now p)) call answer (cleared_follows old between p before clears) done in
+    record {
+      tree = next.tree;
+      plain = next.plain;
+      does = next.does;
+      goes_on = elim next.goes_on [ inl e ↦ inr e | inr e ↦ inr e ];
+      follows = next.follows;
+    }
+
+-- ---- lines
 
 pub record Follower (old : State) (p : PlainState) (command : Command) (reply : LineReply) (new : State) : Type 0 where
   pub plain : PlainState
@@ -262,18 +306,11 @@ refused_follower old p moment epoch mask reply new before does = record {
 
 pub plain_line : (old : State) (p : PlainState) (command : Command) (reply : LineReply) (new : State) → FollowsPlainState old.memory p → SessionLine old command reply new → Follower old p command reply new
 plain_line old p (file_call call) reply new before line =
-    let first = settles call_room old.memory p before in
-    let step = plain_step (current_words old.memory) (tree_now p) call line.answer (current_words new.memory) before.now (line.does.step (tree_now p) before.now) in
+    let next = called_follows old.memory new.memory p call line.answer before line.does in
     record {
-      plain = with_call first.plain step.after;
-      line = record {
-        answer = line.answer;
-        tree = step.after;
-        reported = line.reported;
-        does = step.does;
-        goes_on = elim first.is [ inl e ↦ inl (ap (λ q. with_call q step.after) e) | inr e ↦ inr (ap (λ q. with_call q step.after) e) ];
-      };
-      follows = follows_more (with_room call_room old.memory) new.memory first.plain line.does.added step.after first.follows line.does.no_call_end line.does.adds line.does.safe.right step.stands;
+      plain = next.plain;
+      line = record { answer = line.answer; tree = next.tree; reported = line.reported; does = next.does; goes_on = next.goes_on };
+      follows = next.follows;
     }
 plain_line old p sync reply new before line = record {
   plain = fresh (tree_now p);

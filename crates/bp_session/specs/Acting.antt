@@ -5,14 +5,15 @@ use Rattle.pm_epochs.specs.Log.{call_ends}
 use Rattle.pm_epochs.specs.Replay.{PowerCut, IsRight, kept_calls}
 use Rattle.pm_region.specs.Memory.{Memory, crashed, current_words, with_room}
 use Rattle.bp_layout.specs.Words.{Image}
-use Rattle.bp_plain.specs.Calls.{Answer}
+use Rattle.bp_plain.specs.Calls.{Call, Answer}
+use Rattle.bp_plain.specs.Calls.Call.{upgrade_to_three}
 use Rattle.bp_plain.specs.Calls.Answer.{refused}
 use Rattle.bp_plain.specs.Calls.Refusal.{no_memory}
 use Rattle.bp_script.specs.Commands.{Command}
 use Rattle.bp_script.specs.Commands.Command.{file_call, sync, space, crash, storm, cache, log, bad_syntax, too_long}
 use Rattle.bp_script.specs.Texts.{LineReply, reply_text}
 use Rattle.bp_script.specs.Texts.LineReply.{answered, synced, space_of, kept_of, log_of, bad_choice, syntax, long}
-use Rattle.bp_session.specs.Changed.{AreDirty, AreClean, CoversDrain}
+use Rattle.bp_session.specs.Changed.{AreDirty, AreClean, CoversCall}
 use Rattle.bp_session.specs.Session.{SessionLine, State, caches_cut}
 use Rattle.bp_session.specs.declared.outcome.Outcome.{Outcome}
 use Rattle.bp_session.specs.declared.outcome.Outcome.TheVariants.{Answered, Synced, Counted, Kept, Logged, BadChoice, NoMemory, BadSyntax, TooLong}
@@ -64,19 +65,24 @@ to_save log memory saved = saved
 to_save bad_syntax memory saved = saved
 to_save too_long memory saved = saved
 
--- The words of the last drain after a line with this outcome. A call may drain first. For a sync or a crash nothing
--- is stated.
-abbrev pub KeepsBase : Outcome → Memory → Memory → Type 0
-KeepsBase Answered old new = new.base ≡ (with_room call_room old).base
-KeepsBase Synced old new = ⊤
-KeepsBase (Kept c n) old new = ⊤
-KeepsBase outcome old new = new.base ≡ old.base
+-- The words of the last drain after a call. It may drain first. For an upgrade to version 3, which may drain several
+-- times, only the line itself states them (`Called`).
+abbrev pub KeepsDrained : Call → Memory → Memory → Type 0
+KeepsDrained upgrade_to_three old new = ⊤
+KeepsDrained call old new = new.base ≡ (with_room call_room old).base
 
--- The dirty blocks after a line with this outcome, before a sync or a crash updates them: the drain of a call
--- adds some.
-abbrev pub NotesDrain : Outcome → Memory → List Bool → List Bool → Type 0
-NotesDrain Answered memory before after = CoversDrain memory before after
-NotesDrain outcome memory before after = after ≡ before
+-- The words of the last drain after a line with this outcome. For a sync or a crash nothing is stated.
+abbrev pub KeepsBase : Outcome → Command → Memory → Memory → Type 0
+KeepsBase Answered (file_call call) old new = KeepsDrained call old new
+KeepsBase Synced command old new = ⊤
+KeepsBase (Kept c n) command old new = ⊤
+KeepsBase outcome command old new = new.base ≡ old.base
+
+-- The dirty blocks after a line with this outcome, before a sync or a crash updates them: the drains of a call add
+-- some.
+abbrev pub NotesDrain : Outcome → Command → Memory → List Bool → List Bool → Type 0
+NotesDrain Answered (file_call call) memory before after = CoversCall call memory before after
+NotesDrain outcome command memory before after = after ≡ before
 
 -- Whether the outcome is that of a crash.
 abbrev pub is_crash : Outcome → Bool
@@ -84,11 +90,11 @@ is_crash (Kept c n) = true
 is_crash outcome = false
 
 -- The dirty blocks after a line with this outcome: all after a crash, none after a sync, and else those before
--- it, together with those that a call's drain adds.
-pub record LeavesDirty (outcome : Outcome) (memory : Memory) (before after : List Bool) : Type 0 where
+-- it, together with those that a call's drains add.
+pub record LeavesDirty (outcome : Outcome) (command : Command) (memory : Memory) (before after : List Bool) : Type 0 where
   pub crashed : is_crash outcome ≡ true → AreDirty after
   pub synced : outcome ≡ Synced → AreClean after
-  pub others : is_crash outcome ≡ false → ¬ (outcome ≡ Synced) → NotesDrain outcome memory before after
+  pub others : is_crash outcome ≡ false → ¬ (outcome ≡ Synced) → NotesDrain outcome command memory before after
 
 -- A command was carried out and has its reply. Only the file is left to be saved, if the outcome is a sync.
 pub record Does (old : Memory) (command : Command) (outcome : Outcome) (answer : Answer) (new : Memory) : Type 0 where
@@ -97,7 +103,7 @@ pub record Does (old : Memory) (command : Command) (outcome : Outcome) (answer :
   pub size : length new.base ≡ length old.base
   pub capacity : new.capacity ≡ old.capacity
   pub comes : may_come_to command outcome ≡ true
-  pub base : KeepsBase outcome old new
+  pub base : KeepsBase outcome command old new
 
 -- A crash at this crash point: the surviving calls are counted, and the memory is the one that the crash leaves.
 pub record HasCrashed (old : Memory) (cut : PowerCut) (outcome : Outcome) (new : Memory) : Type 0 where

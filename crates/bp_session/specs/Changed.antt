@@ -5,6 +5,8 @@ use Rattle.bp_io.specs.Files.{block_bytes}
 use Rattle.bp_io.specs.Views.{Known, View}
 use Rattle.bp_layout.specs.Words.{Image, word}
 use Rattle.bp_session.specs.declared.save.DirtyBlocks.{DirtyBlocks}
+use Rattle.bp_plain.specs.Calls.{Call}
+use Rattle.bp_plain.specs.Calls.Call.{upgrade_to_three}
 use Rattle.pm_epochs.specs.Log.{stores}
 use Rattle.pm_region.specs.Memory.{Memory, room_in, with_room}
 
@@ -40,6 +42,16 @@ pub record CoversDrain (memory : Memory) (before after : List Bool) : Type 0 whe
   pub more : (i : ℕ) → is_dirty before i ≡ true → is_dirty after i ≡ true
   pub changes : CoversChanges after memory.base (with_room call_room memory).base
   pub none : DrainsNone memory → after ≡ before
+
+-- The flags after an upgrade to version 3, which may drain several times: each block is dirty.
+pub record CoversAll (before after : List Bool) : Type 0 where
+  pub size : length after ≡ length before
+  pub all : AreDirty after
+
+-- The flags after a call.
+abbrev pub CoversCall : Call → Memory → List Bool → List Bool → Type 0
+CoversCall upgrade_to_three memory before after = CoversAll before after
+CoversCall call memory before after = CoversDrain memory before after
 
 -- A file's bytes are those of the first list, except that those of the first `count` blocks that are dirty are those
 -- of the second list.

@@ -14,7 +14,7 @@ use Rattle.bp_scan.specs.Totals.{HasLive}
 use Rattle.bp_plain.specs.Calls.{Call, Answer}
 use Rattle.bp_plain.specs.Calls.Answer.{refused}
 use Rattle.bp_plain.specs.Calls.Refusal.{no_memory}
-use Rattle.bp_volume.specs.FileCall.{FileCall}
+use Rattle.bp_volume.specs.Called.{Called}
 use Rattle.bp_script.specs.Commands.{Command}
 use Rattle.bp_script.specs.Commands.Command.{file_call, sync, space, crash, storm, cache, log, bad_syntax, too_long}
 use Rattle.bp_script.specs.Texts.{LineReply}
@@ -39,7 +39,7 @@ crashed_state s cut = record { memory = crashed s.memory cut; saved = s.saved }
 pub record AnswersCall (old : State) (call : Call) (reply : LineReply) (new : State) : Type 0 where
   pub answer : Answer
   pub reported : reply ≡ answered answer
-  pub does : FileCall old.memory call answer new.memory
+  pub does : Called old.memory call answer new.memory
   pub saved : new.saved ≡ old.saved
 
 -- This reply is given, and nothing is done.

@@ -9,7 +9,8 @@ ghost use Rattle.bp_replay.specs.Wanted.{cut_for, mask_places, wanted_by};
 ghost use Rattle.bp_script.specs.Commands.Command.{sync};
 ghost use Rattle.bp_script.specs.Commands.{command_of};
 ghost use Rattle.bp_session.specs.Acting.{CrashesTo, Does, HasCrashed, LeavesDirty, NotesDrain, is_crash};
-ghost use Rattle.bp_session.specs.Changed.{AreDirty};
+ghost use Rattle.bp_plain.specs.Seen.{call_of};
+ghost use Rattle.bp_session.specs.Changed.{AreDirty, CoversCall};
 ghost use Rattle.bp_session.specs.Held.{ClearsHeld, DoesHeld, StopsBy};
 ghost use Rattle.bp_session.specs.Saving.{KeepsClean};
 ghost use Rattle.bp_session.specs.Serving.{CanServe};
@@ -24,6 +25,7 @@ use crate::save::{dirty_drained, dirty_each, sync_dirty};
 use crate::work::LineBuffers;
 use bp_io::{Failed, Files, Sink};
 use bp_limits::MAX_LINE;
+use bp_plain::Call;
 use bp_replay::{Cut, choice_of, storm};
 use bp_script::{Line, Syntax};
 use bp_volume::Volume;
@@ -103,8 +105,19 @@ fn count_log<R: Region>(region: &R) -> Outcome
     }
 }
 
+/// Notes as dirty the blocks in which the drains of a call may change words. An upgrade to version 3 may drain several
+/// times, between stores of its own: each block is dirty. Any other call drains at most the log as it is now.
+fn dirty_call<R: Region>(region: &R, call: &Call<'_>, dirty: &mut [bool])
+    ensures { CoversCall (call_of call.now) (R.memory region.now) dirty.old dirty.new }
+{
+    match call {
+        Call::UpgradeToThree => dirty_each(dirty, true),
+        _ => dirty_drained(region, dirty),
+    }
+}
+
 /// Carries out the line of the buffers, as `act` does, except that a sync is left to be done: at `Outcome::Synced`
-/// nothing is written back yet. The blocks to which a drained log stored are dirty.
+/// nothing is written back yet. The blocks in which a drain changed words are dirty.
 // Inlined into its callers, so that an outcome need not go through memory, where it would be read in wider pieces
 // than it was written: the processor stalls then.
 #[inline(always)]
@@ -118,7 +131,7 @@ fn act_but_sync<R: Region>(
     ensures does { ¬ (result ≡ Synced) →
         Does volume.old (command_of (line_in buffers.old)) result (answer_in buffers.new) volume.new }
     ensures left { result ≡ Synced → (command_of (line_in buffers.old) ≡ sync) × (volume.new ≡ volume.old) }
-    ensures notes { NotesDrain result volume.old dirty.old dirty.new }
+    ensures notes { NotesDrain result (command_of (line_in buffers.old)) volume.old dirty.old dirty.new }
     ensures line { line_in buffers.new ≡ line_in buffers.old }
     ensures answer { ¬ (result ≡ Answered) → answer_in buffers.new ≡ answer_in buffers.old }
     ensures waiting { waiting_in buffers.new ≡ waiting_in buffers.old }
@@ -128,7 +141,7 @@ fn act_but_sync<R: Region>(
     }
     match buffers.decoded.line(&buffers.line) {
         Ok(Line::Call(call)) => {
-            dirty_drained(volume.region(), dirty);
+            dirty_call(volume.region(), &call, dirty);
             volume.apply(alloc, &call, &mut buffers.reply);
             Outcome::Answered
         }
@@ -211,7 +224,8 @@ pub(crate) fn act_and_save<R: Region, K: Sink, F: Files>(
     ensures does { IfOk result (DoesHeld F.view K.view
         buffers.old dirty.old volume.old files.old out.old
         buffers.new dirty.new volume.new files.new out.new) }
-    ensures dirty { IfOk result (λ outcome. LeavesDirty outcome volume.old dirty.old dirty.new) }
+    ensures dirty { IfOk result (λ outcome.
+        LeavesDirty outcome (command_of (line_in buffers.old)) volume.old dirty.old dirty.new) }
     ensures kept { KeepsClean dirty.old volume.old (F.view files.old) (F.view files.new) }
     ensures clears { OnOk result (ClearsHeld F.view K.view
         buffers.old files.old out.old

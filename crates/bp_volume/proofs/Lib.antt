@@ -42,3 +42,5 @@ pub mod SuperLaws
 pub mod LiveBlocks
 pub mod SnapLaws
 pub mod SnapshotAsking
+pub mod ToThreeLaws
+pub mod ClearedLaws

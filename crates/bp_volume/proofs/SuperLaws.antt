@@ -39,7 +39,7 @@ use Rattle.bp_volume.proofs.WholeLaws.{whole_equivalence}
 
 -- the words of the superblock that do not describe the first tree
 abbrev pub IsBeside : ℕ → Type 0
-IsBeside place = (place ≤ 5) × (place ≢ 2) × (place ≢ 3)
+IsBeside place = (place ≤ 7) × (place ≢ 2) × (place ≢ 3)
 
 -- stores to some of them leave the first tree as it was
 pub trees_beside : (Stored : ℕ → Type 0) → ((place : ℕ) → Stored place → place < 512) → (Stored 2 → ⊥) → (Stored 3 → ⊥) → (old new : Image) → EachMay (AnyAt Stored) old new → SameTrees old new
@@ -57,7 +57,7 @@ pub record StoresSuper (memory made : Memory) (call : Call) : Type 0 where
   pub value : ℕ
   pub adds : Adds memory made (prepared ++ commit place value)
   pub quiet : IsQuiet SameFiles (current_words memory) prepared
-  pub piece : IsPiece 2 3 (prepared ++ commit place value)
+  pub piece : IsPiece 2 5 (prepared ++ commit place value)
   pub beside : StoresMay (AnyAt IsBeside) (prepared ++ commit place value)
   pub reported : super_events (current_words memory) call ≡ Some (prepared ++ commit place value)
   pub well : IsFileSystem (current_words made)
@@ -72,7 +72,7 @@ module _ (memory made : Memory) (call : Call) (does : StoresSuper memory made ca
   abbrev events : List Event
   events = does.prepared ++ commit does.place does.value
 
-  whole_commit : AddsCommit SameFiles does.place does.value 2 3 memory made
+  whole_commit : AddsCommit SameFiles does.place does.value 2 5 memory made
   whole_commit = record { prepared = does.prepared; adds = does.adds; quiet = does.quiet; piece = does.piece }
 
   pub super_trees : SameTrees (current_words memory) (current_words made)
@@ -81,7 +81,7 @@ module _ (memory made : Memory) (call : Call) (does : StoresSuper memory made ca
       (rw (current_words-adds memory made events does.adds) (EachMay-stored (AnyAt IsBeside) (current_words memory) events does.beside))
 
   super_fits : call_room ≤ room_in memory → 1 ≤ room_in made
-  super_fits room = omega (arith, room, room_after_commit SameFiles does.place does.value 2 3 memory made whole_commit)
+  super_fits room = omega (arith, room, room_after_commit SameFiles does.place does.value 2 5 memory made whole_commit)
 
   module _ (ended : Memory) (ends : Adds made ended (CallEnd ∷ [])) where
     words : current_words ended ≡ current_words made
@@ -89,7 +89,7 @@ module _ (memory made : Memory) (call : Call) (does : StoresSuper memory made ca
 
     super_safe : IsSafe SameFiles memory → IsSafe SameFiles ended
     super_safe safe =
-        safe_committed SameFiles whole_equivalence does.place does.value 2 3 memory made ended safe whole_commit ends (rw words (whole_self (current_words made) does.well))
+        safe_committed SameFiles whole_equivalence does.place does.value 2 5 memory made ended safe whole_commit ends (rw words (whole_self (current_words made) does.well))
 
     super_volume : {R : Type 0} (parts after : Parts R) (region : R) (pending : ℕ) → IsVolume memory parts pending → IsExact (current_words made) after → AreInSnapshot (current_words made) (in_snapshot_of after) →
         IsVolume ended (record after { region = region }) pending

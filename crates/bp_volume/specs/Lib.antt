@@ -1,6 +1,7 @@
 pub mod Step
 pub mod SuperEvents
 pub mod FileCall
+pub mod Called
 pub mod Volume
 pub mod Ready
 pub mod Queries

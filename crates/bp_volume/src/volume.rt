@@ -12,7 +12,6 @@ ghost use Rattle.pm_epochs.specs.Replay.{IsRight, after_calls, kept_calls};
 ghost use Rattle.pm_region.specs.Memory.{crashed, current_words, drained, room_in, with_room};
 ghost use Rattle.pm_region.specs.Safe.{IsSafe};
 ghost use Rattle.bp_limits.specs.declared.version.Version.TheVariants.{One};
-ghost use Rattle.bp_plain.specs.Calls.Answer.{done};
 ghost use Rattle.bp_plain.specs.Calls.Call.{attribute, batch, create, link, links, list, mkdir, read, rename, rmdir};
 ghost use Rattle.bp_plain.specs.Calls.Call.{set_attribute, snap, snap_list, snap_read, snap_stat, stat, truncate, unlink, unsnap, upgrade, write};
 ghost use Rattle.bp_plain.specs.PlainTree.{empty_tree};
@@ -20,9 +19,12 @@ ghost use Rattle.bp_plain.specs.Seen.{CanAsk, LiesIn, call_of, piece_in};
 ghost use Rattle.bp_plain.specs.Stands.{Stands};
 ghost use Rattle.bp_scan.specs.Faults.{IsFault};
 ghost use Rattle.bp_scan.specs.Totals.{HasLive, HasTotals};
+ghost use Rattle.bp_volume.specs.Called.{Called};
 ghost use Rattle.bp_volume.specs.FileCall.{FileCall};
 ghost use Rattle.bp_volume.specs.Laid.{formatted_memory};
 ghost use Rattle.bp_volume.specs.Seen.{attribute_answer, links_answer, list_answer_of, read_answer_of, stat_answer_of, unit_answer};
+
+mod upgrades;
 
 use crate::attributes::{do_attribute, do_set_attribute};
 use crate::batch::do_batch;
@@ -40,7 +42,6 @@ use crate::resize::do_truncate;
 use crate::sets::{Sets, memory_for};
 use crate::snapshot::{do_snap, do_snap_list, do_snap_read, do_snap_stat, do_unsnap};
 use crate::space::Space;
-use crate::upgrade::upgrade_region;
 use crate::write::do_write;
 use bp_cache::DirectoryCache;
 use bp_free::Parts;
@@ -548,16 +549,6 @@ impl<R: Region> Volume<R> {
         reported
     }
 
-    /// Upgrades the format from version 1 to version 2, whose limits are larger, with the same files and directories. In
-    /// a later version it changes nothing. It needs no block.
-    pub fn upgrade(&mut self)
-        ensures { FileCall self.old upgrade done self.new }
-    {
-        self.make_room();
-        upgrade_region(&mut self.parts.region);
-        self.parts.region.end_call();
-    }
-
     /// Makes a snapshot: the files and directories as they are now, which can be read until the snapshot is deleted.
     /// It copies nothing and needs no block. But the present blocks of the tree are not freed until then, so later
     /// changes may need more blocks.
@@ -657,7 +648,7 @@ impl<R: Region> Volume<R> {
     /// attribute is at most 2.
     pub fn apply(&mut self, alloc: Global, call: &Call, reply: &mut Reply)
         requires can { CanAsk call.now }
-        ensures { FileCall self.old (call_of call.now) reply.new.answer self.new }
+        ensures { Called self.old (call_of call.now) reply.new.answer self.new }
     {
         match call {
             Call::Create(path) => report_done(reply, self.create(path)),
@@ -685,6 +676,7 @@ impl<R: Region> Volume<R> {
                 value,
             } => report_done(reply, self.set_attribute(path, *number, *value)),
             Call::Upgrade => self.apply_upgrade(reply),
+            Call::UpgradeToThree => report_done(reply, self.upgrade_to_three()),
             Call::Batch { text, pieces } => report_done(reply, self.batch(text, pieces)),
             Call::Snap => report_done(reply, self.snap()),
             Call::Unsnap => report_done(reply, self.unsnap()),

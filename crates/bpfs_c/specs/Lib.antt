@@ -13,3 +13,4 @@ pub mod Tags
 pub mod Opens
 pub mod Patches
 pub mod Exports
+pub mod Upgrades

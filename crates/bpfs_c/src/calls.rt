@@ -1,13 +1,11 @@
 //! Exports that may change the tree.
 
-ghost use Rattle.std.specs.Prelude.{◌≡◌};
-ghost use Rattle.bp_plain.specs.Calls.Answer.{done};
 ghost use Rattle.bp_plain.specs.Calls.{Call};
-ghost use Rattle.bp_plain.specs.Calls.Call.{create, link, mkdir, rename, rmdir, truncate, unlink, upgrade, write};
+ghost use Rattle.bp_plain.specs.Calls.Call.{create, link, mkdir, rename, rmdir, truncate, unlink, write};
 ghost use Rattle.bpfs_c.specs.Exports.{ExportsChange};
-ghost use Rattle.bpfs_c.specs.Serves.{Exported, IsCall};
+ghost use Rattle.bpfs_c.specs.Serves.{IsCall};
 
-use crate::codes::{CLOSED, LOG_FULL, Lack, OK, ended};
+use crate::codes::{CLOSED, LOG_FULL, Lack, ended};
 use crate::handle::Handle;
 use crate::mounted::has_room;
 use bp_plain::FsError;
@@ -150,23 +148,4 @@ pub extern "C" fn bpfs_truncate(
     ensures { ExportsChange handle.old.held (truncate path.now size) lack.old result lack.new handle.new.held }
 {
     change(alloc, handle, lack, |volume| volume.truncate(path, size))
-}
-
-/// Changes the version of the image's format to 2.
-#[unsafe(no_mangle)]
-pub extern "C" fn bpfs_upgrade(alloc: Global, handle: &mut Handle) -> u32
-    ensures { Exported handle.old.held upgrade (λ answer. (answer ≡ done) × (result ≡ 0)) (Unit {0}) result
-        handle.new.held }
-{
-    let Some(mut mounted) = handle.take(alloc) else {
-        return CLOSED;
-    };
-    let code = if has_room(&mounted) {
-        mounted.volume.upgrade();
-        OK
-    } else {
-        LOG_FULL
-    };
-    handle.put(alloc, mounted);
-    code
 }

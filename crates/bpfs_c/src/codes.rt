@@ -4,7 +4,7 @@ ghost use Rattle.std.specs.Prelude.{◌≡◌, Result, Ok, Err};
 ghost use Rattle.bp_plain.specs.Refusals.{refusal_number};
 ghost use Rattle.bp_plain.specs.Seen.{refusal_of};
 ghost use Rattle.bp_volume.specs.Seen.{unit_answer};
-ghost use Rattle.bpfs_c.specs.Codes.{HasLack, IsEndedAs};
+ghost use Rattle.bpfs_c.specs.Codes.{HasLack, IsEndedAs, IsEndedBy};
 
 use bp_plain::FsError;
 
@@ -34,6 +34,9 @@ pub const DAMAGED: u32 = 37;
 
 /// No such place in the words or in the listing, or the caller's array is too short or too long.
 pub const OUT_OF_RANGE: u32 = 38;
+
+/// A part of an upgrade is done: carry the events, and call again.
+pub const AGAIN: u32 = 39;
 
 /// The blocks that a call needs and those that are free, after a refusal for lack of space.
 #[repr(C)]
@@ -70,5 +73,15 @@ pub(crate) fn ended(ending: Result<(), FsError>, lack: &mut Lack) -> u32
     match ending {
         Ok(()) => OK,
         Err(error) => refused(error, lack),
+    }
+}
+
+/// Returns the number of the end of a call that never fails for lack of space.
+pub(crate) fn ended_by(ending: Result<(), FsError>) -> u32
+    ensures { IsEndedBy (unit_answer ending) result }
+{
+    match ending {
+        Ok(()) => OK,
+        Err(error) => number_of(error),
     }
 }

@@ -19,3 +19,4 @@ pub mod runs;
 pub mod snapshot;
 pub mod space;
 pub mod tag;
+pub mod upgrade;

@@ -2,28 +2,16 @@
 
 ghost use Rattle.std.specs.Prelude.{◌≡◌, length};
 ghost use Rattle.bp_plain.specs.Calls.Call.{snap, snap_list, snap_read, snap_stat, unsnap};
-ghost use Rattle.bp_volume.specs.Seen.{unit_answer};
 ghost use Rattle.bpfs_c.specs.Codes.{IsEndedBy, IsListed};
 ghost use Rattle.bpfs_c.specs.Exports.{ExportsFound, ExportsRead};
 ghost use Rattle.bpfs_c.specs.Serves.{Exported};
 
-use crate::codes::{CLOSED, LOG_FULL, OK, number_of};
+use crate::codes::{CLOSED, LOG_FULL, ended_by};
 use crate::handle::Handle;
 use crate::listing::keep;
 use crate::mounted::has_room;
 use crate::queries::{Found, report_count, report_found};
-use bp_plain::FsError;
 use std::alloc::Global;
-
-/// Returns the number of the end of a call that never fails for lack of space.
-fn ended_by(ending: Result<(), FsError>) -> u32
-    ensures { IsEndedBy (unit_answer ending) result }
-{
-    match ending {
-        Ok(()) => OK,
-        Err(error) => number_of(error),
-    }
-}
 
 /// Takes a snapshot.
 #[unsafe(no_mangle)]

@@ -26,3 +26,8 @@ pub returns-in-sstat : goal.returns-in-sstat
 returns-in-sstat c =
     let same : c.args.verb.now ≡ codes "sstat" = text_from_reads c.args.verb.now (codes "sstat") (omega arith) (omega arith) in
     λ word. rw same refl
+
+pub returns-in-upgrade : goal.returns-in-upgrade
+returns-in-upgrade c =
+    let same : c.args.verb.now ≡ codes "upgrade" = text_from_reads c.args.verb.now (codes "upgrade") (omega arith) (omega arith) in
+    λ word. rw same refl

@@ -45,7 +45,7 @@ pub returns-in-Err-clause-others : goal.returns-in-Err-clause-others
 returns-in-Err-clause-others g c = others_same (g.F.Files.view c.args.files.now)
 
 pub returns-in-Ok-sync_dirty-clause-dirty : goal.returns-in-Ok-sync_dirty-clause-dirty
-returns-in-Ok-sync_dirty-clause-dirty g c = leaves_synced c.args.volume.now c.args.dirty.now c.sync_dirty.new.dirty c.in-Ok-sync_dirty.ensures.cleared
+returns-in-Ok-sync_dirty-clause-dirty g c = leaves_synced _ c.args.volume.now c.args.dirty.now c.sync_dirty.new.dirty c.in-Ok-sync_dirty.ensures.cleared
 
 pub returns-in-Ok-sync_dirty-clause-kept : goal.returns-in-Ok-sync_dirty-clause-kept
 returns-in-Ok-sync_dirty-clause-kept g c = rw ((c.in-Synced.ensures.left refl).1, c.in-Synced.ensures.notes) at c.sync_dirty.ensures.kept
@@ -57,7 +57,7 @@ pub returns-in_default : goal.returns-in_default
 returns-in_default g c =
     let other = c.in_default.not-Synced in
     let does = c.act_but_sync.ensures.does other in
-    let leaves = leaves_other c.act_but_sync.result c.args.volume.now c.args.dirty.now c.act_but_sync.new.dirty c.dirty_crash.new.dirty other c.act_but_sync.ensures.notes c.dirty_crash.ensures.crashed c.dirty_crash.ensures.others in
+    let leaves = leaves_other c.act_but_sync.result _ c.args.volume.now c.args.dirty.now c.act_but_sync.new.dirty c.dirty_crash.new.dirty other c.act_but_sync.ensures.notes c.dirty_crash.ensures.crashed c.dirty_crash.ensures.others in
     record {
       does = λ saved. record {
         after = _;

@@ -66,16 +66,18 @@ crash-requires-clause-mask g c =
 -- ---- what is noted
 
 pub returns-in-Ok-Call-clause-notes : goal.returns-in-Ok-Call-clause-notes
-returns-in-Ok-Call-clause-notes g c = rw c.region.ensures.memory at c.dirty_drained.ensures
+returns-in-Ok-Call-clause-notes g c =
+    let asked = command_short c.args.buffers.now.line.items _ (omega arith) (let meant = rw c.in-Ok-Call.field-0-is at c.in-Ok-Call.ensures.meaning in meant ∙ ap in_grammar c.deref.ensures.value) in
+    rw (← asked) (rw c.region.ensures.memory at c.dirty_call.ensures)
 
 pub returns-in-Ok-Crash-clause-notes : goal.returns-in-Ok-Crash-clause-notes
-returns-in-Ok-Crash-clause-notes g c = notes_crash c.args.volume.now _ _ _ _ c.crash.ensures.crashes
+returns-in-Ok-Crash-clause-notes g c = notes_crash c.args.volume.now _ _ _ _ _ c.crash.ensures.crashes
 
 pub returns-in-Ok-Storm-clause-notes : goal.returns-in-Ok-Storm-clause-notes
-returns-in-Ok-Storm-clause-notes g c = notes_crash c.args.volume.now _ _ _ _ (inl c.crash_by_storm.ensures.crashes)
+returns-in-Ok-Storm-clause-notes g c = notes_crash c.args.volume.now _ _ _ _ _ (inl c.crash_by_storm.ensures.crashes)
 
 pub returns-in-Ok-Cache-clause-notes : goal.returns-in-Ok-Cache-clause-notes
-returns-in-Ok-Cache-clause-notes g c = notes_cache c.args.volume.now _ _ _ _ c.crash_by_caches.ensures.crashes
+returns-in-Ok-Cache-clause-notes g c = notes_cache c.args.volume.now _ _ _ _ _ c.crash_by_caches.ensures.crashes
 
 pub returns-in-Ok-Log-clause-notes : goal.returns-in-Ok-Log-clause-notes
-returns-in-Ok-Log-clause-notes g c = notes_log c.args.volume.now _ _ _ _ _ c.count_log.ensures
+returns-in-Ok-Log-clause-notes g c = notes_log c.args.volume.now _ _ _ _ _ _ c.count_log.ensures

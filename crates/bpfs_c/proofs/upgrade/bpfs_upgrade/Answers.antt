@@ -1,8 +1,8 @@
 use Rattle.std.proofs.Common.{rules}
 use Rattle.bpfs_c.specs.Serves.Exported.{full, served}
 use Rattle.bp_plain.specs.Calls.Answer.{done}
-use Rattle.bpfs_c.proofs.calls.bpfs_upgrade.Goals as goal
-use Rattle.bpfs_c.proofs.calls.bpfs_upgrade.Goals.{then-has_room, else-has_room}
+use Rattle.bpfs_c.proofs.upgrade.bpfs_upgrade.Goals as goal
+use Rattle.bpfs_c.proofs.upgrade.bpfs_upgrade.Goals.{then-has_room, else-has_room}
 
 pub returns : goal.returns
 returns c =

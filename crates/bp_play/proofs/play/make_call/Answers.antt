@@ -1,0 +1,14 @@
+use Rattle.bp_script.specs.Texts.LineReply.{answered}
+use Rattle.bp_session.proofs.ActingLaws.{does_call}
+use Rattle.bp_play.proofs.play.make_call.Goals as goal
+
+pub returns : goal.returns
+returns g c =
+    let applied = rw c.with_bytes-asked.ensures at c.apply.ensures in
+    let done = does_call c.args.volume.now c.apply.new.self _ _ applied in
+    record {
+      reply = answered c.apply.new.reply.answer;
+      line = done.line;
+      counted = rw c.answer.ensures.seen at c.count_answer.ensures;
+      capacity = done.capacity;
+    }

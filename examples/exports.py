@@ -6,9 +6,10 @@
 PROGRAM is a built bpfs, such as crates/bpfs/out/bpfs. COUNT is the number of random trees (default 100), SEED the seed
 of the first one (default 1). The tests use a directory in TMPDIR:
 
-- Random trees: directories, files with holes, with zeros and with several links, names of any bytes, unlinks, renames,
-  and in some images a snapshot. The script of each image is run on a fresh image of another size. All replies have to be
-  `ok`, the export of that image has to be the same script, and the exported FILE has to stay unchanged.
+- Random trees in versions 1 to 3: directories, files with holes, with zeros and with several links, names of any bytes,
+  unlinks, renames, attributes, and in some images a snapshot. The script of each image is run on a fresh image of another
+  size. All replies have to be `ok`, the export of that image has to be the same script, both images have to show the same
+  attributes, and the exported FILE has to stay unchanged.
 - 2,047 nested directories, the last with a path of 4,095 bytes, in the same way.
 - A path that is too long for a line, made by a rename: the export has to end with status 9 and print `err 40 deep` only.
 """
@@ -47,10 +48,11 @@ def spelled(name):
 
 
 class Tree:
-    """The lines of a script that makes a random tree."""
+    """The lines of a script that makes a random tree in a version."""
 
-    def __init__(self, seed):
+    def __init__(self, seed, version):
         self.random = random.Random(seed)
+        self.version = version
         self.lines = []
         self.directories = [""]
         self.files = []
@@ -99,11 +101,22 @@ class Tree:
         self.lines.append(f"rename {self.files[index]} {path}")
         self.files[index] = path
 
+    def set_attribute(self):
+        path = self.random.choice(self.directories + self.files) or "/"
+        value = self.random.choice((0, 1, 0o100644, self.random.randrange(2**64), 2**64 - 1))
+        self.lines.append(f"setattr {path} {self.random.randrange(3)} {value}")
+
     def grow(self, steps):
         for _ in range(steps):
             deeds = [self.add, self.add] + ([self.write, self.write, self.resize, self.link, self.leave, self.move] if self.files else [])
+            if self.version == 3:
+                deeds += [self.set_attribute, self.set_attribute]
             self.random.choice(deeds)()
         return self.lines
+
+    def asks(self):
+        """The lines that ask for all attributes."""
+        return [f"attr {path or '/'} {number}" for path in self.directories + self.files for number in range(3)]
 
 
 def exported(program, image):
@@ -135,12 +148,15 @@ def comes_back(program, folder, image, blocks, version):
 def random_trees(program, folder, count, first):
     image, held = f"{folder}/image", 0
     for seed in range(first, first + count):
-        tree, version = Tree(seed), 1 + seed % 2
+        version = 1 + seed % 3
+        tree = Tree(seed, version)
         lines = tree.grow(tree.random.choice((5, 50, 300)))
-        if version == 2 and seed % 4 == 1:
+        if version > 1 and seed % 4 == 1:
             lines = [*lines[: len(lines) // 2], "snap", *lines[len(lines) // 2:]]
         make(program, image, ROOM, version, lines)
-        held += len(comes_back(program, folder, image, ROOM + 1000 * (seed % 3), version))
+        held += len(comes_back(program, folder, image, ROOM + 1000 * (seed % 5), version))
+        if run(program, ["run", image], tree.asks()).stdout != run(program, ["run", f"{folder}/other"], tree.asks()).stdout:
+            fail("the copy has other attributes")
     print(f"ok: {count} random trees are equal after export and run; scripts of {held} bytes")
 
 

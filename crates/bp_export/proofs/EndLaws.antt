@@ -1,11 +1,10 @@
 -- How an export ends by how its walk does.
 use Rattle.std.proofs.Common.{◌≡◌, ℕ, List, [], ◌++◌, refl, sym, ◌∙◌, ap, subst, append_assoc}
-use Rattle.std.specs.Prelude.{Result, Ok, Err}
+use Rattle.std.specs.Prelude.{Ok, Err}
 use Rattle.std.specs.Io.KnownBytes.{Appends}
 use Rattle.std.proofs.KnownBytes.{Appends-trans}
 use Rattle.bp_io.specs.Causes.{Rose}
 use Rattle.bp_io.specs.Views.{SinkView}
-use Rattle.bp_plain.specs.Calls.{Call}
 use Rattle.bp_plain.specs.Export.{HasShortPaths, export_calls}
 use Rattle.bp_plain.specs.PlainTree.{FileTree}
 use Rattle.bp_replies.specs.Taking.{TakesPart}
@@ -82,8 +81,3 @@ module _ (T : Type 0) (tree : FileTree) (t : SinkView) where
     ends_unhanded v e is a u w goes part rose =
         subst (λ (fault : Fault). EndsExport {T = T} tree (Err fault) t w) (sym is)
         (ends_sink w (passed_part (export_text tree) [] a t.taken u.taken w.taken goes.0 part) (subst (λ n. Rose n w.faults) goes.1 rose))
-
--- the walk from the root, before which nothing waits
-pub from_root : {T : Type 0} (r : Result T Fault) (tree : FileTree) (calls : List Call) (b a : List ℕ) (t u : SinkView) → calls ≡ export_calls tree → b ≡ [] → Goes calls r b a t u → Goes (export_calls tree) r [] a t u
-from_root r tree calls b a t u all none goes =
-    subst (λ (l : List Call). Goes l r [] a t u) all (subst (λ (l : List ℕ). Goes calls r l a t u) none goes)

@@ -1,35 +1,19 @@
 -- The calls that make a file, reported stretch by stretch.
-use Rattle.std.proofs.Common.{◌≡◌, ◌⊎◌, ℕ, zero, suc, ◌+◌, ◌-◌, ◌*◌, ◌/◌, ◌<◌, ◌≤◌, ◌==◌, ◌&&◌, List, [], ◌∷◌, ◌++◌, length, flat_map, Bool, true, false, nat_lt, min, Option, None, Some, if◌then◌else◌, refl, sym, ◌∙◌, subst, ap, ap₂, arith, inl, inr, true≢false, eq-eqb, append-nil}
-use Rattle.std.specs.Prelude.{All}
-use Rattle.std.specs.List.{range_with_len}
+use Rattle.std.proofs.Common.{◌≡◌, ◌⊎◌, ℕ, zero, suc, ◌+◌, ◌-◌, ◌*◌, ◌/◌, ◌<◌, ◌≤◌, ◌==◌, ◌&&◌, List, [], ◌∷◌, ◌++◌, length, Bool, true, false, nat_lt, min, Option, None, Some, if◌then◌else◌, refl, sym, ◌∙◌, subst, ap, ap₂, arith, inl, inr, true≢false, eq-eqb, append-nil}
 use Rattle.std.specs.Option.{unwrap_or}
 use Rattle.std.proofs.lemmas.Bool.{cases_lt, eqb-true, ltb-false, ltb-true}
-use Rattle.std.proofs.lemmas.Grind.{flat_map-append}
-use Rattle.bp_free.proofs.Members.{range_split}
 use Rattle.bp_limits.specs.Limits.{block_size}
 use Rattle.bp_plain.specs.Calls.{Call}
 use Rattle.bp_plain.specs.Calls.Call.{truncate, write}
 use Rattle.bp_plain.specs.Export.{is_zeros, size_call, stretch, stretches, write_of, writes_of}
 use Rattle.bp_export.specs.Report.{size_after, write_end}
-use Rattle.bp_export.proofs.Prefixes.{all_back, all_prefix}
+use Rattle.bp_export.proofs.CallsInRow.{calls_from, calls_until, one_more, split_after}
 
 -- ---- the writes of the first stretches
 
 module _ (text bytes : List ℕ) where
   abbrev pub writes_until : ℕ → List Call
-  writes_until k = flat_map (write_of text bytes) (range_with_len 0 k)
-
-  abbrev rest_of : ℕ → ℕ → List Call
-  rest_of k n = flat_map (write_of text bytes) (range_with_len k n)
-
-  split_at : (k n : ℕ) → writes_until (k + n) ≡ writes_until k ++ rest_of k n
-  split_at k n =
-      let from : 0 + k ≡ k = omega arith in
-      ap (flat_map (write_of text bytes)) (range_split 0 k n ∙ ap (λ j. range_with_len 0 k ++ range_with_len j n) from)
-      ∙ flat_map-append (write_of text bytes) (range_with_len 0 k) (range_with_len k n)
-
-  one_more : (k : ℕ) → writes_until (k + 1) ≡ writes_until k ++ write_of text bytes k
-  one_more k = split_at k 1 ∙ ap (λ calls. writes_until k ++ calls) (append-nil (write_of text bytes k))
+  writes_until k = calls_until (write_of text bytes) k
 
   -- a stretch of zeros has no write, and each other one has its own
   pub no_write : (k : ℕ) → is_zeros (stretch bytes k) ≡ true → write_of text bytes k ≡ []
@@ -42,7 +26,7 @@ module _ (text bytes : List ℕ) where
   passed k zero zeros = let same : k + 0 ≡ k = omega arith in ap writes_until same
   passed k (suc n) zeros =
       let same : k + suc n ≡ k + n + 1 = omega arith in
-      ap writes_until same ∙ one_more (k + n)
+      ap writes_until same ∙ one_more (write_of text bytes) (k + n)
       ∙ ap₂ (λ xs ys. xs ++ ys) (passed k n (λ j low high. zeros j low (omega (arith, high)))) (no_write (k + n) (zeros (k + n) (omega arith) (omega arith)))
       ∙ append-nil (writes_until k)
 
@@ -53,25 +37,13 @@ module _ (text bytes : List ℕ) where
 
   -- up to a stretch after stretches of zeros
   pub written_to : (k leaf : ℕ) → k ≤ leaf → ((j : ℕ) → k ≤ j → j < leaf → is_zeros (stretch bytes j) ≡ true) → writes_until (leaf + 1) ≡ writes_until k ++ write_of text bytes leaf
-  written_to k leaf low zeros = one_more leaf ∙ ap (λ calls. calls ++ write_of text bytes leaf) (passed_to k leaf low zeros)
+  written_to k leaf low zeros = one_more (write_of text bytes) leaf ∙ ap (λ calls. calls ++ write_of text bytes leaf) (passed_to k leaf low zeros)
 
   abbrev pub following : ℕ → List Call
-  following leaf = rest_of (leaf + 1) (stretches bytes - (leaf + 1))
-
-  split_after : (leaf : ℕ) → leaf < stretches bytes → writes_of text bytes ≡ writes_until (leaf + 1) ++ following leaf
-  split_after leaf low =
-      let more : stretches bytes ≡ leaf + 1 + (stretches bytes - (leaf + 1)) = omega (arith, low) in
-      ap writes_until more ∙ split_at (leaf + 1) (stretches bytes - (leaf + 1))
+  following leaf = calls_from (write_of text bytes) (leaf + 1) (stretches bytes - (leaf + 1))
 
   pub written_whole : (k leaf : ℕ) → k ≤ leaf → leaf < stretches bytes → ((j : ℕ) → k ≤ j → j < leaf → is_zeros (stretch bytes j) ≡ true) → (writes_until k ++ write_of text bytes leaf) ++ following leaf ≡ writes_of text bytes
-  written_whole k leaf low live zeros = sym (split_after leaf live ∙ ap (λ calls. calls ++ following leaf) (written_to k leaf low zeros))
-
-  -- a live stretch has room where all have
-  pub fits_at : (P : Call → Type 0) (k : ℕ) → k < stretches bytes → All P (writes_of text bytes) → All P (write_of text bytes k)
-  fits_at P k low all =
-      let whole : writes_of text bytes ≡ (writes_until k ++ write_of text bytes k) ++ following k = split_after k low ∙ ap (λ calls. calls ++ following k) (one_more k) in
-      all_back P (writes_until k) (write_of text bytes k)
-      (all_prefix P (writes_until k ++ write_of text bytes k) (following k) (subst (All P) whole all))
+  written_whole k leaf low live zeros = sym (split_after (write_of text bytes) leaf (stretches bytes) live ∙ ap (λ calls. calls ++ following leaf) (written_to k leaf low zeros))
 
 -- ---- where the last stretch that was reported ends
 

@@ -11,7 +11,7 @@ use Rattle.bp_layout.specs.Paths.Node.{dir}
 use Rattle.bp_layout.specs.Names.{HasNames}
 use Rattle.bp_layout.specs.Words.{Image}
 use Rattle.bp_layout.proofs.Below.{same_path-is, same_path-self}
-use Rattle.bp_plain.specs.Calls.Call.{link, mkdir}
+use Rattle.bp_plain.specs.Calls.Call.{link}
 use Rattle.bp_plain.specs.Export.{calls_at, calls_for, first_of, path_text}
 use Rattle.bp_plain.specs.Plain.{is_root_path}
 use Rattle.bp_plain.specs.PlainTree.{PathMap, is_one, path_cmp}
@@ -149,7 +149,7 @@ module _ (image : Image) (tree : PathMap) (shows : Shows image tree) (q : Path) 
   own_calls : (node : Node) → first_of tree q ≡ q → calls_at tree (q, node) ≡ calls_for (path_text q) node
   own_calls node own = rw (not_root q some, own, same_path-self q) refl
 
-  pub directory_calls : (attributes : Attributes) → file_at image q ≡ None → calls_at tree (q, dir attributes) ≡ mkdir (path_text q) ∷ []
+  pub directory_calls : (attributes : Attributes) → file_at image q ≡ None → calls_at tree (q, dir attributes) ≡ calls_for (path_text q) (dir attributes)
   directory_calls attributes none = own_calls (dir attributes) (ap (λ o. unwrap_or o q) (none_passes (is_one tree.one q) (keys tree.nodes) (λ p. shows.one q p ∙ ap (λ o. are_one o (file_at image p)) none)))
 
   module _ (noted later : List Entry) (node : Node) (order : entries tree.nodes ≡ noted ++ (q, node) ∷ later) (i : ℕ) (at : file_at image q ≡ Some i) where

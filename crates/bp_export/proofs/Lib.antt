@@ -1,4 +1,6 @@
 pub mod DepthLaws
+pub mod CallsInRow
+pub mod AttributeLines
 pub mod FileLines
 pub mod Prefixes
 pub mod NamesInOrder

@@ -6,14 +6,13 @@ use Rattle.bp_io.specs.Views.{SinkView}
 use Rattle.bp_io.specs.declared.faults.Failed.{Failed}
 use Rattle.bp_layout.specs.Inode.{IsDirectory, IsFile, attributes_of, root_of, size_of}
 use Rattle.bp_layout.specs.Lookup.{file_at, node_of}
-use Rattle.bp_layout.specs.Paths.{no_attributes}
-use Rattle.bp_layout.specs.Paths.Node.{file}
+use Rattle.bp_layout.specs.Paths.Node.{dir, file}
 use Rattle.bp_layout.specs.Names.{AreCounts}
 use Rattle.bp_layout.specs.Tree.{IsSound, content}
 use Rattle.bp_layout.specs.WellFormed.{IsWellFormed}
 use Rattle.bp_layout.specs.Words.{Image, block_count}
 use Rattle.bp_plain.specs.Calls.{Call}
-use Rattle.bp_plain.specs.Calls.Call.{link, mkdir}
+use Rattle.bp_plain.specs.Calls.Call.{link}
 use Rattle.bp_plain.specs.Export.{calls_at, calls_for, path_text}
 use Rattle.bp_script.specs.Export.{FitsText}
 use Rattle.bp_export.specs.Exports.{Goes}
@@ -24,7 +23,7 @@ use Rattle.bp_export.specs.declared.fault.Fault.{Fault}
 use Rattle.bp_export.specs.declared.fault.Fault.TheVariants.{Memory, Sink}
 use Rattle.bp_export.specs.declared.firsts.Firsts.{Firsts}
 use Rattle.bp_export.proofs.FirstTexts.{directory_calls, file_here, first_calls, later_calls, no_file_here, remembers_directory, single_new}
-use Rattle.bp_export.proofs.GoingLaws.{goes_nowhere, goes_reported, goes_unreported}
+use Rattle.bp_export.proofs.GoingLaws.{goes_nowhere, goes_reported, goes_stop, goes_unreported}
 use Rattle.bp_export.proofs.Places.{fits_next}
 use Rattle.bp_export.proofs.RowLaws.{IsInode, inode_reached}
 use Rattle.bp_export.proofs.TreeLaws.{found_low, found_reached, has_count, node_of-directory, node_of-file}
@@ -56,14 +55,14 @@ module _ (image : Image) (wf : IsWellFormed image) (counts : List ℕ) (i : ℕ)
 
       -- ---- a directory
 
-      pub directory_here : IsDirectory image i → calls_here place ≡ mkdir text ∷ []
-      directory_here kind = one_entry (mkdir text ∷ [])
+      pub directory_here : IsDirectory image i → calls_here place ≡ calls_for text (dir (attributes_of image i))
+      directory_here kind = one_entry (calls_for text (dir (attributes_of image i)))
           (ap (λ node. calls_at place.tree (place.path, node)) (node_of-directory image i kind)
           ∙ directory_calls image place.tree stands.can.shows place.path some (attributes_of image i) (no_file_here image place.path i stands.found kind)
-          ∙ ap (λ l. mkdir l ∷ []) (sym stands.spelled))
+          ∙ ap (λ l. calls_for l (dir (attributes_of image i))) (sym stands.spelled))
 
-      pub fits_mkdir : IsDirectory image i → FitsText (mkdir text)
-      fits_mkdir kind = All-head FitsText (mkdir text) [] (subst (All FitsText) (directory_here kind) fits_here)
+      pub fits_directory : IsDirectory image i → All FitsText (calls_for text (dir (attributes_of image i)))
+      fits_directory kind = subst (All FitsText) (directory_here kind) fits_here
 
       pub directory_remembered : IsDirectory image i → RemembersFirsts image counts firsts (place.noted ++ itself image i place.tree place.path)
       directory_remembered kind = remembers_directory image counts firsts place.noted stands.remembers place.path (node_of image i) (no_file_here image place.path i stands.found kind)
@@ -96,13 +95,13 @@ module _ (image : Image) (wf : IsWellFormed image) (counts : List ℕ) (i : ℕ)
             single_new image place.tree stands.can.shows place.path some place.noted place.later (node_of image i) stands.order i at (slice_index counts i) (are.each i low) few
 
         module _ (new : text_of_first image i place.noted ≡ None) where
-          pub made_here : calls_here place ≡ calls_for text (file no_attributes bytes)
-          made_here = one_entry (calls_for text (file no_attributes bytes))
+          pub made_here : calls_here place ≡ calls_for text (file (attributes_of image i) bytes)
+          made_here = one_entry (calls_for text (file (attributes_of image i) bytes))
               (first_calls image place.tree stands.can.shows place.path some place.noted place.later (node_of image i) stands.order i at new
               ∙ ap (λ node. calls_for (path_text place.path) node) (node_of-file image i kind)
-              ∙ ap (λ l. calls_for l (file no_attributes bytes)) (sym stands.spelled))
+              ∙ ap (λ l. calls_for l (file (attributes_of image i) bytes)) (sym stands.spelled))
 
-          pub fits_made : All FitsText (calls_for text (file no_attributes bytes))
+          pub fits_made : All FitsText (calls_for text (file (attributes_of image i) bytes))
           fits_made = subst (All FitsText) made_here fits_here
 
     -- ---- how it ends
@@ -125,23 +124,31 @@ module _ (image : Image) (wf : IsWellFormed image) (counts : List ℕ) (i : ℕ)
     pub tours_end : {T : Type 0} (r : Result T Fault) (e : Fault) → r ≡ Err e → (after : Firsts) (b c : List ℕ) (t u : SinkView) → Tours {T = T} image counts (itself image i) place (Err e) after b c t u → Tours image counts (itself image i) place r after b c t u
     tours_end {T} r e is after b c t u tours = subst (λ (x : Result T Fault). Tours image counts (itself image i) place x after b c t u) (sym is) tours
 
-    -- ---- a file that is made at the path at hand
+    -- ---- a file or a directory that is made at the path at hand
+
+    pub toured_so : {T : Type 0} (r : Result T Fault) (b c : List ℕ) (t u : SinkView) (calls : List Call) → calls_here place ≡ calls → Goes calls r b c t u → (after : Firsts) → RemembersFirsts image counts after (place.noted ++ itself image i place.tree place.path)
+        → Tours image counts (itself image i) place r after b c t u
+    toured_so {T} r b c t u calls is goes after remembers = record { goes = subst (λ (l : List Call). Goes {T = T} l r b c t u) (sym is) goes; remembers = where_ok r }
+      where
+        where_ok : (r : Result T Fault) → OnOk r (RemembersFirsts image counts after (place.noted ++ itself image i place.tree place.path))
+        where_ok (Ok v) = remembers
+        where_ok (Err e) = tt
+
+    pub fails_so : (S T : Type 0) (e d : Fault) → d ≡ e → (b c : List ℕ) (t u : SinkView) (calls : List Call) → calls_here place ≡ calls → Goes {T = S} calls (Err e) b c t u → (after : Firsts) → Tours {T = T} image counts (itself image i) place (Err d) after b c t u
+    fails_so S T e d same b c t u calls is goes after =
+        subst (λ (fault : Fault). Tours {T = T} image counts (itself image i) place (Err fault) after b c t u) (sym same)
+        (record { goes = subst (λ (l : List Call). Goes {T = T} l (Err e) b c t u) (sym is) (goes_stop S T e calls b c t u goes); remembers = tt })
 
     pub sound_here : (root size : ℕ) → root ≡ root_of image i → size ≡ size_of image i → IsSound image root size
     sound_here root size root_is size_is = subst₂ (IsSound image) (sym root_is) (sym size_is) (wf.sound i (found_reached image wf place.path i stands.found))
 
     module _ (below : 1 ≤ length text) (kind : IsFile image i) (new : text_of_first image i place.noted ≡ None) (root size : ℕ) (root_is : root ≡ root_of image i) (size_is : size ≡ size_of image i) where
-      made_from : calls_here place ≡ calls_for text (file no_attributes (content image root size))
-      made_from = subst₂ (λ r s. calls_here place ≡ calls_for text (file no_attributes (content image r s))) (sym root_is) (sym size_is) (made_here below kind new)
+      made_from : calls_here place ≡ calls_for text (file (attributes_of image i) (content image root size))
+      made_from = subst₂ (λ r s. calls_here place ≡ calls_for text (file (attributes_of image i) (content image r s))) (sym root_is) (sym size_is) (made_here below kind new)
 
-      pub fits_from : All FitsText (calls_for text (file no_attributes (content image root size)))
-      fits_from = subst₂ (λ r s. All FitsText (calls_for text (file no_attributes (content image r s)))) (sym root_is) (sym size_is) (fits_made below kind new)
+      pub fits_from : All FitsText (calls_for text (file (attributes_of image i) (content image root size)))
+      fits_from = subst₂ (λ r s. All FitsText (calls_for text (file (attributes_of image i) (content image r s)))) (sym root_is) (sym size_is) (fits_made below kind new)
 
-      pub toured_from : {T : Type 0} (r : Result T Fault) (b c : List ℕ) (t u : SinkView) → Goes (calls_for text (file no_attributes (content image root size))) r b c t u → (after : Firsts) → RemembersFirsts image counts after (place.noted ++ itself image i place.tree place.path)
-          → Tours image counts (itself image i) place r after b c t u
-      toured_from {T} r b c t u goes after remembers =
-          record { goes = subst (λ (l : List Call). Goes {T = T} l r b c t u) (sym made_from) goes; remembers = where_ok r }
-        where
-          where_ok : (r : Result T Fault) → OnOk r (RemembersFirsts image counts after (place.noted ++ itself image i place.tree place.path))
-          where_ok (Ok v) = remembers
-          where_ok (Err e) = tt
+      pub toured_from : {T : Type 0} (r : Result T Fault) (b c : List ℕ) (t u : SinkView) → Goes (calls_for text (file (attributes_of image i) (content image root size))) r b c t u → (after : Firsts)
+          → RemembersFirsts image counts after (place.noted ++ itself image i place.tree place.path) → Tours image counts (itself image i) place r after b c t u
+      toured_from r b c t u goes after remembers = toured_so r b c t u (calls_for text (file (attributes_of image i) (content image root size))) made_from goes after remembers

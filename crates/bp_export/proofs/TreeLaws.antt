@@ -1,5 +1,9 @@
 -- The whole of a tree, and the inodes of its paths.
-use Rattle.std.proofs.Common.{◌≡◌, ℕ, zero, suc, ◌*◌, ◌/◌, ◌<◌, ◌≤◌, List, [], flat_map, None, Some, refl, sym, ◌∙◌, ap, arith, append-nil}
+use Rattle.std.proofs.Common.{◌≡◌, ℕ, zero, suc, ◌*◌, ◌/◌, ◌<◌, ◌≤◌, List, [], ◌∷◌, ◌++◌, flat_map, None, Some, refl, sym, ◌∙◌, ap, subst, arith, append-nil}
+use Rattle.std.specs.Prelude.{All, Result, Ok, Err}
+use Rattle.std.specs.FinMap.{entries}
+use Rattle.bp_io.specs.Views.{SinkView}
+use Rattle.bp_io.specs.declared.faults.Failed.{Failed}
 use Rattle.bp_layout.specs.Inode.{IsDirectory, IsFile, attributes_of, inode_count, root_of, size_of}
 use Rattle.bp_layout.specs.Lookup.{lookup, node_of}
 use Rattle.bp_layout.specs.Paths.{Path}
@@ -13,14 +17,23 @@ use Rattle.bp_layout.proofs.FewLeaves.{few_inodes}
 use Rattle.bp_layout.proofs.Paths.{ByLast, LastStep, by_last, last_step}
 use Rattle.bp_layout.proofs.Paths.ByLast.{none, more}
 use Rattle.bp_layout.proofs.View.{lookup_from-reached}
-use Rattle.bp_plain.specs.Export.{HasShortPaths, IsExportable, IsOfBytes, calls_at, export_calls}
+use Rattle.bp_plain.specs.Calls.{Call}
+use Rattle.bp_plain.specs.Export.{HasShortPaths, IsExportable, IsOfBytes, calls_at, export_calls, root_text, sets_of}
+use Rattle.bp_plain.specs.Plain.{attributes_at, attributes_in}
 use Rattle.bp_plain.specs.PlainTree.{FileTree}
 use Rattle.bp_plain.specs.Stands.{Stands}
 use Rattle.bp_plain.proofs.Exportable.{image_exportable}
+use Rattle.bp_script.specs.Export.{FitsText}
 use Rattle.bp_script.proofs.ExportLines.{export_short}
+use Rattle.bp_export.specs.Exports.{Goes}
 use Rattle.bp_export.specs.Firsts.{first_text}
+use Rattle.bp_export.specs.Report.{Reports}
 use Rattle.bp_export.specs.Walking.{CanExport, WalkStandsAt, inside}
+use Rattle.bp_export.specs.declared.fault.Fault.{Fault}
+use Rattle.bp_export.specs.declared.fault.Fault.TheVariants.{Sink}
 use Rattle.bp_export.specs.declared.firsts.Firsts.{Firsts}
+use Rattle.bp_export.proofs.GoingLaws.{goes_before, goes_reported, goes_then, goes_unreported}
+use Rattle.bp_export.proofs.Prefixes.{all_prefix}
 use Rattle.bp_export.proofs.Places.{root_place, stands_at_root}
 
 -- ---- the inode that a path finds
@@ -63,8 +76,36 @@ module _ (image : Image) (tree : FileTree) (stands : Stands image tree) (short :
   pub can_export : CanExport image tree.now
   can_export = record { shows = stands.now; short = short; fits = export_short tree can.0 can.1 }
 
-  -- all but the root itself, which takes no call
-  pub all_calls : (counts : List ℕ) (firsts : Firsts) → ((i : ℕ) → first_text firsts i ≡ None) → flat_map (calls_at tree.now) (inside tree.now []) ≡ export_calls tree
-  all_calls counts firsts nothing =
-      let stands : WalkStandsAt image counts inside 1 [] firsts (root_place image tree.now can_export) = stands_at_root image tree.now can_export counts firsts nothing in
-      ap (flat_map (calls_at tree.now)) (sym (append-nil (inside tree.now []))) ∙ sym (ap (flat_map (calls_at tree.now)) stands.order)
+  -- the calls for the root set its attributes, and all other calls are for the entries below it
+  module _ (counts : List ℕ) (firsts : Firsts) (nothing : (i : ℕ) → first_text firsts i ≡ None) where
+    abbrev root_sets : List Call
+    root_sets = sets_of root_text (attributes_of image 1)
+
+    abbrev below : List Call
+    below = flat_map (calls_at tree.now) (inside tree.now [])
+
+    order : entries tree.now.nodes ≡ ([], dir (attributes_of image 1)) ∷ (inside tree.now [] ++ [])
+    order = let stands : WalkStandsAt image counts inside 1 [] firsts (root_place image tree.now can_export) = stands_at_root image tree.now can_export counts firsts nothing in stands.order
+
+    root_values : attributes_at tree.now.nodes [] ≡ attributes_of image 1
+    root_values = ap attributes_in (stands.now.shows [] ∙ ap Some (node_of-directory image 1 stands.now.well_formed.root_kind))
+
+    all_calls : root_sets ++ below ≡ export_calls tree
+    all_calls =
+        ap (λ values. sets_of root_text values ++ below) (sym root_values)
+        ∙ ap (λ es. sets_of root_text (attributes_at tree.now.nodes []) ++ flat_map (calls_at tree.now) es) (sym (append-nil (inside tree.now [])))
+        ∙ sym (ap (flat_map (calls_at tree.now)) order)
+
+    pub fits_root : All FitsText root_sets
+    fits_root = all_prefix FitsText root_sets below (subst (All FitsText) (sym all_calls) can_export.fits)
+
+    -- the lines of the root, before which nothing waits, and those below it
+    module _ (b : List ℕ) (none : b ≡ []) where
+      from_root : {T : Type 0} (r : Result T Fault) (a : List ℕ) (t u : SinkView) → Goes (root_sets ++ below) r b a t u → Goes (export_calls tree) r [] a t u
+      from_root r a t u goes = subst (λ (calls : List Call). Goes calls r [] a t u) all_calls (subst (λ (l : List ℕ). Goes (root_sets ++ below) r l a t u) none goes)
+
+      pub root_fails : (S T : Type 0) (failed : Failed) (e : Fault) → e ≡ Sink → (a : List ℕ) (t u : SinkView) → Reports {T = S} root_sets (Err failed) b a t u → Goes {T = T} (export_calls tree) (Err e) [] a t u
+      root_fails S T failed e is a t u reports = from_root {T = T} (Err e) a t u (goes_before T T e root_sets below b a t u (goes_unreported S T failed e is root_sets b a a t u reports))
+
+      pub root_then : {S T : Type 0} (v : S) (r : Result T Fault) (a c : List ℕ) (t u w : SinkView) → Reports root_sets (Ok v) b a t u → Goes below r a c u w → Goes (export_calls tree) r [] c t w
+      root_then v r a c t u w reports goes = from_root r c t w (goes_then v r root_sets below b a c t u w (goes_reported v v root_sets b a t u reports) goes)

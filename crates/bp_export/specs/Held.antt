@@ -1,25 +1,33 @@
 -- The output of a walk, in terms of its working memory: the current path, the waiting lines and the first paths.
 use Rattle.std.specs.Prelude.{ℕ, List, Result}
 use Rattle.bp_io.specs.Views.{SinkView}
+use Rattle.bp_layout.specs.Inode.{attributes_of}
 use Rattle.bp_layout.specs.Paths.{Node, Path}
+use Rattle.bp_layout.specs.Paths.Node.{dir, file}
 use Rattle.bp_layout.specs.Words.{Image}
 use Rattle.bp_plain.specs.Calls.{Call}
+use Rattle.bp_plain.specs.Export.{calls_for}
 use Rattle.bp_plain.specs.PlainTree.{PathMap}
 use Rattle.bp_replies.specs.Gathering.{waiting}
 use Rattle.bp_read.specs.declared.tree.Tree.{Tree}
-use Rattle.bp_export.specs.Report.{calls_to_make}
+use Rattle.bp_export.specs.Report.{content_in}
 use Rattle.bp_export.specs.Walking.{Place, Tours, WalkStandsAt, itself}
 use Rattle.bp_export.specs.declared.fault.Fault.{Fault}
 use Rattle.bp_export.specs.declared.work.Work.{Work}
-use Rattle.pm_region.specs.Memory.{Memory}
+use Rattle.pm_region.specs.Memory.{Memory, current_words}
 
 -- The lines that no sink has taken yet.
 abbrev pub held_lines : Work → List ℕ
 held_lines work = waiting work.replies
 
--- The calls that make the file with this tree at the current path.
-abbrev pub file_calls : Memory → Tree → Work → List Call
-file_calls memory tree work = calls_to_make work.path.items memory tree
+-- The calls that make file i, which has this tree, at the current path.
+abbrev pub file_calls : Memory → ℕ → Tree → Work → List Call
+file_calls memory i tree work =
+    calls_for work.path.items (file (attributes_of (current_words memory) i) (content_in memory tree))
+
+-- The calls that make directory i at the current path.
+abbrev pub directory_calls : Memory → ℕ → Work → List Call
+directory_calls memory i work = calls_for work.path.items (dir (attributes_of (current_words memory) i))
 
 -- The walk is at the place: its path finds inode i, and the next entries follow those written before.
 abbrev pub StandsHeld : Image → List ℕ → (PathMap → Path → List (Path × Node)) → ℕ → Work → Place → Type 0

@@ -3,13 +3,11 @@ use Rattle.std.specs.Prelude.{ℕ, ◌+◌, ◌*◌, min, List, [], ◌∷◌, �
 use Rattle.bp_io.specs.Causes.{HasCause}
 use Rattle.bp_io.specs.Views.{SinkView}
 use Rattle.bp_io.specs.declared.faults.Failed.{Failed}
-use Rattle.bp_layout.specs.Paths.{no_attributes}
-use Rattle.bp_layout.specs.Paths.Node.{file}
 use Rattle.bp_layout.specs.Tree.{content}
 use Rattle.bp_limits.specs.Limits.{block_size}
 use Rattle.bp_plain.specs.Calls.{Call}
-use Rattle.bp_plain.specs.Calls.Call.{truncate}
-use Rattle.bp_plain.specs.Export.{calls_for, is_zeros, stretch}
+use Rattle.bp_plain.specs.Calls.Call.{create, set_attribute, truncate}
+use Rattle.bp_plain.specs.Export.{is_zeros, size_call, stretch, writes_of}
 use Rattle.bp_replies.specs.Gathering.{PassesOn, waiting}
 use Rattle.bp_replies.specs.Taking.{TakesPart}
 use Rattle.bp_replies.specs.declared.replies.Replies.{Replies}
@@ -35,9 +33,10 @@ ReportsAmong calls result replies sink replies_now sink_now =
 abbrev pub content_in : Memory → Tree → List ℕ
 content_in memory tree = content (current_words memory) tree.root tree.size
 
--- The calls that make this file at the path with this text. They do not depend on its attributes.
+-- The calls that make this file at the path with this text, except those that set its attributes.
 abbrev pub calls_to_make : List ℕ → Memory → Tree → List Call
-calls_to_make text memory tree = calls_for text (file no_attributes (content_in memory tree))
+calls_to_make text memory tree =
+    create text ∷ writes_of text (content_in memory tree) ++ size_call text (content_in memory tree)
 
 -- The end of the write of a stretch, in a file of this size; none if the bytes of the stretch are zeros.
 abbrev pub write_end : List ℕ → ℕ → ℕ → Option ℕ
@@ -46,3 +45,9 @@ write_end bytes leaf size = if is_zeros (stretch bytes leaf) then None else Some
 -- The call that sets the size of a file, unless the last written stretch ends there.
 abbrev pub size_after : List ℕ → ℕ → ℕ → List Call
 size_after text noted size = if noted == size then [] else truncate text size ∷ []
+
+-- ---- attributes
+
+-- The call that gives an attribute this value, unless the value is 0.
+abbrev pub attribute_call : List ℕ → ℕ → ℕ → List Call
+attribute_call text number value = if value == 0 then [] else set_attribute text number value ∷ []

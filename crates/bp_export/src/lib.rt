@@ -4,6 +4,7 @@
 //! than a path is long.
 #![tactic(auto)]
 
+mod attributes;
 mod depth;
 mod entries;
 mod fault;

@@ -2,11 +2,12 @@
 
 ghost use Rattle.std.specs.Prelude.{◌*◌, ◌++◌, ◌≡◌, ◌≤◌, ◌∷◌, All, IfOk, OnOk, length};
 ghost use Rattle.bp_export.specs.Exports.{EndsExport, Goes};
-ghost use Rattle.bp_export.specs.Held.{StandsHeld, ToursHeld, ToursItself, file_calls, held_lines};
+ghost use Rattle.bp_export.specs.Held.{StandsHeld, ToursHeld, ToursItself, directory_calls, file_calls, held_lines};
 ghost use Rattle.bp_export.specs.Walking.{Place, inside, itself};
 ghost use Rattle.bp_layout.specs.Fields.{kind_word};
 ghost use Rattle.bp_layout.specs.Inode.{IsDirectory, IsFile, kind_of, root_of, size_of};
 ghost use Rattle.bp_layout.specs.Names.{AreCounts};
+ghost use Rattle.bp_layout.specs.Reached.{IsReached};
 ghost use Rattle.bp_layout.specs.Tree.{IsSound};
 ghost use Rattle.bp_layout.specs.WellFormed.{IsWellFormed};
 ghost use Rattle.bp_layout.specs.Whole.{IsFileSystem};
@@ -17,6 +18,7 @@ ghost use Rattle.bp_plain.specs.Stands.{Stands};
 ghost use Rattle.bp_script.specs.Export.{FitsText};
 ghost use Rattle.pm_region.specs.Memory.{words_in};
 
+use crate::attributes::export_attributes;
 use crate::depth::has_long_path;
 use crate::entries::Entries;
 use crate::fault::Fault;
@@ -41,20 +43,24 @@ fn go_down(path: &mut Vec<u8>, name: &[u8]) -> Result<(), AllocError>
     path.extend_from_slice(name)
 }
 
-/// Writes the lines that make the file with this tree at the current path.
+/// Writes the lines that make file `ino`, with this tree, at the current path.
 ///
 /// # Errors
 ///
 /// * `Sink`: the sink failed.
 fn export_new<R: Region, K: Sink>(
     region: &R,
+    ino: u32,
     tree: Tree,
     work: &mut Work,
     out: &mut K,
 ) -> Result<(), Fault>
+    requires well_formed { IsWellFormed (words_in R.memory region.now) }
+    requires reached { IsReached (words_in R.memory region.now) ino }
+    requires some { 1 ≤ ino }
     requires sound { IsSound (words_in R.memory region.now) tree.root tree.size }
-    requires short { All FitsText (file_calls (R.memory region.now) tree work.old) }
-    ensures goes { Goes (file_calls (R.memory region.now) tree work.old) result
+    requires short { All FitsText (file_calls (R.memory region.now) ino tree work.old) }
+    ensures goes { Goes (file_calls (R.memory region.now) ino tree work.old) result
         (held_lines work.old) (held_lines work.new) (K.view out.old) (K.view out.new) }
     ensures path { work.new.path.items ≡ work.old.path.items }
     ensures firsts { work.new.firsts ≡ work.old.firsts }
@@ -67,6 +73,32 @@ fn export_new<R: Region, K: Sink>(
         &mut work.replies,
         out,
     )?;
+    export_attributes(region, ino, &work.path, &mut work.replies, out)?;
+    Ok(())
+}
+
+/// Writes the lines that make directory `ino` at the current path.
+///
+/// # Errors
+///
+/// * `Sink`: the sink failed.
+fn export_directory<R: Region, K: Sink>(
+    region: &R,
+    ino: u32,
+    work: &mut Work,
+    out: &mut K,
+) -> Result<(), Fault>
+    requires well_formed { IsWellFormed (words_in R.memory region.now) }
+    requires reached { IsReached (words_in R.memory region.now) ino }
+    requires some { 1 ≤ ino }
+    requires short { All FitsText (directory_calls (R.memory region.now) ino work.old) }
+    ensures goes { Goes (directory_calls (R.memory region.now) ino work.old) result
+        (held_lines work.old) (held_lines work.new) (K.view out.old) (K.view out.new) }
+    ensures path { work.new.path.items ≡ work.old.path.items }
+    ensures firsts { work.new.firsts ≡ work.old.firsts }
+{
+    report(Call::Mkdir(&work.path), &mut work.replies, out)?;
+    export_attributes(region, ino, &work.path, &mut work.replies, out)?;
     Ok(())
 }
 
@@ -100,7 +132,7 @@ fn export_name<R: Region, K: Sink>(
     ensures path { work.new.path.items ≡ work.old.path.items }
 {
     if counts.names(ino) <= 1 {
-        return export_new(region, tree, work, out);
+        return export_new(region, ino, tree, work, out);
     }
     if let Some(first) = work.firsts.get(ino) {
         let call = Call::Link {
@@ -111,7 +143,7 @@ fn export_name<R: Region, K: Sink>(
         return Ok(());
     }
     work.firsts.add(alloc, ino, &work.path)?;
-    export_new(region, tree, work, out)
+    export_new(region, ino, tree, work, out)
 }
 
 /// Writes the lines of the file or directory at the current path, which finds inode `i`, and returns its kind.
@@ -141,7 +173,7 @@ fn export_entry<R: Region, K: Sink>(
     let inode = get(region, ino);
     match inode.kind {
         Kind::File => export_name(alloc, region, ino, Tree::of(&inode), counts, work, out)?,
-        Kind::Dir => report(Call::Mkdir(&work.path), &mut work.replies, out)?,
+        Kind::Dir => export_directory(region, ino, work, out)?,
     }
     Ok(inode.kind)
 }
@@ -208,6 +240,7 @@ pub fn export<R: Region, K: Sink>(
         return Err(Fault::Deep);
     }
     let mut work = Work::new(alloc)?;
+    export_attributes(region, ROOT_INO, b"/", &mut work.replies, out)?;
     export_below(alloc, region, ROOT_INO, counts, &mut work, out)?;
     work.replies.hand_over(out)?;
     Ok(())

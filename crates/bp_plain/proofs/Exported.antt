@@ -1,5 +1,5 @@
--- The calls of an export make the tree, if nothing in it has attributes.
-use Rattle.std.proofs.Common.{◌≡◌, ℕ, ◌&&◌, ◌||◌, Bool, true, false, cond, T, List, [], ◌∷◌, ◌++◌, find, Option, None, Some, is_some, flat_map, refl, sym, ◌∙◌, ap, ap₂, subst, true≢false, append_assoc, append-nil, Less}
+-- The calls of an export make the tree.
+use Rattle.std.proofs.Common.{◌≡◌, ℕ, ◌&&◌, ◌||◌, Bool, true, false, cond, T, List, [], ◌∷◌, ◌++◌, length, find, Option, None, Some, is_some, flat_map, refl, sym, ◌∙◌, ap, ap₂, subst, true≢false, append_assoc, append-nil, length-append, arith, Less}
 use Rattle.std.specs.Option.{unwrap_or}
 use Rattle.std.specs.Ordering.{eq_by_cmp, is_eq}
 use Rattle.std.specs.Cmp.{tied_itself}
@@ -7,15 +7,18 @@ use Rattle.std.specs.FinMap.{get, insert, entries, entries_sorted, get-empty, ge
 use Rattle.std.specs.FinMap as finite
 use Rattle.std.specs.FinMap.Entries.{below_all, is_sorted}
 use Rattle.std.specs.FinMap.Entries as entry
+use Rattle.std.specs.FinSet as set
 use Rattle.std.specs.FinSet.{contains-empty, contains-from_list, contains-insert, contains-union, same_set}
-use Rattle.bp_layout.specs.Paths.{same_path, Name, Path, Node, no_attributes, parse}
+use Rattle.bp_limits.specs.Limits.{attributes}
+use Rattle.bp_limits.specs.CallLimits.{allows_attributes}
+use Rattle.bp_layout.specs.Paths.{Attributes, same_path, Name, Path, Node, no_attributes, parse}
 use Rattle.bp_layout.specs.Paths.Node.{dir, file}
 use Rattle.bp_layout.proofs.Below.{same_path-is, same_path-self}
 use Rattle.bp_plain.specs.Calls.{Call}
-use Rattle.bp_plain.specs.Plain.{alone, attributes_in, bytes_in, linked, paths_of, pairs_with, with_name}
-use Rattle.bp_plain.specs.PlainTree.{Aliases, FileTree, IsPathMap, PathMap, empty_map, empty_tree, is_one, pair_cmp, path_cmp}
-use Rattle.bp_plain.specs.Export.{AllDone, HasNoAttributes, IsExportable, calls_at, export_calls, first_of, path_text, without_snapshot}
-use Rattle.bp_plain.proofs.ExportedNodes.{AllDone-append, link_goes, node_done, placed, stage}
+use Rattle.bp_plain.specs.Plain.{alone, attributes_at, attributes_in, bytes_in, linked, paths_of, pairs_with, with_name}
+use Rattle.bp_plain.specs.PlainTree.{Aliases, FileTree, IsPathMap, PathMap, empty_tree, is_one, pair_cmp, path_cmp}
+use Rattle.bp_plain.specs.Export.{AllDone, IsExportable, calls_at, export_calls, first_of, path_text, root_text, sets_of, without_snapshot}
+use Rattle.bp_plain.proofs.ExportedNodes.{AllDone-append, dir_put, dir_sets, link_goes, node_done, placed, stage}
 use Rattle.bp_plain.proofs.FirstPaths.{first_before, first_there, has, none_passes, none_there, paths}
 use Rattle.bp_plain.proofs.Kernels.{any_path, by_bools, pairs_of-any, paths_of-any, same_by_cmp, tie_paths}
 use Rattle.bp_plain.proofs.PathOrder.{pair_cmp-IsAntisymmetric, pair_cmp-IsTotalOrder, path_cmp-IsAntisymmetric, path_cmp-IsTotalOrder, same_path_from}
@@ -37,26 +40,33 @@ and_false : (a : Bool) → (a && false) ≡ false
 and_false true = refl
 and_false false = refl
 
--- nodes without attributes
-abbrev bare_dir : Node
-bare_dir = dir no_attributes
+-- the map with no entry
+abbrev nothing : PathMap
+nothing = record { nodes = finite.empty; one = set.empty }
 
-abbrev bare_file : List ℕ → Node
-bare_file content = file no_attributes content
+no_way : HasWay nothing.nodes []
+no_way p name rest cut = absurd (omega (arith, ap length cut, length-append p (name ∷ rest)))
 
-module _ (tree : FileTree) (can : IsExportable tree) (bare : HasNoAttributes tree.now) where
+module _ (tree : FileTree) (can : IsExportable tree) where
   abbrev now : PathMap
   now = tree.now
 
   is : IsPathMap now
   is = can.is_tree.now
 
-  -- what stands in the map has none
-  bare_at : (p : Path) (node : Node) → get now.nodes p ≡ Some node → attributes_in (Some node) ≡ no_attributes
-  bare_at p node at = sym (ap attributes_in at) ∙ bare p
+  -- the attributes of what stands at a path
+  many_at : (p : Path) (node : Node) → get now.nodes p ≡ Some node → length (attributes_in (Some node)) ≡ attributes
+  many_at p node at = sym (ap (λ found. length (attributes_in found)) at) ∙ can.attributed p
 
-  root_there : get now.nodes [] ≡ Some bare_dir
-  root_there = is.root.is ∙ ap (λ attributes. Some (dir attributes)) (bare_at [] (dir is.root.attributes) is.root.is)
+  early_at : (p : Path) (node : Node) → get now.nodes p ≡ Some node → allows_attributes tree.version ≡ false → attributes_in (Some node) ≡ no_attributes
+  early_at p node at early = sym (ap attributes_in at) ∙ can.early early p
+
+  abbrev root : Node
+  root = dir is.root.attributes
+
+  -- the map that has only the root directory, with its attributes
+  abbrev root_map : PathMap
+  root_map = dir_put nothing [] is.root.attributes
 
   abbrev one : Path → Path → Bool
   one p q = is_one now.one p q
@@ -68,13 +78,13 @@ module _ (tree : FileTree) (can : IsExportable tree) (bare : HasNoAttributes tre
   one_alike : (p q r : Path) → one p q ≡ true → one q r ≡ one p r
   one_alike p q r e = by_bools _ _ (λ f. is.chain p q r e f) (λ f. is.chain q p r (is.back p q e) f)
 
-  dir_alone : (p : Path) → get now.nodes p ≡ Some bare_dir → (q : Path) → one p q ≡ false
-  dir_alone p at q = go (one p q) refl
+  dir_alone : (p : Path) (values : Attributes) → get now.nodes p ≡ Some (dir values) → (q : Path) → one p q ≡ false
+  dir_alone p values at q = go (one p q) refl
     where
       go : (b : Bool) → one p q ≡ b → one p q ≡ false
       go true e =
           let both = is.files p q e in
-          let wrong : ◌≡◌ {A = Option Node} (Some bare_dir) (Some (file both.attributes both.bytes)) = sym at ∙ both.one in absurd (cc)
+          let wrong : ◌≡◌ {A = Option Node} (Some (dir values)) (Some (file both.attributes both.bytes)) = sym at ∙ both.one in absurd (cc)
       go false e = e
 
   -- the text of a path that is there spells it
@@ -86,15 +96,15 @@ module _ (tree : FileTree) (can : IsExportable tree) (bare : HasNoAttributes tre
     pub nodes : (q : Path) → get made.nodes q ≡ entry.find path_cmp q prefix
     pub pairs : (p q : Path) → is_one made.one p q ≡ (has p prefix && (has q prefix && one p q))
 
-  root_prefix : IsPrefix (([], bare_dir) ∷ []) empty_map
+  root_prefix : IsPrefix (([], root) ∷ []) root_map
   root_prefix = record {
-    nodes = λ q. get-insert path_cmp-IsTotalOrder finite.empty [] bare_dir q ∙ ap (cond (eq_by_cmp path_cmp q []) (Some bare_dir)) (get-empty path_cmp q);
+    nodes = λ q. get-insert path_cmp-IsTotalOrder finite.empty [] root q ∙ ap (cond (eq_by_cmp path_cmp q []) (Some root)) (get-empty path_cmp q);
     pairs = λ p q. contains-empty pair_cmp (p, q) ∙ sym (none p q (eq_by_cmp path_cmp p []) refl);
   }
     where
-      none : (p q : Path) (b : Bool) → eq_by_cmp path_cmp p [] ≡ b → (has p (([], bare_dir) ∷ []) && (has q (([], bare_dir) ∷ []) && one p q)) ≡ false
+      none : (p q : Path) (b : Bool) → eq_by_cmp path_cmp p [] ≡ b → (has p (([], root) ∷ []) && (has q (([], root) ∷ []) && one p q)) ≡ false
       none p q true at =
-          let alone : one p q ≡ false = ap (λ x. one x q) (same_path_from p [] at) ∙ dir_alone [] root_there q in
+          let alone : one p q ≡ false = ap (λ x. one x q) (same_path_from p [] at) ∙ dir_alone [] is.root.attributes is.root.is q in
           rw (at, alone) (and_false _)
       none p q false at = rw at refl
 
@@ -200,12 +210,12 @@ module _ (tree : FileTree) (can : IsExportable tree) (bare : HasNoAttributes tre
 
     -- ---- a directory
 
-    dir_pairs : node ≡ bare_dir → (p q : Path) → is_one made.one p q ≡ (has p longer && (has q longer && one p q))
-    dir_pairs is_dir = put_pairs made.one (made_left place ∙ sym (no place)) (λ q e. made_left q ∙ sym (none q (has q prefix) (no q)))
+    dir_pairs : (values : Attributes) → node ≡ dir values → (p q : Path) → is_one made.one p q ≡ (has p longer && (has q longer && one p q))
+    dir_pairs values is_dir = put_pairs made.one (made_left place ∙ sym (no place)) (λ q e. made_left q ∙ sym (none q (has q prefix) (no q)))
         (λ p e. made_right p ∙ sym (none_back p (has p prefix))) (λ p q e f. refl)
       where
         no : (q : Path) → one place q ≡ false
-        no q = dir_alone place (there ∙ ap Some is_dir) q
+        no q = dir_alone place values (there ∙ ap Some is_dir) q
 
         none : (q : Path) (b : Bool) → one place q ≡ false → (b && one place q) ≡ false
         none q b e = rw e (and_false b)
@@ -215,9 +225,9 @@ module _ (tree : FileTree) (can : IsExportable tree) (bare : HasNoAttributes tre
 
     -- ---- the first path of a file
 
-    module _ (content : List ℕ) (is_file : node ≡ bare_file content) where
+    module _ (values : Attributes) (content : List ℕ) (is_file : node ≡ file values content) where
       itself : one place place ≡ true
-      itself = is.itself place no_attributes content (there ∙ ap Some is_file)
+      itself = is.itself place values content (there ∙ ap Some is_file)
 
       alone_pairs : ((q : Path) → has q prefix ≡ true → one place q ≡ false) → (p q : Path) → is_one (alone made.one place) p q ≡ (has p longer && (has q longer && one p q))
       alone_pairs fresh = put_pairs (alone made.one place) (reported place place ∙ rw (same_path-self place) (sym itself)) left right neither
@@ -276,17 +286,17 @@ module _ (tree : FileTree) (can : IsExportable tree) (bare : HasNoAttributes tre
         first_less : path_cmp first place ≡ Less
         first_less = prefix_less first prefix (place, node) after sorted in_prefix
 
-        first_is : get now.nodes first ≡ Some (bare_file content)
+        first_is : get now.nodes first ≡ Some (file values content)
         first_is =
             let both = is.files place first same in
-            let same_file : ◌≡◌ {A = Option Node} (Some (file both.attributes both.bytes)) (Some (bare_file content)) = sym both.one ∙ there ∙ ap Some is_file in
+            let same_file : ◌≡◌ {A = Option Node} (Some (file both.attributes both.bytes)) (Some (file values content)) = sym both.one ∙ there ∙ ap Some is_file in
             both.other ∙ same_file
 
-        first_made : get made.nodes first ≡ Some (bare_file content)
+        first_made : get made.nodes first ≡ Some (file values content)
         first_made = as_map first first_less ∙ first_is
 
         first_way : HasWay made.nodes first
-        first_way = way_made first (bare_file content) first_is (λ p low. path_cmp-IsTotalOrder.trans p first place low first_less)
+        first_way = way_made first (file values content) first_is (λ p low. path_cmp-IsTotalOrder.trans p first place low first_less)
 
         name_prefix : IsPrefix longer (with_name made first place)
         name_prefix = record {
@@ -310,45 +320,46 @@ module _ (tree : FileTree) (can : IsExportable tree) (bare : HasNoAttributes tre
     own_goes : first_of now place ≡ place → IsPrefix longer (placed made place node) → Goes (calls_at now (place, node))
     own_goes own next = (
       placed made place node,
-      rw (own, same_path-self place) (node_done tree.version made name rest way_here spells made_left new node (λ attributes content is_file. can.sized place attributes content (there ∙ ap Some is_file))),
+      rw (own, same_path-self place) (node_done tree.version made name rest way_here spells made_left new node (λ values content is_file. can.sized place values content (there ∙ ap Some is_file))
+          (many_at place node there) (early_at place node there)),
       next,
     )
 
-    dir_goes : node ≡ bare_dir → Goes (calls_at now (place, node))
-    dir_goes is_dir =
-        own_goes (first_is_of None (none_passes (one place) (paths prefix) (λ q. dir_alone place (there ∙ ap Some is_dir) q)))
+    dir_goes : (values : Attributes) → node ≡ dir values → Goes (calls_at now (place, node))
+    dir_goes values is_dir =
+        own_goes (first_is_of None (none_passes (one place) (paths prefix) (λ q. dir_alone place values (there ∙ ap Some is_dir) q)))
         (subst (λ n. IsPrefix longer (placed made place n)) (sym is_dir) (record {
           nodes = λ q. ap (λ n. get (insert made.nodes place n) q) (sym is_dir) ∙ put_nodes q;
-          pairs = dir_pairs is_dir;
+          pairs = dir_pairs values is_dir;
         }))
 
-    file_goes : (content : List ℕ) → node ≡ bare_file content → Goes (calls_at now (place, node))
-    file_goes content is_file = go (find (one place) (paths prefix)) refl
+    file_goes : (values : Attributes) (content : List ℕ) → node ≡ file values content → Goes (calls_at now (place, node))
+    file_goes values content is_file = go (find (one place) (paths prefix)) refl
       where
         go : (o : Option Path) → find (one place) (paths prefix) ≡ o → Goes (calls_at now (place, node))
         go None none =
             own_goes (first_is_of None none)
             (subst (λ n. IsPrefix longer (placed made place n)) (sym is_file) (record {
               nodes = λ q. ap (λ n. get (insert made.nodes place n) q) (sym is_file) ∙ put_nodes q;
-              pairs = alone_pairs content is_file (none_there (one place) prefix none);
+              pairs = alone_pairs values content is_file (none_there (one place) prefix none);
             }))
         go (Some first) found = link_goes_on first (first_there (one place) prefix first found) (first_is_of (Some first) found)
           where
             link_goes_on : (first : Path) → (one place first ≡ true) × (has first prefix ≡ true) → first_of now place ≡ first → Goes (calls_at now (place, node))
             link_goes_on [] both is_first =
                 let files = is.files place [] both.0 in
-                let wrong : ◌≡◌ {A = Option Node} (Some bare_dir) (Some (file files.attributes files.bytes)) = sym root_there ∙ files.other in absurd (cc)
+                let wrong : ◌≡◌ {A = Option Node} (Some root) (Some (file files.attributes files.bytes)) = sym is.root.is ∙ files.other in absurd (cc)
             link_goes_on (other ∷ more) both is_first = (
               with_name made (other ∷ more) place,
               rw (is_first, apart) (
                 stage tree.version (with_name made (other ∷ more) place),
-                link_goes (stage tree.version made) (path_text (other ∷ more)) (other ∷ more) (spelled other more (bare_file content) (first_is content is_file (other ∷ more) both.1 both.0))
-                    (path_text place) place no_attributes content spells
-                    (walks made.nodes (other ∷ more) (bare_file content) (first_way content is_file (other ∷ more) both.1 both.0) (first_made content is_file (other ∷ more) both.1 both.0))
-                    (first_made content is_file (other ∷ more) both.1 both.0) refl (walks_parent made.nodes name rest way_here) new,
+                link_goes (stage tree.version made) (path_text (other ∷ more)) (other ∷ more) (spelled other more (file values content) (first_is values content is_file (other ∷ more) both.1 both.0))
+                    (path_text place) place values content spells
+                    (walks made.nodes (other ∷ more) (file values content) (first_way values content is_file (other ∷ more) both.1 both.0) (first_made values content is_file (other ∷ more) both.1 both.0))
+                    (first_made values content is_file (other ∷ more) both.1 both.0) refl (walks_parent made.nodes name rest way_here) new,
                 refl,
               ),
-              name_prefix content is_file (other ∷ more) both.1 both.0,
+              name_prefix values content is_file (other ∷ more) both.1 both.0,
             )
               where
                 apart : same_path (other ∷ more) place ≡ false
@@ -359,36 +370,44 @@ module _ (tree : FileTree) (can : IsExportable tree) (bare : HasNoAttributes tre
                     differs false e = e
 
     entry_goes : (n : Node) → node ≡ n → Goes (calls_at now (place, node))
-    entry_goes (dir attributes) e = dir_goes (e ∙ ap dir (bare_at place (dir attributes) (there ∙ ap Some e)))
-    entry_goes (file attributes content) e = file_goes content (e ∙ ap (λ own. file own content) (bare_at place (file attributes content) (there ∙ ap Some e)))
+    entry_goes (dir values) e = dir_goes values e
+    entry_goes (file values content) e = file_goes values content e
 
   -- ---- the entries from one on
 
-  rest_done : (before after : List Entry) (made : PathMap) → entries now.nodes ≡ (([], bare_dir) ∷ before) ++ after → IsPrefix (([], bare_dir) ∷ before) made
+  rest_done : (before after : List Entry) (made : PathMap) → entries now.nodes ≡ (([], root) ∷ before) ++ after → IsPrefix (([], root) ∷ before) made
       → AllDone (stage tree.version made) (flat_map (calls_at now) after) (without_snapshot tree)
   rest_done before [] made are so_far =
-      let all : ([], bare_dir) ∷ before ≡ entries now.nodes = sym (append-nil (([], bare_dir) ∷ before)) ∙ sym are in
+      let all : ([], root) ∷ before ≡ entries now.nodes = sym (append-nil (([], root) ∷ before)) ∙ sym are in
       ap (stage tree.version) (whole_prefix made (subst (λ es. IsPrefix es made) all so_far))
   rest_done before (([], node) ∷ after) made are so_far =
-      let none : ◌≡◌ {A = Option Node} (Some bare_dir) None = new_path (([], bare_dir) ∷ before) ([], node) after (subst (λ es. T (is_sorted path_cmp es)) are (entries_sorted now.nodes)) in
+      let none : ◌≡◌ {A = Option Node} (Some root) None = new_path (([], root) ∷ before) ([], node) after (subst (λ es. T (is_sorted path_cmp es)) are (entries_sorted now.nodes)) in
       absurd (true≢false (ap is_some none))
   rest_done before ((name ∷ rest, node) ∷ after) made are so_far =
-      let one_more = entry_goes (([], bare_dir) ∷ before) after name rest node are made so_far node refl in
+      let one_more = entry_goes (([], root) ∷ before) after name rest node are made so_far node refl in
       AllDone-append (stage tree.version made) (stage tree.version one_more.0) (without_snapshot tree) (calls_at now (name ∷ rest, node)) (flat_map (calls_at now) after) one_more.1
-      (rest_done (before ++ (name ∷ rest, node) ∷ []) after one_more.0 (are ∙ sym (append_assoc (([], bare_dir) ∷ before) ((name ∷ rest, node) ∷ []) after)) one_more.2)
+      (rest_done (before ++ (name ∷ rest, node) ∷ []) after one_more.0 (are ∙ sym (append_assoc (([], root) ∷ before) ((name ∷ rest, node) ∷ []) after)) one_more.2)
+
+  -- the root's attributes
+  root_done : AllDone (empty_tree tree.version) (sets_of root_text (attributes_at now.nodes [])) (stage tree.version root_map)
+  root_done =
+      subst (λ values. AllDone (empty_tree tree.version) (sets_of root_text values) (stage tree.version root_map)) (sym (ap attributes_in is.root.is))
+      (dir_sets tree.version nothing root_text [] refl no_way is.root.attributes (many_at [] root is.root.is) (early_at [] root is.root.is))
 
   pub export_done : AllDone (empty_tree tree.version) (export_calls tree) (without_snapshot tree)
-  export_done = go (entries now.nodes) refl (sym (get-entries now.nodes []) ∙ root_there)
+  export_done = go (entries now.nodes) refl (sym (get-entries now.nodes []) ∙ is.root.is)
     where
-      go : (es : List Entry) → entries now.nodes ≡ es → entry.find path_cmp [] (entries now.nodes) ≡ Some bare_dir → AllDone (empty_tree tree.version) (export_calls tree) (without_snapshot tree)
-      go [] are root = let none : ◌≡◌ {A = Option Node} None (Some bare_dir) = rw are at root in absurd (cc)
-      go (([], node) ∷ es) are root =
-          let same : ◌≡◌ {A = Option Node} (Some node) (Some bare_dir) = rw are at root in
-          let is_dir : node ≡ bare_dir = cc in
-          let cut : entries now.nodes ≡ ([], bare_dir) ∷ es = are ∙ ap (λ n. ([], n) ∷ es) is_dir in
-          subst (λ all. AllDone (empty_tree tree.version) (flat_map (calls_at now) all) (without_snapshot tree)) (sym cut) (rest_done [] es empty_map cut root_prefix)
-      go ((name ∷ rest, node) ∷ es) are root =
+      go : (es : List Entry) → entries now.nodes ≡ es → entry.find path_cmp [] (entries now.nodes) ≡ Some root → AllDone (empty_tree tree.version) (export_calls tree) (without_snapshot tree)
+      go [] are there = let none : ◌≡◌ {A = Option Node} None (Some root) = rw are at there in absurd (cc)
+      go (([], node) ∷ es) are there =
+          let same : ◌≡◌ {A = Option Node} (Some node) (Some root) = rw are at there in
+          let is_dir : node ≡ root = cc in
+          let cut : entries now.nodes ≡ ([], root) ∷ es = are ∙ ap (λ n. ([], n) ∷ es) is_dir in
+          subst (λ all. AllDone (empty_tree tree.version) (flat_map (calls_at now) all) (without_snapshot tree)) (sym cut)
+          (AllDone-append (empty_tree tree.version) (stage tree.version root_map) (without_snapshot tree) (calls_at now ([], root)) (flat_map (calls_at now) es) root_done
+          (rest_done [] es root_map cut root_prefix))
+      go ((name ∷ rest, node) ∷ es) are there =
           let sorted : T (is_sorted path_cmp ((name ∷ rest, node) ∷ es)) = subst (λ es. T (is_sorted path_cmp es)) are (entries_sorted now.nodes) in
-          let later : entry.find path_cmp [] es ≡ Some bare_dir = rw are at root in
-          let none : ◌≡◌ {A = Option Node} None (Some bare_dir) = sym (find_below [] es (below_further [] (name ∷ rest) es refl (left_holds _ _ sorted))) ∙ later in
+          let later : entry.find path_cmp [] es ≡ Some root = rw are at there in
+          let none : ◌≡◌ {A = Option Node} None (Some root) = sym (find_below [] es (below_further [] (name ∷ rest) es refl (left_holds _ _ sorted))) ∙ later in
           absurd (cc)

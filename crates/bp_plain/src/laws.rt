@@ -1,15 +1,13 @@
 //! Theorems on the abstract tree that an image represents.
 
 ghost use Rattle.bp_layout.specs.Format.{formatted};
-ghost use Rattle.bp_layout.specs.Formatted.{version_of};
-ghost use Rattle.bp_limits.specs.CallLimits.{allows_attributes};
 ghost use Rattle.bp_limits.specs.Limits.{max_blocks, min_blocks};
 ghost use Rattle.bp_layout.specs.Trees.{has_snapshot, snapshot_of};
 ghost use Rattle.bp_layout.specs.WellFormed.{IsWellFormed};
-ghost use Rattle.bp_plain.specs.Export.{AllDone, HasNoAttributes, HasShortPaths, IsExportable, IsOfBytes, IsWalked, export_calls, without_snapshot};
+ghost use Rattle.bp_plain.specs.Export.{AllDone, HasShortPaths, IsExportable, IsOfBytes, IsWalked, export_calls, without_snapshot};
 ghost use Rattle.bp_plain.specs.PlainTree.{FileTree, IsFileTree, PathMap, IsPathMap, empty_tree};
 ghost use Rattle.bp_plain.specs.Stands.{ShowsOne, Stands, StandsForOne};
-ghost use Rattle.std.specs.Prelude.{◌*◌, ◌≡◌, ◌≤◌, false, length, true};
+ghost use Rattle.std.specs.Prelude.{◌*◌, ◌≡◌, ◌≤◌, length, true};
 
 use bp_limits::Version;
 
@@ -40,9 +38,9 @@ pub fn format_is_empty(_image: &[u64], _version: Version, _blocks: u64)
 {}
 
 /// States that all calls of a tree's export succeed, applied one after the other to the empty tree of its version, and
-/// make that tree without its snapshot, if nothing in it has attributes: an export leaves them out.
+/// make that tree without its snapshot.
 pub fn exports_come_back()
-    ensures { (tree : FileTree) → IsExportable tree → HasNoAttributes tree.now →
+    ensures { (tree : FileTree) → IsExportable tree →
         AllDone (empty_tree tree.version) (export_calls tree) (without_snapshot tree) }
 {}
 
@@ -56,10 +54,4 @@ pub fn trees_are_walked()
 /// call.
 pub fn images_are_exportable(_image: &[u64])
     ensures { (tree : FileTree) → Stands _image.now tree → HasShortPaths tree → IsExportable tree × IsOfBytes tree }
-{}
-
-/// States that nothing in the tree of an image of version 1 or 2 has attributes.
-pub fn early_images_have_no_attributes(_image: &[u64])
-    requires { allows_attributes (version_of _image.now) ≡ false }
-    ensures { (tree : FileTree) → Stands _image.now tree → HasNoAttributes tree.now }
 {}

@@ -1,5 +1,5 @@
 -- Each line of an export is a call's.
-use Rattle.std.proofs.Common.{◌≡◌, ◌≢◌, cond, is_some, ◌⊎◌, ℕ, zero, suc, ◌+◌, ◌-◌, ◌*◌, ◌/◌, ◌<◌, ◌≤◌, ◌==◌, ◌&&◌, List, [], ◌∷◌, ◌++◌, length, flat_map, take, drop, Bool, true, false, not, codes, decimal, nat_lt, Option, None, Some, if◌then◌else◌, find, refl, sym, ◌∙◌, ap, ap₂, arith, length-append, length-take, append_assoc, true≢false, inl, inr}
+use Rattle.std.proofs.Common.{◌≡◌, ◌≢◌, cond, is_some, ◌⊎◌, ℕ, zero, suc, ◌+◌, ◌-◌, ◌*◌, ◌/◌, ◌^◌, ◌<◌, ◌≤◌, ◌==◌, ◌&&◌, List, [], ◌∷◌, ◌++◌, length, flat_map, slice_index, take, drop, Bool, true, false, not, codes, decimal, nat_lt, Option, None, Some, if◌then◌else◌, find, refl, subst, sym, ◌∙◌, ap, ap₂, arith, length-append, length-take, append_assoc, true≢false, inl, inr}
 use Rattle.std.specs.Option.{unwrap_or}
 use Rattle.std.specs.List.{All, AllByRecursion, list_all, range_with_len}
 use Rattle.std.specs.FinMap.{entries, get, keys}
@@ -11,15 +11,16 @@ use Rattle.std.proofs.lemmas.Fmt.{length-decimal-le}
 use Rattle.hex.specs.Hex.{lower_digits}
 use Rattle.hex.proofs.HexLemmas.{length-encode_with}
 use Rattle.percent_encoding.specs.Percent.{percent_encode_byte}
-use Rattle.bp_limits.specs.Limits.{block_size}
+use Rattle.bp_limits.specs.Limits.{attributes, block_size}
 use Rattle.bp_limits.specs.CallLimits.{greatest_size, max_path, max_size}
 use Rattle.bp_limits.specs.declared.version.Version.{Version}
 use Rattle.bp_limits.specs.declared.version.Version.TheVariants.{One, Two, Three}
 use Rattle.bp_layout.specs.Paths.{same_path, Attributes, Path, Node}
 use Rattle.bp_layout.specs.Paths.Node.{dir, file}
 use Rattle.bp_plain.specs.Calls.{Call}
-use Rattle.bp_plain.specs.Calls.Call.{create, link, mkdir, write, truncate}
-use Rattle.bp_plain.specs.Export.{IsExportable, IsOfBytes, are_bytes, calls_at, calls_for, export_calls, first_of, is_zeros, path_text, size_call, stretch, stretches, write_of, writes_of}
+use Rattle.bp_plain.specs.Calls.Call.{create, link, mkdir, set_attribute, write, truncate}
+use Rattle.bp_plain.specs.Export.{IsExportable, IsOfBytes, are_bytes, calls_at, calls_for, export_calls, first_of, is_zeros, path_text, root_text, set_of, sets_of, size_call, stretch, stretches, write_of, writes_of}
+use Rattle.bp_plain.specs.Plain.{attributes_at, attributes_in}
 use Rattle.bp_plain.specs.PlainTree.{FileTree, is_one}
 use Rattle.bp_plain.proofs.PathWays.{Entry, entry_there}
 use Rattle.bp_script.specs.Export.{AreRead, FitsLine, FitsText, IsOneLine, IsSpelled, IsWord, call_line, path_word}
@@ -94,8 +95,11 @@ record IsShort (text : List ℕ) : Type 0 where
 word_short : (text : List ℕ) → IsShort text → length (path_word text) ≤ 12288
 word_short text short = omega (arith, length-path_word text, short.few)
 
+value_short : (n : ℕ) → n < 2 ^ 64 → length (decimal n) ≤ 20
+value_short n low = length-decimal-le 20 n (omega arith) (omega (arith, low)) low
+
 number_short : (n : ℕ) → n ≤ max_size → length (decimal n) ≤ 20
-number_short n low = length-decimal-le 20 n (omega arith) (omega (arith, low)) (omega (arith, low))
+number_short n low = value_short n (omega (arith, low))
 
 link_said : (from to : List ℕ) → IsShort from → IsShort to → IsSaid (link from to)
 link_said from to one two = record { spelled = (one.word, two.word); line = omega (arith, few); text = omega (arith, few) }
@@ -156,6 +160,38 @@ module _ (text : List ℕ) (short : IsShort text) where
         block,
       )
 
+  set_attribute_said : (number value : ℕ) → number < attributes → value < 2 ^ 64 → IsSaid (set_attribute text number value)
+  set_attribute_said number value inside low = record { spelled = (short.word, inside, low); line = omega (arith, few); text = omega (arith, few) }
+    where
+      few : length (call_line (set_attribute text number value)) < 30000
+      few = omega (
+        arith,
+        length-append (codes "setattr " ++ w ++ codes " " ++ decimal number ++ codes " ") (decimal value),
+        length-append (codes "setattr " ++ w ++ codes " " ++ decimal number) (codes " "),
+        length-append (codes "setattr " ++ w ++ codes " ") (decimal number),
+        length-append (codes "setattr " ++ w) (codes " "),
+        length-append (codes "setattr ") w,
+        word_short text short,
+        number_short number (omega (arith, inside)),
+        value_short value low,
+      )
+
+  module _ (values : Attributes) (small : (k : ℕ) → slice_index values k < 2 ^ 64) where
+    set_said : (k : ℕ) → k < attributes → AllSaid (set_of text values k)
+    set_said k inside = go (slice_index values k == 0)
+      where
+        go : (b : Bool) → AllSaid (if b then [] else set_attribute text k (slice_index values k) ∷ [])
+        go true = tt
+        go false = (set_attribute_said k (slice_index values k) inside (small k), tt)
+
+    later_sets_said : (n k : ℕ) → k + n ≤ attributes → AllSaid (flat_map (set_of text values) (range_with_len k n))
+    later_sets_said zero k within = tt
+    later_sets_said (suc n) k within =
+        all_both (set_of text values k) (flat_map (set_of text values) (range_with_len (k + 1) n)) (set_said k (omega (arith, within))) (later_sets_said n (k + 1) (omega (arith, within)))
+
+    sets_said : AllSaid (sets_of text values)
+    sets_said = later_sets_said attributes 0 (omega arith)
+
   module _ (content : List ℕ) (fits : length content ≤ max_size) (bytes : are_bytes content ≡ true) where
     stretch_said : (k : ℕ) → block_size * k < length content → AllSaid (write_of text content k)
     stretch_said k low = go (is_zeros (stretch content k)) refl
@@ -196,9 +232,12 @@ module _ (text : List ℕ) (short : IsShort text) where
     file_said : AllSaid (writes_of text content ++ size_call text content)
     file_said = all_both (writes_of text content) (size_call text content) (stretches_said (stretches content) 0 count_low) size_said
 
-  node_said : (node : Node) → ((attributes : Attributes) (content : List ℕ) → node ≡ file attributes content → (length content ≤ max_size) × (are_bytes content ≡ true)) → AllSaid (calls_for text node)
-  node_said (dir attributes) has = (mkdir_said, tt)
-  node_said (file attributes content) has = let is = has attributes content refl in (create_said, file_said content is.0 is.1)
+  node_said : (node : Node) → ((k : ℕ) → slice_index (attributes_in (Some node)) k < 2 ^ 64)
+      → ((values : Attributes) (content : List ℕ) → node ≡ file values content → (length content ≤ max_size) × (are_bytes content ≡ true)) → AllSaid (calls_for text node)
+  node_said (dir values) small has = (mkdir_said, sets_said values small)
+  node_said (file values content) small has =
+      let is = has values content refl in
+      (create_said, all_both (writes_of text content ++ size_call text content) (sets_of text values) (file_said content is.0 is.1) (sets_said values small))
 
 -- ---- the calls of a tree
 
@@ -211,13 +250,16 @@ found_so p (y ∷ ys) x found = go (p y) refl found (found_so p ys x)
     go false passes found rest = rest found
 
 abbrev is_dir : Option Node → Bool
-is_dir (Some (dir attributes)) = true
+is_dir (Some (dir values)) = true
 is_dir other = false
 
 size_most : (version : Version) (n : ℕ) → n ≤ greatest_size version → n ≤ max_size
 size_most One n low = omega (arith, low)
 size_most Two n low = low
 size_most Three n low = low
+
+root_short : IsShort root_text
+root_short = record { word = record { some = omega arith; bytes = refl }; few = omega arith }
 
 module _ (tree : FileTree) (can : IsExportable tree) (of_bytes : IsOfBytes tree) where
   text_short : (path : Path) (node : Node) → get tree.now.nodes path ≡ Some node → path ≢ [] → IsShort (path_text path)
@@ -227,8 +269,8 @@ module _ (tree : FileTree) (can : IsExportable tree) (of_bytes : IsOfBytes tree)
     few = can.spelled (name ∷ path) node there;
   }
 
-  file_short : (path : Path) (attributes : Attributes) (content : List ℕ) → get tree.now.nodes path ≡ Some (file attributes content) → IsShort (path_text path)
-  file_short path attributes content there = text_short path (file attributes content) there other
+  file_short : (path : Path) (values : Attributes) (content : List ℕ) → get tree.now.nodes path ≡ Some (file values content) → IsShort (path_text path)
+  file_short path values content there = text_short path (file values content) there other
     where
       other : path ≢ []
       other root = true≢false (ap is_dir (sym can.is_tree.now.root.is ∙ ap (get tree.now.nodes) (sym root) ∙ there))
@@ -244,7 +286,7 @@ module _ (tree : FileTree) (can : IsExportable tree) (of_bytes : IsOfBytes tree)
           file_short first are.attributes are.bytes are.other
 
   entry_said : (path : Path) (node : Node) → get tree.now.nodes path ≡ Some node → AllSaid (calls_at tree.now (path, node))
-  entry_said [] node there = tt
+  entry_said [] node there = sets_said root_text root_short (attributes_at tree.now.nodes []) (of_bytes.attributes [])
   entry_said (name ∷ path) node there = go (same_path (first_of tree.now (name ∷ path)) (name ∷ path))
     where
       short : IsShort (path_text (name ∷ path))
@@ -253,9 +295,10 @@ module _ (tree : FileTree) (can : IsExportable tree) (of_bytes : IsOfBytes tree)
       go : (b : Bool) → AllSaid (if b then calls_for (path_text (name ∷ path)) node else link (path_text (first_of tree.now (name ∷ path))) (path_text (name ∷ path)) ∷ [])
       go true =
           node_said (path_text (name ∷ path)) short node
-          (λ attributes content is. (
-            size_most tree.version (length content) (can.sized (name ∷ path) attributes content (there ∙ ap Some is)),
-            of_bytes.contents (name ∷ path) attributes content (there ∙ ap Some is),
+          (λ k. subst (λ found. slice_index (attributes_in found) k < 2 ^ 64) there (of_bytes.attributes (name ∷ path) k))
+          (λ values content is. (
+            size_most tree.version (length content) (can.sized (name ∷ path) values content (there ∙ ap Some is)),
+            of_bytes.contents (name ∷ path) values content (there ∙ ap Some is),
           ))
       go false = (link_said (path_text (first_of tree.now (name ∷ path))) (path_text (name ∷ path)) (first_short (name ∷ path) short) short, tt)
 

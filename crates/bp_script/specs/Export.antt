@@ -4,7 +4,7 @@ use Rattle.std.specs.List.{list_all}
 use Rattle.percent_encoding.specs.Percent.{percent_encode_byte}
 use Rattle.bp_limits.specs.Limits.{attributes, max_line, max_read, max_text}
 use Rattle.bp_plain.specs.Calls.{Call}
-use Rattle.bp_plain.specs.Calls.Call.{create, mkdir, unlink, rmdir, list, stat, read, write, truncate, rename, link, links, upgrade, snap, unsnap, snap_list, snap_stat, snap_read, batch, attribute, set_attribute}
+use Rattle.bp_plain.specs.Calls.Call.{create, mkdir, unlink, rmdir, list, stat, read, write, truncate, rename, link, links, upgrade, upgrade_to_three, snap, unsnap, snap_list, snap_stat, snap_read, batch, attribute, set_attribute}
 use Rattle.bp_plain.specs.Export.{are_bytes, export_calls}
 use Rattle.bp_plain.specs.PlainTree.{FileTree}
 use Rattle.bp_script.specs.Commands.{command_of}
@@ -31,6 +31,7 @@ call_line (rename from to) = codes "rename " ++ path_word from ++ codes " " ++ p
 call_line (link from to) = codes "link " ++ path_word from ++ codes " " ++ path_word to
 call_line (links text) = codes "links " ++ path_word text
 call_line upgrade = codes "upgrade"
+call_line upgrade_to_three = codes "upgrade 3"
 call_line snap = codes "snap"
 call_line unsnap = codes "unsnap"
 call_line (snap_list text) = codes "slist " ++ path_word text
@@ -66,6 +67,7 @@ IsSpelled (rename from to) = IsWord from × IsWord to
 IsSpelled (link from to) = IsWord from × IsWord to
 IsSpelled (links text) = IsWord text
 IsSpelled upgrade = Unit {0}
+IsSpelled upgrade_to_three = Unit {0}
 IsSpelled snap = Unit {0}
 IsSpelled unsnap = Unit {0}
 IsSpelled (snap_list text) = IsWord text
@@ -86,6 +88,7 @@ FitsText (mkdir text) = length (call_line (mkdir text)) < max_text
 FitsText (write text offset new) = length (call_line (write text offset new)) < max_text
 FitsText (truncate text size) = length (call_line (truncate text size)) < max_text
 FitsText (link from to) = length (call_line (link from to)) < max_text
+FitsText (set_attribute text number value) = length (call_line (set_attribute text number value)) < max_text
 FitsText call = ⊥
 
 -- No byte of the line is a newline, byte 10.

@@ -3,7 +3,7 @@
 ghost use Rattle.bp_limits.specs.Limits.{max_text};
 ghost use Rattle.bp_plain.specs.Seen.{call_of};
 ghost use Rattle.bp_script.specs.Export.{FitsText, call_line, path_word};
-ghost use Rattle.bp_plain.specs.Calls.Call.{link, truncate, write};
+ghost use Rattle.bp_plain.specs.Calls.Call.{link, set_attribute, truncate, write};
 ghost use Rattle.bp_script.specs.Texts.{digits_or_dash};
 ghost use Rattle.std.specs.Prelude.{codes, decimal, drop, length, take, ◌+◌, ◌++◌, ◌≡◌, ◌<◌, ◌≤◌};
 
@@ -44,6 +44,11 @@ fn say_line(call: &Call<'_>, into: &mut [u8]) -> usize
         } => say_write(path, offset, bytes, into),
         Call::Truncate { path, size } => say_truncate(path, size, into),
         Call::Link { from, to } => say_link(from, to, into),
+        Call::SetAttribute {
+            path,
+            number,
+            value,
+        } => say_set_attribute(path, number, value, into),
         _ => unreachable!(),
     }
 }
@@ -77,6 +82,17 @@ fn say_link(from: &[u8], to: &[u8], into: &mut [u8]) -> usize
 {
     let end = say_verb(b"link ", from, into);
     put_second(into, end, to)
+}
+
+/// Writes the line that sets an attribute.
+fn say_set_attribute(path: &[u8], number: u64, value: u64, into: &mut [u8]) -> usize
+    requires { length (call_line (set_attribute path.now number value)) ≤ length into.old }
+    ensures text { into.new ≡ call_line (set_attribute path.now number value) ++ drop result into.old }
+    ensures end { result ≡ length (call_line (set_attribute path.now number value)) }
+{
+    let end = say_verb(b"setattr ", path, into);
+    let end = put_number(into, end, number);
+    put_number(into, end, value)
 }
 
 /// Writes a verb with the space after it, and the field of a path.

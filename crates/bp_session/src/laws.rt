@@ -4,7 +4,7 @@ ghost use Rattle.std.specs.Prelude.{◌≡◌, List, [], map};
 ghost use Rattle.bp_layout.specs.Bytes.{image_bytes};
 ghost use Rattle.bp_layout.specs.Words.{Image};
 ghost use Rattle.bp_session.specs.Files.{AreWordsOf64Bits};
-ghost use Rattle.bp_plain.specs.Export.{HasNoAttributes, IsExportable, IsOfBytes, export_calls};
+ghost use Rattle.bp_plain.specs.Export.{IsExportable, IsOfBytes, export_calls};
 ghost use Rattle.bp_plain.specs.PlainTree.{FileTree};
 ghost use Rattle.bp_script.specs.Commands.{Command};
 ghost use Rattle.bp_script.specs.Commands.Command.{file_call};
@@ -55,8 +55,8 @@ pub fn exports_ask_for_their_calls()
 {}
 
 /// Proves that a session over the script of an export, from an empty file system of the tree's version, ends in that
-/// tree without its snapshot, if nothing in the tree has attributes and no reply reports lack of space.
+/// tree without its snapshot, if no reply reports lack of space.
 pub fn exports_make_their_trees()
     ensures { (old new : State) (tree : FileTree) (replies : List LineReply) → IsExportable tree → IsOfBytes tree →
-        HasNoAttributes tree.now → ExportMakesTree tree old replies new }
+        ExportMakesTree tree old replies new }
 {}

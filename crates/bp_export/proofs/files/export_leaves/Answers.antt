@@ -5,7 +5,8 @@ use Rattle.bp_plain.specs.Export.{stretches, write_of}
 use Rattle.bp_script.specs.Export.{FitsText}
 use Rattle.pm_region.specs.Memory.{current_words}
 use Rattle.bp_export.specs.Report.{size_after}
-use Rattle.bp_export.proofs.FileLines.{ReportedTo, following, fits_at, passed_to, size_reported, reported_next, reported_none, written_to, written_whole, writes_until}
+use Rattle.bp_export.proofs.CallsInRow.{all_at}
+use Rattle.bp_export.proofs.FileLines.{ReportedTo, following, passed_to, size_reported, reported_next, reported_none, written_to, written_whole, writes_until}
 use Rattle.bp_export.proofs.ReportLaws.{fails_before, reports_as, reports_nothing, reports_same, reports_then}
 use Rattle.bp_export.proofs.TreeStretches.{length_content, live_stretch, zeros_before, zeros_from, zeros_left}
 use Rattle.bp_export.proofs.files.export_leaves.Goals as goal
@@ -18,7 +19,8 @@ loop-leaf-init g c =
 pub export_stretch-requires-clause-short : goal.export_stretch-requires-clause-short
 export_stretch-requires-clause-short g c =
     let image = current_words (g.R.Region.memory c.args.region.now) in
-    fits_at c.args.path.now (content image c.args.tree.root c.args.tree.size) FitsText c.in-Some.leaf (live_stretch image c.args.tree.root c.args.tree.size c.in-Some.leaf c.in-Some.ensures.some.live) c.requires.short
+    let bytes = content image c.args.tree.root c.args.tree.size in
+    all_at (write_of c.args.path.now bytes) FitsText c.in-Some.leaf (stretches bytes) (live_stretch image c.args.tree.root c.args.tree.size c.in-Some.leaf c.in-Some.ensures.some.live) c.requires.short
 
 pub returns-in_err-end-clause-lines : goal.returns-in_err-end-clause-lines
 returns-in_err-end-clause-lines g c =

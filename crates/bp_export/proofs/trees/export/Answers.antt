@@ -9,10 +9,10 @@ use Rattle.bp_plain.proofs.Existence.{stands_for, tree_of}
 use Rattle.bp_replies.specs.Gathering.{waiting}
 use Rattle.pm_region.specs.Memory.{current_words}
 use Rattle.bp_export.proofs.DepthLaws.{deep_where_long, short_if_none}
-use Rattle.bp_export.proofs.EndLaws.{ends_deep, ends_handed, ends_unhanded, ends_walk, from_root}
+use Rattle.bp_export.proofs.EndLaws.{ends_deep, ends_handed, ends_unhanded, ends_walk}
 use Rattle.bp_export.proofs.GoingLaws.{goes_nowhere}
 use Rattle.bp_export.proofs.Places.{root_place, stands_at_root}
-use Rattle.bp_export.proofs.TreeLaws.{all_calls, can_export}
+use Rattle.bp_export.proofs.TreeLaws.{can_export, fits_root, root_fails, root_then}
 use Rattle.bp_export.specs.Walking.{CanExport, WalkStandsAt, inside}
 use Rattle.bp_export.proofs.trees.export.Goals as goal
 
@@ -37,6 +37,33 @@ returns-in_err-work g c tree stands =
     rw p.1
     (ends_walk (Unit {0}) tree (g.K.Sink.view c.args.out.now) short (Unit {0}) p.0 [] (g.K.Sink.view c.args.out.now)
     (goes_nowhere (Unit {0}) p.0 p.2 (export_calls tree) [] (g.K.Sink.view c.args.out.now)))
+
+-- ---- the attributes of the root
+
+pub export_attributes-requires-clause-well_formed : goal.export_attributes-requires-clause-well_formed
+export_attributes-requires-clause-well_formed g c = c.requires.file_system.first
+
+pub export_attributes-requires-clause-reached : goal.export_attributes-requires-clause-reached
+export_attributes-requires-clause-reached g c = root_directory
+
+pub export_attributes-requires-clause-short : goal.export_attributes-requires-clause-short
+export_attributes-requires-clause-short g c =
+    let image = current_words (g.R.Region.memory c.args.region.now) in
+    let tree : FileTree = tree_of image c.requires.file_system.first c.requires.file_system.second in
+    let stands : Stands image tree = stands_for image c.requires.file_system.first c.requires.file_system.second in
+    let short : HasShortPaths tree = short_if_none image tree stands (λ has. true≢false (sym (c.has_long_path.ensures.1 has) ∙ c.if-has_long_path.false)) in
+    fits_root image tree stands short c.args.counts.now c.in_ok-work.work.firsts c.in_ok-work.ensures.firsts
+
+pub returns-in_err-export_attributes : goal.returns-in_err-export_attributes
+returns-in_err-export_attributes g c tree stands =
+    let p = err_from_is_err_and c.from_residual-in_err-export_attributes.result c.from_residual-in_err-export_attributes.ensures.1 in
+    let image = current_words (g.R.Region.memory c.args.region.now) in
+    let short : HasShortPaths tree = short_if_none image tree stands (λ has. true≢false (sym (c.has_long_path.ensures.1 has) ∙ c.if-has_long_path.false)) in
+    rw p.1
+    (ends_walk (Unit {0}) tree (g.K.Sink.view c.args.out.now) short (Unit {0}) p.0 (waiting c.export_attributes.new.replies) (g.K.Sink.view c.export_attributes.new.out)
+    (root_fails image tree stands short c.args.counts.now c.in_ok-work.work.firsts c.in_ok-work.ensures.firsts (waiting c.in_ok-work.work.replies) c.in_ok-work.ensures.waits (Unit {0}) (Unit {0}) _ p.0 p.2 _ _ _ c.in_err-export_attributes.ensures))
+
+-- ---- the lines below the root
 
 pub export_below-requires-clause-well_formed : goal.export_below-requires-clause-well_formed
 export_below-requires-clause-well_formed g c = c.requires.file_system.first
@@ -69,8 +96,7 @@ returns-in_err-export_below g c tree stands =
     rw c.in_ok-work.ensures.path (stands_at_root image tree.now can c.args.counts.now c.in_ok-work.work.firsts c.in_ok-work.ensures.firsts) in
     rw (p.1, p.2)
     (ends_walk (Unit {0}) tree (g.K.Sink.view c.args.out.now) short (Unit {0}) c.in_err-export_below.field-0.0 (waiting c.export_below.new.work.replies) (g.K.Sink.view c.export_below.new.out)
-    (from_root {T = Unit {0}} (Err c.in_err-export_below.field-0.0) tree _ (waiting c.in_ok-work.work.replies) (waiting c.export_below.new.work.replies) (g.K.Sink.view c.args.out.now) (g.K.Sink.view c.export_below.new.out)
-    (all_calls image tree stands short c.args.counts.now c.in_ok-work.work.firsts c.in_ok-work.ensures.firsts) c.in_ok-work.ensures.waits (c.in_err-export_below.ensures.tours (root_place image tree.now can) there).goes))
+    (root_then image tree stands short c.args.counts.now c.in_ok-work.work.firsts c.in_ok-work.ensures.firsts (waiting c.in_ok-work.work.replies) c.in_ok-work.ensures.waits {T = Unit {0}} _ (Err c.in_err-export_below.field-0.0) (waiting c.export_attributes.new.replies) (waiting c.export_below.new.work.replies) (g.K.Sink.view c.args.out.now) (g.K.Sink.view c.export_attributes.new.out) (g.K.Sink.view c.export_below.new.out) c.in_ok-export_attributes.ensures (c.in_err-export_below.ensures.tours (root_place image tree.now can) there).goes))
 
 pub returns-in_err-hand_over : goal.returns-in_err-hand_over
 returns-in_err-hand_over g c tree stands =
@@ -82,8 +108,7 @@ returns-in_err-hand_over g c tree stands =
     rw c.in_ok-work.ensures.path (stands_at_root image tree.now can c.args.counts.now c.in_ok-work.work.firsts c.in_ok-work.ensures.firsts) in
     rw p.1
     (ends_unhanded (Unit {0}) tree (g.K.Sink.view c.args.out.now) short c.in_ok-export_below.field-0 p.0 p.2 (waiting c.export_below.new.work.replies) (g.K.Sink.view c.export_below.new.out) (g.K.Sink.view c.hand_over.new.out)
-    (from_root {T = Unit {0}} (Ok c.in_ok-export_below.field-0) tree _ (waiting c.in_ok-work.work.replies) (waiting c.export_below.new.work.replies) (g.K.Sink.view c.args.out.now) (g.K.Sink.view c.export_below.new.out)
-    (all_calls image tree stands short c.args.counts.now c.in_ok-work.work.firsts c.in_ok-work.ensures.firsts) c.in_ok-work.ensures.waits (c.in_ok-export_below.ensures.tours (root_place image tree.now can) there).goes)
+    (root_then image tree stands short c.args.counts.now c.in_ok-work.work.firsts c.in_ok-work.ensures.firsts (waiting c.in_ok-work.work.replies) c.in_ok-work.ensures.waits {T = Unit {0}} _ (Ok c.in_ok-export_below.field-0) (waiting c.export_attributes.new.replies) (waiting c.export_below.new.work.replies) (g.K.Sink.view c.args.out.now) (g.K.Sink.view c.export_attributes.new.out) (g.K.Sink.view c.export_below.new.out) c.in_ok-export_attributes.ensures (c.in_ok-export_below.ensures.tours (root_place image tree.now can) there).goes)
     c.in_err-hand_over.ensures.some c.in_err-hand_over.ensures.cause.failed)
 
 pub returns : goal.returns
@@ -94,6 +119,5 @@ returns g c tree stands =
     let there : WalkStandsAt image c.args.counts.now inside 1 c.in_ok-work.work.path.items c.in_ok-work.work.firsts (root_place image tree.now can) =
     rw c.in_ok-work.ensures.path (stands_at_root image tree.now can c.args.counts.now c.in_ok-work.work.firsts c.in_ok-work.ensures.firsts) in
     ends_handed (Unit {0}) tree (g.K.Sink.view c.args.out.now) short c.in_ok-export_below.field-0 (tt {0}) (waiting c.export_below.new.work.replies) (g.K.Sink.view c.export_below.new.out) (g.K.Sink.view c.hand_over.new.out)
-    (from_root {T = Unit {0}} (Ok c.in_ok-export_below.field-0) tree _ (waiting c.in_ok-work.work.replies) (waiting c.export_below.new.work.replies) (g.K.Sink.view c.args.out.now) (g.K.Sink.view c.export_below.new.out)
-    (all_calls image tree stands short c.args.counts.now c.in_ok-work.work.firsts c.in_ok-work.ensures.firsts) c.in_ok-work.ensures.waits (c.in_ok-export_below.ensures.tours (root_place image tree.now can) there).goes)
+    (root_then image tree stands short c.args.counts.now c.in_ok-work.work.firsts c.in_ok-work.ensures.firsts (waiting c.in_ok-work.work.replies) c.in_ok-work.ensures.waits {T = Unit {0}} _ (Ok c.in_ok-export_below.field-0) (waiting c.export_attributes.new.replies) (waiting c.export_below.new.work.replies) (g.K.Sink.view c.args.out.now) (g.K.Sink.view c.export_attributes.new.out) (g.K.Sink.view c.export_below.new.out) c.in_ok-export_attributes.ensures (c.in_ok-export_below.ensures.tours (root_place image tree.now can) there).goes)
     c.in_ok-hand_over.ensures.all c.in_ok-hand_over.ensures.cause.same

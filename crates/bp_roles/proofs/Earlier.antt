@@ -29,7 +29,7 @@ stored_at-a : (i : ℕ) → stored_at OutsideA i ≡ i
 unfolding stored_at
 stored_at-a i = by_word (λ i. stored_at OutsideA i ≡ i) refl refl refl refl refl refl refl refl (λ i. refl) i
 
-swapped-same : (roles : Roles) → magic_of roles ≡ magic Three → (i value : ℕ) → swapped roles i value ≡ value
+pub swapped-same : (roles : Roles) → magic_of roles ≡ magic Three → (i value : ℕ) → swapped roles i value ≡ value
 swapped-same roles three zero value = swapped-first roles value ∙ ap (λ number. exchanged number (magic Three) value) three ∙ exchanged-none (magic Three) value
 swapped-same roles three (suc i) value = swapped-past roles (suc i) value (omega arith)
 

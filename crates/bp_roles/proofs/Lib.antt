@@ -12,3 +12,4 @@ pub mod Spare
 pub mod Ordinary
 pub mod Short
 pub mod Unseen
+pub mod StoredLaws

@@ -1,11 +1,12 @@
 -- The seen memory determines the roles and the memory below, and the events that were added to its log.
-use Rattle.std.proofs.Common.{◌≡◌, ℕ, zero, suc, ◌+◌, ◌*◌, ◌<◌, ◌≤◌, List, [], ◌∷◌, ◌++◌, length, get_or, refl, sym, ◌∙◌, ap, subst, arith}
+use Rattle.std.proofs.Common.{◌≡◌, ℕ, ◌+◌, ◌*◌, ◌<◌, ◌≤◌, List, [], ◌∷◌, ◌++◌, length, get_or, refl, sym, ◌∙◌, ap, subst, arith}
 use Rattle.std.proofs.lemmas.List.{ext_get_or, map-append}
 use Rattle.pm_epochs.specs.declared.event.Event.{Event}
 use Rattle.pm_epochs.specs.declared.event.Event.TheVariants.{Store, Barrier, CallEnd}
 use Rattle.pm_region.specs.Memory.{Memory, Adds}
 use Rattle.bp_roles.specs.Roles.{number_of, seen_at, swapped}
 use Rattle.bp_roles.specs.Seen.{IsWide, MemoryByRoles, raw_event, raw_events, seen, seen_event, seen_events, seen_memory, seen_words}
+use Rattle.bp_roles.specs.Stored.{roles_numbered}
 use Rattle.bp_roles.specs.declared.roles.Roles.{Roles}
 use Rattle.bp_roles.specs.declared.roles.Roles.TheVariants.{Earlier, OutsideA, OutsideB, InsideA, InsideB}
 use Rattle.bp_roles.proofs.PlaceLaws.{stored_at-seen_at, seen_at-stored_at}
@@ -14,7 +15,7 @@ use Rattle.bp_roles.proofs.SeenLaws.{length-seen, seen-word}
 
 -- ## Words
 
-word_told : (roles : Roles) (words : List ℕ) (i : ℕ) → 8 ≤ length words → get_or words i 0 ≡ swapped roles (seen_at roles i) (get_or (seen_words roles words) (seen_at roles i) 0)
+pub word_told : (roles : Roles) (words : List ℕ) (i : ℕ) → 8 ≤ length words → get_or words i 0 ≡ swapped roles (seen_at roles i) (get_or (seen_words roles words) (seen_at roles i) 0)
 word_told roles words i wide =
     sym (ap (swapped roles (seen_at roles i)) (seen-word roles words (seen_at roles i) wide ∙ ap (λ p. swapped roles (seen_at roles i) (get_or words p 0)) (stored_at-seen_at roles i))
     ∙ swapped-twice roles (seen_at roles i) (get_or words i 0))
@@ -37,7 +38,7 @@ seen_raw roles (Store word value) =
 seen_raw roles Barrier = refl
 seen_raw roles CallEnd = refl
 
-all_raw_seen : (roles : Roles) (events : List Event) → raw_events roles (seen_events roles events) ≡ events
+pub all_raw_seen : (roles : Roles) (events : List Event) → raw_events roles (seen_events roles events) ≡ events
 all_raw_seen roles [] = refl
 all_raw_seen roles (event ∷ events) = ap (λ e. e ∷ raw_events roles (seen_events roles events)) (raw_seen roles event) ∙ ap (λ es. event ∷ es) (all_raw_seen roles events)
 
@@ -47,23 +48,15 @@ all_seen_raw roles (event ∷ events) = ap (λ e. e ∷ seen_events roles (raw_e
 
 -- ## Roles
 
-number_low : (roles : Roles) → number_of roles < 5
+pub number_low : (roles : Roles) → number_of roles < 5
 number_low Earlier = omega arith
 number_low OutsideA = omega arith
 number_low OutsideB = omega arith
 number_low InsideA = omega arith
 number_low InsideB = omega arith
 
--- the roles with a number
-numbered : ℕ → Roles
-numbered zero = Earlier
-numbered (suc zero) = OutsideA
-numbered (suc (suc zero)) = OutsideB
-numbered (suc (suc (suc zero))) = InsideA
-numbered (suc (suc (suc (suc n)))) = InsideB
-
-numbered_number : (roles : Roles) → numbered (number_of roles) ≡ roles
-unfolding numbered
+pub numbered_number : (roles : Roles) → roles_numbered (number_of roles) ≡ roles
+unfolding roles_numbered
 numbered_number Earlier = refl
 numbered_number OutsideA = refl
 numbered_number OutsideB = refl
@@ -76,7 +69,7 @@ roles_told : (one two : MemoryByRoles) → seen one ≡ seen two → one.roles �
 roles_told one two same =
     let through : 5 * one.memory.through + number_of one.roles ≡ 5 * two.memory.through + number_of two.roles = ap (λ (m : Memory). m.through) same in
     let number : number_of one.roles ≡ number_of two.roles = omega (arith, through, number_low one.roles, number_low two.roles) in
-    sym (numbered_number one.roles) ∙ ap numbered number ∙ numbered_number two.roles
+    sym (numbered_number one.roles) ∙ ap roles_numbered number ∙ numbered_number two.roles
 
 memory_told : (roles : Roles) (one two : Memory) → IsWide one → IsWide two → seen_memory roles one ≡ seen_memory roles two → one ≡ two
 memory_told roles one two wide other same =

@@ -1,4 +1,5 @@
 pub mod Roles
 pub mod Seen
+pub mod Stored
 pub mod Transaction
 pub mod TransactionLaws

@@ -9,13 +9,14 @@ ghost use Rattle.bp_layout.specs.Whole.{SameFiles};
 ghost use Rattle.bp_layout.specs.Words.{Image};
 ghost use Rattle.bp_changes.specs.Performs.{IsShort};
 ghost use Rattle.bp_roles.specs.Seen.{IsWide, MemoryByRoles, raw_events, seen};
+ghost use Rattle.bp_roles.specs.Stored.{stored_base, stored_events, stored_words};
 ghost use Rattle.bp_roles.specs.Transaction.{AvoidsSnapshot, BeginsInside, IsOneStore, SameDurable, by_roles};
 ghost use Rattle.bp_roles.specs.TransactionLaws.{AddsSeen, Begins, CallsInside, HasOnlyFiles, HasSnapshotInside, HasTreeInside, IsEarlier};
 ghost use Rattle.bp_roles.specs.TransactionLaws.{IsRightOutside, IsVersionThree, MayCommit};
 ghost use Rattle.bp_roles.specs.TransactionLaws.{StoresToSpare, committed, seen_inside, seen_outside, snapshot_inside};
 ghost use Rattle.pm_epochs.specs.declared.event.Event.{Event};
 ghost use Rattle.pm_epochs.specs.Crash.{CrashRight, IsQuiet};
-ghost use Rattle.pm_region.specs.Memory.{Adds, Memory};
+ghost use Rattle.pm_region.specs.Memory.{Adds, Memory, current_words};
 ghost use Rattle.pm_region.specs.Safe.{IsSafe};
 
 /// States that the two stores that begin a transaction act as a snapshot does: the image seen inside then has the files
@@ -55,6 +56,16 @@ pub fn what_is_seen_determines_the_region()
     ensures roles { (old new : MemoryByRoles) (more : List Event) → AddsSeen old new more → new.roles ≡ old.roles }
     ensures adds { (old new : MemoryByRoles) (more : List Event) → AddsSeen old new more →
         Adds old.memory new.memory (raw_events old.roles more) }
+{}
+
+/// States that the memory that is seen says what is stored: the words of the region below, now and at the last drain,
+/// and its log. For a region's own memory the words are its words.
+pub fn what_is_seen_says_what_is_stored()
+    ensures now { (it : MemoryByRoles) → IsWide it.memory → stored_words (seen it) ≡ current_words it.memory }
+    ensures base { (it : MemoryByRoles) → IsWide it.memory → stored_base (seen it) ≡ it.memory.base }
+    ensures events { (it : MemoryByRoles) → stored_events (seen it) ≡ it.memory.events }
+    ensures own { (memory : Memory) → memory.through ≡ 0 → stored_words memory ≡ current_words memory }
+    ensures own_base { (memory : Memory) → memory.through ≡ 0 → stored_base memory ≡ memory.base }
 {}
 
 /// States that images of versions 1 and 2 are seen as they are, and so are images of version 3 under the magic number

@@ -3,8 +3,9 @@
 #![tactic(auto)]
 
 pub mod laws;
+mod places;
 pub mod region;
 pub mod roles;
 
 pub use region::RegionByRoles;
-pub use roles::Roles;
+pub use roles::{Roles, roles_by_magic};

@@ -1,11 +1,13 @@
 //! A region that is seen by roles.
 
 ghost use Rattle.std.specs.Prelude.{◌≡◌, ◌+◌, ◌<◌, ◌≤◌, [], ◌∷◌, length, slice_index};
-ghost use Rattle.bp_roles.specs.Seen.{is_of_head, seen};
+ghost use Rattle.bp_roles.specs.Seen.{seen};
 ghost use Rattle.pm_epochs.specs.declared.event.Event.TheVariants.{Store};
 ghost use Rattle.pm_region.specs.Memory.{Adds, current_words, room_in, stores_from};
 
+use crate::places::{Places, is_of_head};
 use crate::roles::Roles;
+use bp_limits::SUPER_MAGIC;
 use pm_epochs::{BadChoice, Choice, Event, EventKind, Kept};
 use pm_region::{HEAD_WORDS, Region, Row};
 use std::marker::Model;
@@ -15,7 +17,7 @@ use std::marker::Model;
 #[derive(Drop)]
 pub struct RegionByRoles<R: Region> {
     region: R,
-    roles: Roles,
+    places: Places,
 }
 
 impl<R: Region> Model for RegionByRoles<R> {
@@ -23,7 +25,7 @@ impl<R: Region> Model for RegionByRoles<R> {
 
     ghost Value = { MemoryByRoles };
 
-    ghost view = { λ it. record { roles = it.roles; memory = R.memory it.region } };
+    ghost view = { λ it. record { roles = it.places; memory = R.memory it.region } };
 
     ghost invariant = { λ it. IsWide (R.memory it.region) };
 }
@@ -36,21 +38,24 @@ impl<R: Region> RegionByRoles<R> {
         requires { IsWide (R.memory region) }
         ensures { result ≡ record { roles = roles; memory = R.memory region } }
     {
-        RegionByRoles { region, roles }
+        RegionByRoles {
+            region,
+            places: Places::of(roles),
+        }
     }
 
     /// Returns the roles by which the region is seen.
     pub fn roles(&self) -> Roles
         ensures { result ≡ self.now.roles }
     {
-        self.roles
+        self.places.roles()
     }
 
     /// Sets the roles by which the region is seen from now on. Nothing is stored.
     pub fn set_roles(&mut self, roles: Roles)
         ensures { self.new ≡ record self.old { roles = roles } }
     {
-        self.roles = roles;
+        self.places = Places::of(roles);
     }
 
     /// Returns the region below, with its words and its log as they are stored.
@@ -68,12 +73,17 @@ impl<R: Region> RegionByRoles<R> {
     }
 
     /// Returns one of the first words as the processor sees it.
+    #[inline(always)]
     fn load_head(&self, word: u64) -> u64
         requires { word < length (seen self.now).base }
         ensures { result ≡ slice_index (current_words (seen self.now)) word }
     {
-        self.roles
-            .swapped(word, self.region.load(self.roles.stored_at(word)))
+        let stored = self.places.stored_at(word);
+        if word == SUPER_MAGIC {
+            self.places.swapped(word, self.region.load(stored))
+        } else {
+            self.region.load(stored)
+        }
     }
 
     /// Sets words one by one, some of which may be of the first words.
@@ -89,12 +99,16 @@ impl<R: Region> RegionByRoles<R> {
     }
 
     /// Sets one of the first words.
+    #[inline(always)]
     fn store_head(&mut self, word: u64, value: u64)
         requires in_range { word < length (seen self.old).base }
         requires room { 0 < room_in (seen self.old) }
         ensures { Adds (seen self.old) (seen self.new) (Store word value ∷ []) }
     {
-        self.region.store(self.roles.stored_at(word), self.roles.swapped(word, value));
+        self.region.store(
+            self.places.stored_at(word),
+            self.places.swapped(word, value),
+        );
     }
 }
 
@@ -105,6 +119,7 @@ impl<R: Region> Region for RegionByRoles<R> {
         self.region.words()
     }
 
+    #[inline(always)]
     fn load(&self, word: u64) -> u64 {
         if word < HEAD_WORDS {
             self.load_head(word)
@@ -113,10 +128,12 @@ impl<R: Region> Region for RegionByRoles<R> {
         }
     }
 
+    #[inline(always)]
     fn load_words(&self, first: u64, count: usize) -> &[u64] {
         self.region.load_words(first, count)
     }
 
+    #[inline(always)]
     fn store(&mut self, word: u64, value: u64) {
         if word < HEAD_WORDS {
             self.store_head(word, value);
@@ -125,6 +142,7 @@ impl<R: Region> Region for RegionByRoles<R> {
         }
     }
 
+    #[inline(always)]
     fn store_words(&mut self, first: u64, values: &[u64]) {
         if first < HEAD_WORDS {
             self.store_each(first, values);
@@ -154,18 +172,18 @@ impl<R: Region> Region for RegionByRoles<R> {
     }
 
     fn kind(&self, i: usize) -> EventKind {
-        self.roles.seen_kind(self.region.kind(i))
+        self.places.seen_kind(self.region.kind(i))
     }
 
     fn word_at(&self, moment: usize, word: u64) -> u64 {
-        self.roles.swapped(
+        self.places.swapped(
             word,
-            self.region.word_at(moment, self.roles.stored_at(word)),
+            self.region.word_at(moment, self.places.stored_at(word)),
         )
     }
 
     fn event(&self, i: usize) -> Event {
-        self.roles.seen_event(self.region.event(i))
+        self.places.seen_event(self.region.event(i))
     }
 
     /// Returns one event for a store to the first words, since the next store may be seen at another place than next to
@@ -173,7 +191,7 @@ impl<R: Region> Region for RegionByRoles<R> {
     fn row(&self, first: usize) -> Row {
         let Row { kind, len } = self.region.row(first);
         Row {
-            kind: self.roles.seen_kind(kind),
+            kind: self.places.seen_kind(kind),
             len: if is_of_head(kind) { 1 } else { len },
         }
     }
@@ -187,23 +205,11 @@ impl<R: Region> Region for RegionByRoles<R> {
     }
 
     fn base_word(&self, word: u64) -> u64 {
-        self.roles
-            .swapped(word, self.region.base_word(self.roles.stored_at(word)))
+        self.places
+            .swapped(word, self.region.base_word(self.places.stored_at(word)))
     }
 
     fn crash_to(&mut self, choice: &Choice) -> Result<Kept, BadChoice> {
         self.region.crash_to(choice)
-    }
-}
-
-/// Returns whether an event of this kind is a store to one of the first words, which may be seen at another place than
-/// the one where it is stored.
-fn is_of_head(kind: EventKind) -> bool
-    ensures { result ≡ is_of_head kind }
-{
-    match kind {
-        EventKind::Store(word) => word < HEAD_WORDS,
-        EventKind::Barrier => false,
-        EventKind::CallEnd => false,
     }
 }

@@ -1,12 +1,16 @@
 //! The roles of the slots of the superblock.
 
-ghost use Rattle.std.specs.Prelude.{◌≡◌};
+ghost use Rattle.std.specs.Prelude.{◌≡◌, ◌<◌, length};
+ghost use Rattle.bp_layout.specs.Words.{word};
+ghost use Rattle.bp_limits.specs.Limits.{super_magic};
 ghost use Rattle.bp_roles.specs.Seen.{seen_event, seen_kind};
-ghost use Rattle.bp_roles.specs.Roles.{magic_of, seen_at, seen_places, stored_at, stored_places, swapped};
+ghost use Rattle.bp_roles.specs.Roles.{exchanged, magic_of, seen_at, seen_places, stored_at, stored_places, swapped};
+ghost use Rattle.bp_roles.specs.Transaction.{roles_of};
+ghost use Rattle.pm_region.specs.Memory.{words_in};
 
 use bp_limits::{SUPER_MAGIC, Version};
 use pm_epochs::{Event, EventKind};
-use pm_region::HEAD_WORDS;
+use pm_region::{HEAD_WORDS, Region};
 
 /// Which slot of the superblock has which role. A slot is the root word and, next to it, the size in bytes of an inode
 /// file: words 2 and 3, 4 and 5, or 6 and 7.
@@ -43,8 +47,21 @@ impl Roles {
         }
     }
 
+    /// Returns the roles outside a transaction under this magic number; `Earlier` if it is not one of version 3.
+    pub fn of(magic: u64) -> Roles
+        ensures { result ≡ roles_of magic }
+    {
+        if magic == Roles::OutsideA.magic() {
+            Roles::OutsideA
+        } else if magic == Roles::OutsideB.magic() {
+            Roles::OutsideB
+        } else {
+            Roles::Earlier
+        }
+    }
+
     /// Returns the places where the first words are stored, in the order in which they are seen.
-    fn stored_places(self) -> [u64; 8]
+    pub(crate) fn stored_places(self) -> [u64; 8]
         ensures { result ≡ stored_places self }
     {
         match self {
@@ -56,7 +73,7 @@ impl Roles {
     }
 
     /// Returns the places at which the first words are seen, in the order in which they are stored.
-    fn seen_places(self) -> [u64; 8]
+    pub(crate) fn seen_places(self) -> [u64; 8]
         ensures { result ≡ seen_places self }
     {
         match self {
@@ -95,13 +112,8 @@ impl Roles {
     pub fn swapped(self, word: u64, value: u64) -> u64
         ensures { result ≡ swapped self word value }
     {
-        if word != SUPER_MAGIC {
-            return value;
-        }
-        if value == self.magic() {
-            Version::Three.magic()
-        } else if value == Version::Three.magic() {
-            self.magic()
+        if word == SUPER_MAGIC {
+            exchanged(self.magic(), Version::Three.magic(), value)
         } else {
             value
         }
@@ -134,4 +146,26 @@ impl Roles {
             EventKind::CallEnd => EventKind::CallEnd,
         }
     }
+}
+
+/// Returns one of two values in place of the other, and any other value as it is.
+#[inline(always)]
+pub(crate) fn exchanged(one: u64, other: u64, value: u64) -> u64
+    ensures { result ≡ exchanged one other value }
+{
+    if value == one {
+        other
+    } else if value == other {
+        one
+    } else {
+        value
+    }
+}
+
+/// Returns the roles outside a transaction by the magic number of a region: those by which its files are seen.
+pub fn roles_by_magic<R: Region>(region: &R) -> Roles
+    requires { 0 < length (R.memory region.now).base }
+    ensures { result ≡ roles_of (word (words_in R.memory region.now) super_magic) }
+{
+    Roles::of(region.load(SUPER_MAGIC))
 }

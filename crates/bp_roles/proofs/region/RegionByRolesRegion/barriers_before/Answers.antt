@@ -9,5 +9,5 @@ pub returns : goal.returns
 returns g c =
     subst (λ (r : MemoryByRoles). c.barriers_before.result ≡ barriers (take c.args.moment (seen r).events)) c.self.view_is
     (c.barriers_before.ensures
-    ∙ sym (seen-barriers c.self.inside.roles (take c.args.moment (g.R.Region.memory c.self.inside.region).events))
-    ∙ ap barriers (sym (take-map (seen_event c.self.inside.roles) c.args.moment (g.R.Region.memory c.self.inside.region).events)))
+    ∙ sym (seen-barriers c.self.inside.places (take c.args.moment (g.R.Region.memory c.self.inside.region).events))
+    ∙ ap barriers (sym (take-map (seen_event c.self.inside.places) c.args.moment (g.R.Region.memory c.self.inside.region).events)))

@@ -10,5 +10,5 @@ invariant_of-self g c = subst IsWide (sym c.drain.ensures) (wide-drained (g.R.Re
 pub returns : goal.returns
 returns g c =
     let old = g.R.Region.memory c.self.inside.region in
-    subst (λ (r : MemoryByRoles). seen_memory c.self.inside.roles (g.R.Region.memory c.drain.new.self) ≡ drained (seen r)) c.self.view_is
-    (ap (seen_memory c.self.inside.roles) c.drain.ensures ∙ seen-drained c.self.inside.roles (g.R.Region.memory c.self.inside.region) c.self.invariant)
+    subst (λ (r : MemoryByRoles). seen_memory c.self.inside.places (g.R.Region.memory c.drain.new.self) ≡ drained (seen r)) c.self.view_is
+    (ap (seen_memory c.self.inside.places) c.drain.ensures ∙ seen-drained c.self.inside.places (g.R.Region.memory c.self.inside.region) c.self.invariant)

@@ -3,9 +3,9 @@ use Rattle.bp_roles.proofs.RegionLaws.{size-is, added-is, store-past}
 use Rattle.bp_roles.proofs.region.RegionByRolesRegion.store.Goals as goal
 
 pub store-requires-clause-in_range : goal.store-requires-clause-in_range
-store-requires-clause-in_range g c = omega (arith, c.requires.in_range, size-is (record { roles = c.self.inside.roles; memory = g.R.Region.memory c.self.inside.region }) c.args.self.now c.self.view_is)
+store-requires-clause-in_range g c = omega (arith, c.requires.in_range, size-is (record { roles = c.self.inside.places; memory = g.R.Region.memory c.self.inside.region }) c.args.self.now c.self.view_is)
 
 pub returns-else-word-lt-HEAD_WORDS : goal.returns-else-word-lt-HEAD_WORDS
 returns-else-word-lt-HEAD_WORDS g c =
     let past : 8 ≤ c.args.word = omega arith in
-    added-is (record { roles = c.self.inside.roles; memory = g.R.Region.memory c.self.inside.region }) c.args.self.now c.self.view_is (g.R.Region.memory c.store.new.self) _ _ c.store.ensures (store-past c.self.inside.roles c.args.word c.args.value past)
+    added-is (record { roles = c.self.inside.places; memory = g.R.Region.memory c.self.inside.region }) c.args.self.now c.self.view_is (g.R.Region.memory c.store.new.self) _ _ c.store.ensures (store-past c.self.inside.places c.args.word c.args.value past)

@@ -23,10 +23,11 @@
 #include <syslog.h>
 #include <unistd.h>
 
-enum { OK = 0, FAILED = 1, USAGE = 2, NO_IMAGE = 7, MAGIC_2 = 0x32 };
+enum { OK = 0, FAILED = 1, USAGE = 2, NO_IMAGE = 7 };
+enum { VERSION = 3, MAGIC_1 = 0x3130, MAGIC_3 = 0x4133 }; /* the last two bytes of magic numbers (docs/format.md) */
 
 static struct options {
-    unsigned blocks;
+    unsigned blocks, version;
     char *follower;
     int cached, quiet, read_only;
 } options;
@@ -92,13 +93,13 @@ static int open_file(const char *path) {
 }
 
 static int mount_cached(const char *path, bool is_new, bpfs_fault *fault) {
-    int code = is_new ? bpfs_file_create(&file, path, options.blocks, 2, BPFS_FILE_CACHED) : open_file(path);
+    int code = is_new ? bpfs_file_create(&file, path, options.blocks, options.version, BPFS_FILE_CACHED) : open_file(path);
     volume.carriers[0] = &file.carrier;
     return code ? code : bpfs_file_mount(&volume.fs, &file, fault);
 }
 
 static int mount_with_journal(const char *path, bool is_new, bpfs_fault *fault) {
-    int code = is_new ? bpfs_redo_create(&image, path, options.blocks, 2, BPFS_FILE_WAITS)
+    int code = is_new ? bpfs_redo_create(&image, path, options.blocks, options.version, BPFS_FILE_WAITS)
                       : bpfs_redo_open(&image, path, BPFS_FILE_WAITS);
     volume.carriers[0] = &image.carrier;
     return code ? code : bpfs_redo_mount(&volume.fs, &image, fault);
@@ -134,15 +135,19 @@ static int open_image(const char *path) {
     bpfs_fault fault = {0};
     uint64_t magic = 0;
     if (options.read_only && (options.blocks || options.follower)) return report("ro excludes format and follower"), USAGE;
+    if (options.version && !options.blocks) return report("version needs format"), USAGE;
+    if (!options.version) options.version = VERSION;
     int code = options.read_only ? mount_to_read(path, &fault) : mount_to_write(path, &fault);
     if (code < 0) return opening_failed(path);
     if (code == BPFS_OUT_OF_RANGE) {
-        report("format=%u: an image has %d to %d blocks", options.blocks, BPFS_MIN_BLOCKS, BPFS_MAX_BLOCKS);
+        report("format=%u, version=%u: an image has %d to %d blocks, and version 1 to %d", options.blocks, options.version,
+               BPFS_MIN_BLOCKS, BPFS_MAX_BLOCKS, VERSION);
         return USAGE;
     }
     if (code) return mounting_failed(path, code, &fault);
     bpfs_words(&volume.fs, 0, &magic, 1);
-    volume.max_write = magic >> 56 == MAGIC_2 ? BPFS_MAX_WRITE_2 : BPFS_MAX_WRITE;
+    volume.max_write = magic >> 48 == MAGIC_1 ? BPFS_MAX_WRITE : BPFS_MAX_WRITE_2;
+    volume.keeps = magic >> 48 == MAGIC_3;
     times_begin();
     if (options.read_only) return OK;
     remove_hidden();
@@ -185,6 +190,7 @@ static void serve(struct fuse_session *session) {
 }
 
 static int serve_at(struct fuse_args *args, const char *mountpoint, bool foreground) {
+    if (volume.keeps && fuse_opt_add_arg(args, "-odefault_permissions")) return FAILED; /* the kernel checks them */
     struct fuse *fuse = fuse_new(args, &operations, sizeof operations, NULL);
     if (!fuse) return FAILED; /* libfuse has printed why */
     if (fuse_mount(fuse, mountpoint)) return fuse_destroy(fuse), FAILED;
@@ -223,6 +229,7 @@ static int close_image(const char *path, int code) {
 
 static const struct fuse_opt known[] = {
     {"format=%u", offsetof(struct options, blocks), 0},
+    {"version=%u", offsetof(struct options, version), 0},
     {"cached", offsetof(struct options, cached), 1},
     {"follower=%s", offsetof(struct options, follower), 0},
     {"quiet", offsetof(struct options, quiet), 1},
@@ -232,7 +239,7 @@ static const struct fuse_opt known[] = {
 };
 
 static int usage(void) {
-    fprintf(stderr, "usage: bpfs_fuse IMAGE MOUNTPOINT [-f] [-o format=N,cached,follower=COMMAND,quiet,ro,..]\n");
+    fprintf(stderr, "usage: bpfs_fuse IMAGE MOUNTPOINT [-f] [-o format=N,version=N,cached,follower=COMMAND,quiet,ro,..]\n");
     return USAGE;
 }
 

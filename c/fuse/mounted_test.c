@@ -1,17 +1,20 @@
 /* mounted_test.c - system calls on a mounted volume, each with the result that README.md states.
  *
- *     mounted_test calls FOLDER         a series of system calls; FOLDER is empty, and on the mount
- *     mounted_test looks FOLDER COUNT   COUNT times fstat of one file
- *     mounted_test many FOLDER COUNT    makes COUNT files of 1,000 bytes, syncs the last one, and prints both times
+ *     mounted_test calls FOLDER VERSION   a series of system calls; FOLDER is empty, and on a mount of this version
+ *     mounted_test others FOLDER          calls of other users, on a mount with allow_other; needs root
+ *     mounted_test looks FOLDER COUNT     COUNT times fstat of one file
+ *     mounted_test many FOLDER COUNT      makes COUNT files of 1,000 bytes, syncs the last one, and prints both times
  */
 #define _GNU_SOURCE
 #include <errno.h>
 #include <fcntl.h>
+#include <grp.h>
 #include <stdio.h>
 #include <stdlib.h>
 #include <string.h>
 #include <sys/stat.h>
 #include <sys/statvfs.h>
+#include <sys/wait.h>
 #include <sys/xattr.h>
 #include <time.h>
 #include <unistd.h>
@@ -127,7 +130,6 @@ static void links(void) {
     WORKS(unlink("a"));
     IS(1, names_of("b"));
     WORKS(unlink("b"));
-    FAILS(EPERM, symlink("a", "s"));
     FAILS(EPERM, mknod("p", S_IFIFO | 0644, 0));
 }
 
@@ -167,7 +169,9 @@ static void deleted_while_open(void) {
     WORKS(unlink("a"));
 }
 
-static void what_is_not_kept(void) {
+/* ---- what version 2 does not keep, and version 3 does */
+
+static void before_version_3(void) {
     struct stat it;
     struct timespec when[2] = {{1000, 0}, {1000, 0}};
     close(make("a", "x"));
@@ -175,7 +179,7 @@ static void what_is_not_kept(void) {
     FAILS(EPERM, chmod("a", 0600));
     WORKS(chown("a", getuid(), getgid()));
     FAILS(EPERM, chown("a", getuid() + 1, (gid_t)-1));
-    FAILS(EOPNOTSUPP, setxattr("a", "user.x", "y", 1, 0));
+    FAILS(EPERM, symlink("a", "s"));
     WORKS(utimensat(AT_FDCWD, "a", when, 0));
     WORKS(stat("a", &it));
     IS(1000, it.st_mtime);
@@ -186,6 +190,205 @@ static void what_is_not_kept(void) {
     WORKS(stat("b", &it));
     IS(1, it.st_mtime > time(NULL) - 10);
     WORKS(unlink("b"));
+}
+
+static struct stat look(const char *path) {
+    struct stat it = {0};
+    if (lstat(path, &it)) it.st_mode = 0;
+    return it;
+}
+
+static long mode_of(const char *path) {
+    return look(path).st_mode & 07777;
+}
+
+static void modes(void) {
+    umask(027);
+    close(open("a", O_WRONLY | O_CREAT, 0666));
+    IS(0640, mode_of("a"));
+    WORKS(mknod("b", S_IFREG | 0600, 0));
+    IS(0600, mode_of("b"));
+    WORKS(mkdir("d", 0777));
+    IS(0750, mode_of("d"));
+    IS(S_IFDIR, look("d").st_mode & S_IFMT);
+    umask(022);
+    for (unsigned mode = 0; mode <= 07777; mode += 0111) {
+        WORKS(chmod("a", mode));
+        IS(mode, mode_of("a"));
+    }
+    WORKS(chmod("d", 01777));
+    IS(01777, mode_of("d"));
+    WORKS(chmod("a", 07777));
+    WORKS(rename("a", "d/a"));
+    IS(07777, mode_of("d/a"));
+    IS(S_IFREG, look("d/a").st_mode & S_IFMT);
+    WORKS(unlink("b"));
+    WORKS(unlink("d/a"));
+    WORKS(rmdir("d"));
+    int fd = open("a", O_RDWR | O_CREAT | O_EXCL, 0);
+    IS(1, write(fd, "x", 1));
+    close(fd);
+    IS(0, mode_of("a"));
+    IS(1, look("a").st_size);
+    WORKS(unlink("a"));
+}
+
+static void owners(void) {
+    close(make("a", "x"));
+    IS(getuid(), look("a").st_uid);
+    IS(getegid(), look("a").st_gid);
+    WORKS(chown("a", (uid_t)-1, (gid_t)-1));
+    if (getuid() == 0) {
+        WORKS(chown("a", 1000, 1001));
+        IS(1000, look("a").st_uid);
+        IS(1001, look("a").st_gid);
+        WORKS(chown("a", (uid_t)-1, (1 << 24) - 1));
+        IS(1000, look("a").st_uid);
+        IS((1 << 24) - 1, look("a").st_gid);
+        FAILS(EOVERFLOW, chown("a", 1 << 24, (gid_t)-1));
+        FAILS(EOVERFLOW, chown("a", (uid_t)-1, 1 << 24));
+        WORKS(mkdir("d", 0755));
+        WORKS(chown("d", 5, 6));
+        WORKS(chmod("d", 02775));
+        WORKS(mkdir("d/e", 0755));
+        IS(02755, mode_of("d/e"));
+        IS(6, look("d/e").st_gid);
+        close(make("d/e/a", "x"));
+        IS(6, look("d/e/a").st_gid);
+        IS(0, look("d/e/a").st_uid);
+        WORKS(symlink("a", "d/s"));
+        IS(6, look("d/s").st_gid);
+        WORKS(lchown("d/s", 7, 8));
+        IS(7, look("d/s").st_uid);
+        IS(0, look("d/e/a").st_uid);
+        WORKS(unlink("d/s"));
+        WORKS(unlink("d/e/a"));
+        WORKS(rmdir("d/e"));
+        WORKS(rmdir("d"));
+    }
+    WORKS(unlink("a"));
+}
+
+static int set_time(const char *path, time_t seconds, long nanoseconds) {
+    struct timespec when[2] = {{0, UTIME_OMIT}, {seconds, nanoseconds}};
+    return utimensat(AT_FDCWD, path, when, AT_SYMLINK_NOFOLLOW);
+}
+
+static void has_time(const char *path, time_t seconds, long nanoseconds, int line) {
+    struct stat it = look(path);
+    is((long)seconds, (long)it.st_mtim.tv_sec, path, line);
+    is(nanoseconds, it.st_mtim.tv_nsec, path, line);
+}
+
+static int is_new(const char *path) {
+    return labs((long)(look(path).st_mtime - time(NULL))) < 10;
+}
+
+static void times(void) {
+    static const struct timespec whens[] = {{1000000000, 123456789}, {1, 0},           {0, 1},
+                                            {-1, 999999999},         {-1000000000, 5}, {9000000000, 0}};
+    close(make("a", "x"));
+    WORKS(mkdir("d", 0755));
+    for (size_t i = 0; i < sizeof whens / sizeof *whens; i++) {
+        WORKS(set_time("a", whens[i].tv_sec, whens[i].tv_nsec));
+        has_time("a", whens[i].tv_sec, whens[i].tv_nsec, __LINE__);
+        WORKS(set_time("d", whens[i].tv_sec, whens[i].tv_nsec));
+        has_time("d", whens[i].tv_sec, whens[i].tv_nsec, __LINE__);
+    }
+    WORKS(set_time("a", 0, 0)); /* README.md: 1 nanosecond */
+    has_time("a", 0, 1, __LINE__);
+    WORKS(set_time("a", 20000000000, 5));
+    IS(1, look("a").st_mtime > 9000000000);
+    WORKS(set_time("a", 0, UTIME_OMIT));
+    IS(1, look("a").st_mtime > 9000000000);
+    WORKS(set_time("a", 0, UTIME_NOW));
+    IS(1, is_new("a"));
+    WORKS(set_time("d", 3000, 9));
+    WORKS(mkdir("d/e", 0755));
+    IS(1, is_new("d"));
+    WORKS(set_time("d", 3000, 9));
+    WORKS(rmdir("d/e"));
+    IS(1, is_new("d"));
+    WORKS(rmdir("d"));
+    WORKS(unlink("a"));
+}
+
+static void times_of_names(void) {
+    close(make("a", "x"));
+    WORKS(mkdir("d", 0755));
+    WORKS(set_time("a", 1000, 7));
+    WORKS(rename("a", "d/b"));
+    has_time("d/b", 1000, 7, __LINE__);
+    IS(1, is_new("d"));
+    WORKS(chmod("d/b", 0600));
+    has_time("d/b", 1000, 7, __LINE__);
+    WORKS(link("d/b", "c"));
+    has_time("c", 1000, 7, __LINE__);
+    int fd = open("c", O_WRONLY);
+    IS(1, write(fd, "y", 1));
+    close(fd);
+    IS(1, is_new("d/b"));
+    WORKS(set_time("d/b", 2000, 8));
+    has_time("c", 2000, 8, __LINE__);
+    WORKS(truncate("c", 0));
+    IS(1, is_new("d/b"));
+    WORKS(unlink("c"));
+    WORKS(unlink("d/b"));
+    WORKS(rmdir("d"));
+}
+
+static int leads_to(const char *path, const char *target) {
+    char bytes[4200];
+    ssize_t n = readlink(path, bytes, sizeof bytes);
+    return n == (ssize_t)strlen(target) && memcmp(bytes, target, (size_t)n) == 0 && look(path).st_size == n &&
+           look(path).st_mode == (S_IFLNK | 0777);
+}
+
+static void symbolic_links(void) {
+    char target[4097];
+    close(make("a", "text"));
+    WORKS(mkdir("d", 0755));
+    WORKS(symlink("a", "s"));
+    IS(1, leads_to("s", "a"));
+    IS(1, has("s", "text"));
+    FAILS(EEXIST, symlink("b", "s"));
+    FAILS(EEXIST, symlink("b", "d"));
+    FAILS(ENOENT, symlink("b", "none/s"));
+    FAILS(ENOTDIR, symlink("b", "a/s"));
+    FAILS(EINVAL, readlink("a", target, sizeof target));
+    FAILS(ELOOP, open("s", O_RDONLY | O_NOFOLLOW));
+    WORKS(symlink("../a", "d/up"));
+    IS(1, has("d/up", "text"));
+    WORKS(symlink("d", "to-d"));
+    IS(1, has("to-d/up", "text"));
+    WORKS(symlink("none", "dangling"));
+    FAILS(ENOENT, open("dangling", O_RDONLY));
+    WORKS(symlink("loop", "loop"));
+    FAILS(ELOOP, open("loop", O_RDONLY));
+    memset(target, 't', sizeof target);
+    target[4095] = 0;
+    WORKS(symlink(target, "long"));
+    IS(1, leads_to("long", target));
+    WORKS(link("s", "t"));
+    IS(1, leads_to("t", "a"));
+    IS(2, look("s").st_nlink);
+    WORKS(rename("s", "t"));
+    WORKS(rename("dangling", "s"));
+    IS(1, leads_to("s", "none"));
+    WORKS(set_time("to-d", 1000, 1));
+    has_time("to-d", 1000, 1, __LINE__);
+    IS(1, is_new("d"));
+    WORKS(unlink("to-d"));
+    for (const char *const *it = (const char *const[]){"a", "s", "t", "loop", "long", "d/up", NULL}; *it; it++) unlink(*it);
+    WORKS(rmdir("d"));
+}
+
+static void from_version_3_on(void) {
+    modes();
+    owners();
+    times();
+    times_of_names();
+    symbolic_links();
 }
 
 static void space(void) {
@@ -209,14 +412,89 @@ static void space(void) {
     IS(before.f_bfree, after.f_bfree);
 }
 
-static int calls(void) {
+/* ---- other users */
+
+/* Becomes another user in a child, whose checks are counted as failed or not. */
+static void as_user(uid_t uid, gid_t gid, void (*act)(void)) {
+    int status = 0;
+    pid_t pid = fork();
+    if (pid == 0) {
+        if (setgroups(0, NULL) || setgid(gid) || setuid(uid)) _exit(1);
+        act();
+        _exit(wrong);
+    }
+    waitpid(pid, &status, 0);
+    IS(0, status);
+}
+
+static void owner_of_a(void) {
+    IS(1, has("a", "text"));
+    WORKS(chmod("a", 0640));
+    FAILS(EPERM, chown("a", 0, (gid_t)-1));
+    FAILS(EACCES, open("b", O_RDONLY));
+    FAILS(EPERM, chmod("b", 0644));
+    FAILS(EACCES, open("new", O_WRONLY | O_CREAT, 0644));
+    FAILS(EACCES, unlink("a"));
+    FAILS(EACCES, symlink("a", "s"));
+    FAILS(EACCES, open("closed/a", O_RDONLY));
+    int fd = open("open/mine", O_WRONLY | O_CREAT, 0600);
+    WORKS(fd);
+    close(fd);
+    IS(1000, look("open/mine").st_uid);
+    IS(1001, look("open/mine").st_gid);
+    FAILS(EPERM, unlink("open/root's"));
+    WORKS(symlink("mine", "open/s"));
+    IS(1000, look("open/s").st_uid);
+}
+
+static void in_the_group_of_a(void) {
+    IS(1, has("a", "text"));
+    FAILS(EACCES, open("a", O_WRONLY));
+    FAILS(EACCES, open("open/mine", O_RDONLY));
+    int fd = open("open/set", O_WRONLY);
+    IS(1, write(fd, "x", 1));
+    close(fd);
+    IS(0777, mode_of("open/set")); /* a write by another user clears the set-user-ID bit */
+}
+
+static void stranger(void) {
+    FAILS(EACCES, open("a", O_RDONLY));
+    WORKS(access("open", W_OK));
+    FAILS(EACCES, access("closed", X_OK));
+}
+
+static int others(void) {
+    close(make("a", "text"));
+    WORKS(chown("a", 1000, 1001));
+    WORKS(chmod("a", 0600));
+    close(make("b", "text"));
+    WORKS(chmod("b", 0600));
+    WORKS(mkdir("closed", 0700));
+    close(make("closed/a", "text"));
+    WORKS(mkdir("open", 0755));
+    WORKS(chmod("open", 01777));
+    close(make("open/root's", "text"));
+    close(make("open/set", "text"));
+    WORKS(chmod("open/set", 06777));
+    as_user(1000, 1001, owner_of_a);
+    as_user(1002, 1001, in_the_group_of_a);
+    as_user(1003, 1003, stranger);
+    printf("%d results of system calls\n", checks);
+    return wrong;
+}
+
+/* ---- all of them */
+
+static int calls(int version) {
     files();
     directories();
     renames();
     links();
     long_names();
     deleted_while_open();
-    what_is_not_kept();
+    FAILS(EOPNOTSUPP, setxattr(".", "user.x", "y", 1, 0));
+    if (version < 3) before_version_3();
+    else from_version_3_on();
     space();
     printf("%d results of system calls\n", checks);
     return wrong;
@@ -258,10 +536,11 @@ static int many(long count) {
 
 int main(int argc, char **argv) {
     if (argc >= 3 && chdir(argv[2]) == 0) {
-        if (argc == 3 && strcmp(argv[1], "calls") == 0) return calls();
+        if (argc == 4 && strcmp(argv[1], "calls") == 0) return calls(atoi(argv[3]));
+        if (argc == 3 && strcmp(argv[1], "others") == 0) return others();
         if (argc == 4 && strcmp(argv[1], "looks") == 0) return looks(atol(argv[3]));
         if (argc == 4 && strcmp(argv[1], "many") == 0) return many(atol(argv[3]));
     }
-    fprintf(stderr, "usage: mounted_test calls FOLDER, mounted_test looks FOLDER COUNT, mounted_test many FOLDER COUNT\n");
+    fprintf(stderr, "usage: mounted_test calls FOLDER VERSION, others FOLDER, looks FOLDER COUNT, or many FOLDER COUNT\n");
     return 2;
 }

@@ -1,76 +1,56 @@
 #define _GNU_SOURCE
 #include "operations.h"
+#include "attributes.h"
+#include "calls.h"
 #include "times.h"
-#include "volume.h"
-#include <errno.h>
 #include <fcntl.h>
 #include <stdio.h>
 #include <stdlib.h>
-#include <string.h>
 #include <unistd.h>
 
-#define P(path) (const uint8_t *)(path), strlen(path)
-
-/* One call of the library, with room for it in the log: 0, or a negative errno. An operation that makes several calls
- * uses one of these for each. */
-#define LOOK(path, call) (volume_has_room(false) ? number(call, path) : -EIO)
-#define CHANGE(path, call) (volume_has_room(true) ? number(call, path) : -EIO)
+enum { DIRECTORY_TIMEOUT = 1 }; /* seconds for which the kernel keeps the attributes of a directory */
 
 static bpfs_lack lack;
-
-/* ---- error numbers */
-
-/* The library refuses a path if one of its names, or all of it, is too long. The kernel removes the other causes. */
-static int bad_path(const char *path) {
-    for (const char *name = path; *name; name += strcspn(name, "/")) {
-        name += *name == '/';
-        if (strcspn(name, "/") > BPFS_MAX_NAME) return -ENAMETOOLONG;
-    }
-    return strlen(path) > BPFS_MAX_PATH ? -ENAMETOOLONG : -EINVAL;
-}
-
-static int number(uint32_t code, const char *path) {
-    switch (code) {
-    case BPFS_OK: return 0;
-    case BPFS_BAD_PATH: return bad_path(path);
-    case BPFS_NOT_FOUND: return -ENOENT;
-    case BPFS_NOT_DIR: return -ENOTDIR;
-    case BPFS_IS_DIR: return -EISDIR;
-    case BPFS_EXISTS: return -EEXIST;
-    case BPFS_NOT_EMPTY: return -ENOTEMPTY;
-    case BPFS_INTO_SELF: return -EINVAL;
-    case BPFS_IS_ROOT: return -EBUSY;
-    case BPFS_TOO_LONG: return -EINVAL;
-    case BPFS_TOO_BIG: return -EFBIG;
-    case BPFS_NO_SPACE: return -ENOSPC;
-    case BPFS_NO_MEMORY: return -ENOMEM;
-    default: return -EIO;
-    }
-}
-
-/* Of two paths, the one that the library may have refused. */
-static const char *worse(const char *from, const char *to) {
-    return bad_path(from) == -ENAMETOOLONG ? from : to;
-}
+static struct fuse_config *config; /* NULL: libfuse has not called do_init */
 
 /* ---- operations that only read */
 
+/* What is at a path, and its mode and owner. */
+static int look_up(const char *path, bpfs_found *found, attributes *it) {
+    int code = LOOK(path, bpfs_stat(&volume.fs, P(path), found));
+    return code ? code : attributes_get(path, found->is_dir, it);
+}
+
+/* The kernel takes two links to one file for two files, and may keep the attributes of neither. Those of a directory it
+ * needs for the permissions of each path. libfuse reads attr_timeout after each call of this. */
 static int do_getattr(const char *path, struct stat *st, struct fuse_file_info *fi) {
     (void)fi;
     bpfs_found found;
+    attributes it;
     uint32_t links = 1;
-    int code = LOOK(path, bpfs_stat(&volume.fs, P(path), &found));
+    int code = look_up(path, &found, &it);
     if (!code && !found.is_dir) code = LOOK(path, bpfs_links(&volume.fs, P(path), &links));
     if (code) return code;
+    if (config) config->attr_timeout = volume.keeps && found.is_dir ? DIRECTORY_TIMEOUT : 0;
     memset(st, 0, sizeof *st);
-    st->st_mode = found.is_dir ? S_IFDIR | 0755 : S_IFREG | 0644;
+    st->st_mode = it.mode, st->st_uid = it.owner, st->st_gid = it.group;
     st->st_nlink = found.is_dir ? 2 : links;
     st->st_size = found.is_dir ? 0 : (off_t)found.size;
     st->st_blksize = 4096;
     st->st_blocks = (st->st_size + 511) / 512;
-    st->st_uid = volume.owner, st->st_gid = volume.group;
     st->st_atim = st->st_mtim = st->st_ctim = times_of(path);
     return 0;
+}
+
+/* The kind of a name in a directory. 0: programs ask for it. */
+static mode_t kind_of(const char *path, const char *name, bool is_dir) {
+    attributes it;
+    char *whole;
+    if (is_dir) return S_IFDIR;
+    if (asprintf(&whole, "%s/%s", path[1] ? path : "", name) < 0) return 0;
+    int code = attributes_get(whole, false, &it);
+    free(whole);
+    return code ? 0 : it.mode & S_IFMT;
 }
 
 static int do_readdir(const char *path, void *buffer, fuse_fill_dir_t fill, off_t offset, struct fuse_file_info *fi,
@@ -86,7 +66,7 @@ static int do_readdir(const char *path, void *buffer, fuse_fill_dir_t fill, off_
         bool is_dir;
         if (bpfs_listed(&volume.fs, i, (uint8_t *)name, BPFS_MAX_NAME, &length, &is_dir)) return -EIO;
         name[length] = 0;
-        st.st_mode = is_dir ? S_IFDIR : S_IFREG;
+        st.st_mode = kind_of(path, name, is_dir);
         if (fill(buffer, name, &st, 0, 0)) return -ENOMEM;
     }
     return 0;
@@ -99,9 +79,17 @@ static int do_read(const char *path, char *into, size_t size, off_t offset, stru
     return code ? code : (int)count;
 }
 
+/* A symbolic link is a file with its target. */
+static int do_readlink(const char *path, char *into, size_t size) {
+    size_t count = 0;
+    int code = LOOK(path, bpfs_read(&volume.fs, P(path), 0, (uint8_t *)into, size - 1, &count));
+    into[count] = 0;
+    return code;
+}
+
 static int do_statfs(const char *path, struct statvfs *st) {
     bpfs_blocks blocks;
-    int code = number(bpfs_space(&volume.fs, &blocks), path);
+    int code = error_of(bpfs_space(&volume.fs, &blocks), path);
     if (code) return code;
     memset(st, 0, sizeof *st);
     st->f_bsize = st->f_frsize = 4096;
@@ -119,17 +107,28 @@ static int entry_changed(int code, const char *path) {
     return code;
 }
 
-static int do_mkdir(const char *path, mode_t mode) {
-    (void)mode;
-    int code = CHANGE(path, bpfs_mkdir(&volume.fs, P(path), &lack));
+/* The end of an operation that makes a file or a directory: sets its attributes, or deletes it. */
+static int made(int code, const char *path, const attributes *it) {
+    if (code) return code;
+    if (volume.keeps) code = attributes_set(path, it);
     if (!code) times_touch(path);
+    else if (S_ISDIR(it->mode)) (void)CHANGE(path, bpfs_rmdir(&volume.fs, P(path), &lack));
+    else (void)CHANGE(path, bpfs_unlink(&volume.fs, P(path), &lack));
+    return code;
+}
+
+static int do_mkdir(const char *path, mode_t mode) {
+    attributes it;
+    int code = attributes_of_new(path, S_IFDIR | (mode & 07777), &it);
+    if (!code) code = made(CHANGE(path, bpfs_mkdir(&volume.fs, P(path), &lack)), path, &it);
     return entry_changed(code, path);
 }
 
 static int do_create(const char *path, mode_t mode, struct fuse_file_info *fi) {
-    (void)mode, (void)fi;
-    int code = CHANGE(path, bpfs_create(&volume.fs, P(path), &lack));
-    if (!code) times_touch(path);
+    (void)fi;
+    attributes it;
+    int code = attributes_of_new(path, S_IFREG | (mode & 07777), &it);
+    if (!code) code = made(CHANGE(path, bpfs_create(&volume.fs, P(path), &lack)), path, &it);
     return entry_changed(code, path);
 }
 
@@ -166,7 +165,7 @@ static int do_rename(const char *from, const char *to, unsigned flags) {
 
 static int do_link(const char *from, const char *to) {
     int code = CHANGE(worse(from, to), bpfs_link(&volume.fs, P(from), P(to), &lack));
-    if (!code) times_set(to, times_of(from));
+    if (!code) times_link(from, to);
     return entry_changed(code, to);
 }
 
@@ -205,32 +204,50 @@ static int do_fsync(const char *path, int data, struct fuse_file_info *fi) {
 
 static int do_utimens(const char *path, const struct timespec ts[2], struct fuse_file_info *fi) {
     (void)fi;
-    if (ts[1].tv_nsec == UTIME_NOW) times_touch(path);
-    else if (ts[1].tv_nsec != UTIME_OMIT) times_set(path, ts[1]);
-    return 0;
+    if (ts[1].tv_nsec == UTIME_OMIT) return 0;
+    return times_set(path, ts[1].tv_nsec == UTIME_NOW ? times_now() : ts[1]);
 }
 
-/* ---- operations that a volume does not have */
-
-/* Only a request for the mode that a file has succeeds. */
 static int do_chmod(const char *path, mode_t mode, struct fuse_file_info *fi) {
-    struct stat st;
-    int code = do_getattr(path, &st, fi);
-    if (code) return code;
-    return volume.quiet || (st.st_mode & 07777) == (mode & 07777) ? 0 : -EPERM;
+    (void)fi;
+    bpfs_found found;
+    attributes it = {0};
+    int code = look_up(path, &found, &it);
+    it.mode = (it.mode & S_IFMT) | (mode & 07777);
+    return code ? code : attributes_set(path, &it);
 }
 
 static int do_chown(const char *path, uid_t uid, gid_t gid, struct fuse_file_info *fi) {
-    struct stat st;
-    int code = do_getattr(path, &st, fi);
-    if (code) return code;
-    bool same = (uid == (uid_t)-1 || uid == volume.owner) && (gid == (gid_t)-1 || gid == volume.group);
-    return volume.quiet || same ? 0 : -EPERM;
+    (void)fi;
+    bpfs_found found;
+    attributes it = {0};
+    int code = look_up(path, &found, &it);
+    if (uid != (uid_t)-1) it.owner = uid;
+    if (gid != (gid_t)-1) it.group = gid;
+    return code ? code : attributes_set(path, &it);
 }
 
+/* ---- symbolic links */
+
+/* A symbolic link is made under this name, and moved when it is whole. If a kill leaves it, the next mount deletes it, as
+ * it does with the names of the next section. libfuse gives no file this one. */
+static const char unmoved[] = "/.fuse_hidden0000000000000000";
+
 static int do_symlink(const char *target, const char *path) {
-    (void)target, (void)path;
-    return -EPERM;
+    attributes it;
+    if (!volume.keeps) return -EPERM;
+    int code = LOOK(path, bpfs_stat(&volume.fs, P(path), NULL));
+    if (code != -ENOENT) return code ? code : -EEXIST;
+    code = attributes_of_new(path, S_IFLNK | 0777, &it);
+    (void)CHANGE(unmoved, bpfs_unlink(&volume.fs, P(unmoved), &lack)); /* if it could not be deleted before */
+    if (!code) code = CHANGE(unmoved, bpfs_create(&volume.fs, P(unmoved), &lack));
+    if (code) return code;
+    code = CHANGE(unmoved, bpfs_write(&volume.fs, P(unmoved), 0, P(target), &lack));
+    if (!code) code = attributes_set(unmoved, &it);
+    if (!code) code = CHANGE(path, bpfs_rename(&volume.fs, P(unmoved), P(path), &lack));
+    if (code) (void)CHANGE(unmoved, bpfs_unlink(&volume.fs, P(unmoved), &lack));
+    else times_touch(path);
+    return entry_changed(code, path);
 }
 
 /* ---- files that were deleted while a program had them open */
@@ -277,9 +294,10 @@ void remove_hidden(void) {
 
 /* ---- all of them */
 
-static void *do_init(struct fuse_conn_info *connection, struct fuse_config *config) {
+static void *do_init(struct fuse_conn_info *connection, struct fuse_config *its_config) {
+    config = its_config;
     connection->max_write = (unsigned)volume.max_write;
-    config->attr_timeout = 0; /* the kernel takes two links to one file for two files */
+    connection->want &= ~(unsigned)FUSE_CAP_HANDLE_KILLPRIV; /* the kernel clears set-user-ID bits, by chmod */
     config->negative_timeout = 0;
     return NULL;
 }
@@ -289,4 +307,5 @@ const struct fuse_operations operations = {
     .rmdir = do_rmdir, .rename = do_rename, .link = do_link, .truncate = do_truncate, .create = do_create,
     .mknod = do_mknod, .open = do_open, .read = do_read, .write = do_write, .statfs = do_statfs, .fsync = do_fsync,
     .fsyncdir = do_fsync, .chmod = do_chmod, .chown = do_chown, .utimens = do_utimens, .symlink = do_symlink,
+    .readlink = do_readlink,
 };

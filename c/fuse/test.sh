@@ -12,6 +12,7 @@ here=$(cd "$(dirname "$0")" && pwd)
 image=$work/image at=$work/mount own=$work/own logs=$work/logs
 load_at=$at/load # there is no such folder when the volume is gone
 mkdir "$at" "$own" "$logs" "$work/small"
+everyone=$([ "$(id -u)" != 0 ] || echo ,allow_other) # empty: other users can't use the mount
 passed=0 daemon=
 
 cleanup() {
@@ -96,6 +97,8 @@ opens_what_is_there() {
     refuses 7 'no such image' "$work/none" ro || return 1
     refuses 2 'an image has 8 to 67108864 blocks' "$work/none" format=7 || return 1
     refuses 2 'an image has 8 to 67108864 blocks' "$work/none" format=67108865 || return 1
+    refuses 2 'version 1 to 3' "$work/none" format=64,version=4 || return 1
+    refuses 2 'version needs format' "$work/none" version=2 || return 1
     refuses 2 'ro excludes' "$work/none" ro,format=64 || return 1
     refuses 7 'no such folder' "$work/none/image" format=64 || return 1
     head -c 65536 /dev/urandom > "$work/bytes"
@@ -175,6 +178,75 @@ database() {
     [ "$(sqlite3 "$at/base" "pragma integrity_check; select count(*) from t;" | tr '\n' ' ')" = "ok 1600 " ]
 }
 
+# ---- modes, owners, times and symbolic links
+
+# Files and directories whose modes, owners and times are not those of a new one, and symbolic links
+make_sample() {
+    mkdir -p "$own/sample/dir/deeper" "$own/sample/private" "$own/sample/shared" && cd "$own/sample" || return 1
+    printf '#!/bin/sh\necho "ran with $1"\n' > script && echo secret > private/secret && echo text > dir/text && : > empty
+    cp "$here"/*.c dir && ln -s text dir/link && ln -s ../script dir/up && ln -s /etc absolute && ln -s dir to-dir && ln -s nowhere dangling
+    [ -z "$everyone" ] || { chown 1000:1001 dir/text && chown -h 65534:16777215 dangling && chown -R 7:8 shared; }
+    chmod 755 script && chmod 600 private/secret && chmod 700 private && chmod 2775 shared && chmod 000 empty && chmod 4711 dir/text
+    find . -exec touch -h -d '2015-05-05 05:05:05.5' {} + && touch -d '1999-12-31 23:59:59.123456789' script && touch -d '1960-01-01 00:00:00.1' dir/text && touch -d 2100-01-01 empty
+    touch -h -d '2001-02-03 04:05:06.7' dangling && touch -d '2020-02-20 20:20' dir/deeper dir private/secret shared
+    cd "$here"
+}
+
+# What is kept of all in a folder
+list() {
+    (cd "$1" && find . -type d -printf '%P %y %m %U %G %T@\n' -o -printf '%P %y %m %U %G %T@ %s %l\n') | sort
+}
+
+is_like() {
+    diff <(list "$1") <(list "$2") && diff -r --no-dereference "$1" "$2"
+}
+
+copies_attributes() {
+    cp -a "$own/sample" "$at/sample" && is_like "$own/sample" "$at/sample" || return 1
+    cp -p "$own/sample/script" "$at/script" && [ "$(stat -c '%a %y' "$at/script")" = "$(stat -c '%a %y' "$own/sample/script")" ]
+}
+
+archives_attributes() {
+    mkdir "$at/packed" "$own/unpacked" && tar -C "$own/sample" --format=posix -cpf - . | tar -C "$at/packed" -xpf - || return 1
+    is_like "$own/sample" "$at/packed" || return 1
+    tar -C "$at/packed" --format=posix -cpf - . | tar -C "$own/unpacked" -xpf - && is_like "$own/sample" "$own/unpacked"
+}
+
+# The second run finds nothing to copy.
+mirrors() {
+    rsync -a "$own/sample/" "$at/mirror" && is_like "$own/sample" "$at/mirror" && [ -z "$(rsync -ai "$own/sample/" "$at/mirror")" ]
+}
+
+runs_programs() {
+    [ "$("$at/sample/script" words)" = 'ran with words' ] && cp -p "$(type -P true)" "$at/true" && "$at/true" || return 1
+    chmod 644 "$at/script" && ! "$at/script" && chmod +x "$at/script" && "$at/script"
+}
+
+links_by_symbols() {
+    cd "$at" && ln -s first symbol && ln -sf second symbol && [ "$(readlink symbol)" = second ] && ! cat symbol || return 1
+    echo text > second && [ "$(cat symbol)" = text ] && echo more >> symbol && [ "$(cat second)" = "$(printf 'text\nmore')" ] || return 1
+    ln -sfn sample/dir symbol && [ "$(cat symbol/text)" = text ] && cd symbol/deeper && [ "$(pwd -P)" = "$at/sample/dir/deeper" ] && cd "$at" || return 1
+    ! ln -s other symbol/text && mv symbol symbol2 && [ "$(readlink symbol2)" = sample/dir ] && rm symbol2 && [ -e sample/dir/text ] || return 1
+    [ "$(find sample -type l | wc -l)" = 5 ] && cd "$here"
+}
+
+makes_an_environment() {
+    python3 -m venv --without-pip "$at/venv" && [ "$("$at/venv/bin/python3" -c 'import sys; print(sys.prefix)')" = "$at/venv" ]
+}
+
+# Before version 3, modes, owners and symbolic links are not kept. With `quiet`, changes succeed.
+forgets_attributes() {
+    echo text > "$at/file" && chmod 600 "$at/file" && chown 1:1 "$at/file" && touch -d 2001-02-03 "$at/file" || return 1
+    [ "$(stat -c '%a %u' "$at/file")" = "644 $(id -u)" ] && ! ln -s file "$at/symbol" && [ "$(stat -c %y "$at/file" | cut -c1-10)" = 2001-02-03 ]
+}
+
+keeps_what_was_synced() {
+    cp -a "$own/sample" "$at/sample" && echo more >> "$at/sample/empty" && sync "$at/sample" && list "$at/sample" > "$own/list" || return 1
+    kills_it
+    mounts bpfs_fuse quiet
+    list "$at/sample" | diff "$own/list" -
+}
+
 # ---- when calls are carried
 
 # No call may run out of room in the log, however many come.
@@ -196,10 +268,11 @@ is_carried_under_load() {
 
 is_carried_when_idle() {
     echo bytes > "$at/idle"
+    when=$(stat -c %y "$at/idle")
     sleep 1.6
     kills_it
     mounts bpfs_fuse quiet
-    [ "$(cat "$at/idle")" = bytes ]
+    [ "$(cat "$at/idle")" = bytes ] && [ "$(stat -c %y "$at/idle")" = "$when" ]
 }
 
 # After a power failure IMAGE may lack what the journal has. An older copy of it has the same effect.
@@ -375,9 +448,33 @@ lead_and_lose() {
 modes='delete truncate persist wal' # a kill within a transaction of the modes off and memory leaves no database
 step "images that can't be opened" opens_what_is_there
 
-mounts san-bpfs_fuse cached,format=16384
+for version in 1 2; do
+    mounts san-bpfs_fuse cached,format=16384,version=$version
+    mkdir "$at/calls"
+    step "system calls, version $version" build/mounted_test calls "$at/calls" $version
+    unmounts
+    mounts san-bpfs_fuse quiet
+    step "modes, owners and times, version $version" forgets_attributes
+    unmounts
+    rm -f "$image" "$image-redo"
+done
+
+mounts san-bpfs_fuse "cached,format=16384$everyone"
 mkdir "$at/calls"
-step "system calls" build/mounted_test calls "$at/calls"
+step "system calls" build/mounted_test calls "$at/calls" 3
+if [ -n "$everyone" ]; then mkdir "$at/others" && step "other users" build/mounted_test others "$at/others"; else echo "left out: other users"; fi
+make_sample || fail "no sample"
+step "cp -a, cp -p" copies_attributes
+step "tar -p, there and back" archives_attributes
+if [ -x "$(command -v rsync)" ]; then step "rsync -a, twice" mirrors; else echo "left out: rsync"; fi
+step "programs and scripts" runs_programs
+step "ln -s" links_by_symbols
+if [ -x "$(command -v python3)" ]; then step "python3 -m venv" makes_an_environment; else echo "left out: python3"; fi
+list "$at" > "$own/list"
+unmounts
+mounts san-bpfs_fuse cached
+step "mounted again, with the same modes, owners and times" diff "$own/list" <(list "$at")
+rm -rf "${at:?}"/*
 step "cp -r, diff -r" copies
 step "mv" moves
 step "dd, truncate" pieces
@@ -427,6 +524,7 @@ mounts bpfs_fuse quiet,format=16384
 step "300,000 times fstat" looks_often
 step "carried under load" is_carried_under_load
 step "carried when idle" is_carried_when_idle
+step "a kill leaves what was synced" keeps_what_was_synced
 step "the journal is applied, and emptied" applies_the_journal
 unmounts
 rm -f "$image" "$image-redo"

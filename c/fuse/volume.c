@@ -1,5 +1,6 @@
 #define _GNU_SOURCE
 #include "volume.h"
+#include "times.h"
 #include <errno.h>
 #include <stdarg.h>
 #include <stdio.h>
@@ -50,7 +51,7 @@ static int carry_failed(int why) {
     return -1;
 }
 
-int volume_carry(void) {
+static int carry_log(void) {
     if (volume.failed) return -1;
     if (!volume.carrier_count) bpfs_drain(&volume.fs); /* only reads add events */
     else if (bpfs_carry_all(&volume.fs, volume.carriers, volume.carrier_count)) return carry_failed(errno);
@@ -58,16 +59,21 @@ int volume_carry(void) {
     return 0;
 }
 
+int volume_carry(void) {
+    if (!volume.failed) times_store();
+    return carry_log();
+}
+
 bool volume_has_room(bool changes) {
     if (changes && volume.failed) return false;
     if (bpfs_event_count(&volume.fs) <= BPFS_LOG_ROOM) return true;
-    if (!volume.failed) return volume_carry() == 0;
+    if (!volume.failed) return carry_log() == 0;
     bpfs_drain(&volume.fs); /* no carrier takes these events any more */
     return true;
 }
 
 void volume_served(struct timespec began) {
-    if (volume.waits || volume.failed || !bpfs_event_count(&volume.fs)) return;
+    if (volume.waits || volume.failed || !(bpfs_event_count(&volume.fs) || times_wait())) return;
     volume.waits = true;
     volume.due = after_delay(began);
 }

@@ -17,7 +17,8 @@ struct volume {
     size_t max_write; /* bytes of one bpfs_write */
     uid_t owner;
     gid_t group;
-    bool quiet;  /* changes of modes and owners succeed and are forgotten */
+    bool keeps;  /* the version of the format keeps modes, owners, times and symbolic links */
+    bool quiet;  /* changes of modes and owners that are not kept succeed, and are forgotten */
     bool failed; /* a carrier failed for good: the volume is only read from now on */
     bool daemon; /* standard error is closed: messages go to the system log */
 
@@ -36,7 +37,7 @@ void report(const char *format, ...) __attribute__((format(printf, 1, 2)));
  * call is all that is sure. False if the log could not be carried, or if `changes` and the volume has failed. */
 bool volume_has_room(bool changes);
 
-/* Carries the log: all calls so far are durable. 0, or -1. */
+/* Stores the times that were not stored yet, and carries the log: all calls so far are durable. 0, or -1. */
 int volume_carry(void);
 
 /* Notes that a request began at this time. Call it after the request. */

@@ -85,6 +85,6 @@ pub(crate) fn fill<R: Region>(
             wanted,
             bytes,
         );
-        region.store(node.block as u64 * BLOCK_WORDS + slot as u64, pointer);
+        region.store_past_head(node.block as u64 * BLOCK_WORDS + slot as u64, pointer);
     }
 }

@@ -8,7 +8,7 @@ ghost use Rattle.bp_append.specs.Given.{given, run_words, IsLaid, Lays, LaysRun}
 
 use crate::bytes::{given_in, word_with};
 use bp_limits::BLOCK_WORDS;
-use pm_region::Region;
+use pm_region::{HEAD_WORDS, Region};
 use pm_words::word_at;
 
 /// Words that are stored at once: a cache line. The length is known at each copy, so a copy is a few moves, and a short
@@ -93,6 +93,7 @@ fn laid_run(start: u64, layer: &Layer<'_>) -> [u64; RUN]
 
 /// Stores a run of words past the bytes that are kept. Its first word is at `place`, and its first byte at `start`.
 fn lay_run<R: Region>(region: &mut R, place: u64, start: u64, layer: &Layer<'_>)
+    requires after_head { HEAD_WORDS ≤ place }
     requires in_range { place + run_words ≤ length (R.memory region.old).base }
     requires few { start + 8 * run_words < 2 ^ 64 }
     requires past_end { layer.now.low ≤ start }
@@ -106,6 +107,7 @@ fn lay_run<R: Region>(region: &mut R, place: u64, start: u64, layer: &Layer<'_>)
 
 /// Returns the value of the word at `place`, whose first byte is at `start`. Offset `low` may be in this word.
 fn laid_word<R: Region>(region: &R, place: u64, start: u64, layer: &Layer<'_>) -> u64
+    requires after_head { HEAD_WORDS ≤ place }
     requires in_range { place < length (R.memory region.now).base }
     requires few { start + 8 < 2 ^ 64 }
     requires begun { layer.now.low < start + 8 }
@@ -115,12 +117,13 @@ fn laid_word<R: Region>(region: &R, place: u64, start: u64, layer: &Layer<'_>) -
     if layer.low <= start {
         return given_in(start, layer.from, layer.bytes);
     }
-    let old = region.load(place);
+    let old = region.load_past_head(place);
     word_with(old, start, layer.low, layer.from, layer.bytes)
 }
 
 /// Stores the word at `place`, whose first byte is at `start`. Offset `low` may be in this word.
 fn lay_word<R: Region>(region: &mut R, place: u64, start: u64, layer: &Layer<'_>)
+    requires after_head { HEAD_WORDS ≤ place }
     requires in_range { place < length (R.memory region.old).base }
     requires few { start + 8 < 2 ^ 64 }
     requires begun { layer.now.low < start + 8 }
@@ -129,13 +132,14 @@ fn lay_word<R: Region>(region: &mut R, place: u64, start: u64, layer: &Layer<'_>
         layer.now.low layer.now.from layer.now.bytes.now }
 {
     let value = laid_word(region, place, start, layer);
-    region.store(place, value);
+    region.store_past_head(place, value);
 }
 
 /// Stores the first of `count` words, or a whole run of them if there are enough and none of their bytes is kept.
 /// Returns how many words it stored. The first word is at `place`, and its first byte at `start`.
 fn lay_some<R: Region>(region: &mut R, place: u64, start: u64, count: u32, layer: &Layer<'_>) -> u32
     requires any { 0 < count }
+    requires after_head { HEAD_WORDS ≤ place }
     requires in_range { place + count ≤ length (R.memory region.old).base }
     requires few { start + 8 * count < 2 ^ 64 }
     requires begun { layer.now.low < start + 8 }
@@ -169,6 +173,7 @@ pub(crate) fn lay<R: Region>(
     requires some { low ≤ high }
     requires in_leaf { high ≤ start + block_size }
     requires few { start + block_size < 2 ^ 64 }
+    requires some_block { 1 ≤ block }
     requires in_range { block < length (R.memory region.old).base / block_words }
     requires room { block_words ≤ room_in (R.memory region.old) }
     ensures lays { Lays (R.memory region.old) (R.memory region.new) block start low high from bytes.now }

@@ -30,7 +30,7 @@ fn raise_once<R: Region>(
 {
     let block = blocks.alloc_lowest();
     let below = bp_layout::pointer_word(pm_words::block_of(root));
-    region.store(block as u64 * BLOCK_WORDS, below);
+    region.store_past_head(block as u64 * BLOCK_WORDS, below);
     let node = TreeBlock {
         block,
         level: height + 1,

@@ -90,7 +90,7 @@ fn visit_slot<R: Region>(
     ensures room { length blocks.new ≡ length blocks.old }
 {
     let _words = region.words();
-    let pointer = region.load(node.block as u64 * BLOCK_WORDS + slot as u64);
+    let pointer = region.load_past_head(node.block as u64 * BLOCK_WORDS + slot as u64);
     let block = pm_words::block_of(pointer) as u32;
     if block == 0 {
         return hang(region, blocks, node, slot, wanted, bytes);

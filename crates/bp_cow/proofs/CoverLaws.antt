@@ -1,5 +1,5 @@
 -- The way to the cover, slot by slot.
-use Rattle.std.proofs.Common.{◌≡◌, ◌≢◌, ◌⊎◌, ℕ, suc, ◌+◌, ◌-◌, ◌*◌, ◌/◌, ◌<◌, ◌≤◌, List, [], ◌∷◌, length, refl, sym, ◌∙◌, ap, subst, arith, inl, inr}
+use Rattle.std.proofs.Common.{◌≡◌, ◌≢◌, ◌⊎◌, ℕ, zero, suc, ◌+◌, ◌-◌, ◌*◌, ◌/◌, ◌<◌, ◌≤◌, List, [], ◌∷◌, length, refl, sym, ◌∙◌, ap, subst, arith, inl, inr}
 use Rattle.std.specs.List.{slice_index}
 use Rattle.std.proofs.Math.ListN.{get_or-append}
 use Rattle.std.proofs.lemmas.Bool.{cases_eq, cases_lt}
@@ -56,6 +56,16 @@ at-start image touched some = record {
 pub at-word : (image : Image) (touched : Touched) (found : FoundCover) → IsAt image touched found → word image found.place ≡ word_on image (trail_of (end_path touched 0) found.len)
 at-word image touched found at =
     ap (word image) (sym at.place) ∙ word-placed image (λ q. Unit {0}) (trail_of (end_path touched 0) found.len) at.placed
+
+-- below the root word of the inode file, the place is one of a block that is not null
+place-past_head : (image : Image) (path : List ℕ) (count : ℕ) → 0 < count → ((d : ℕ) → d < count → block_on image (trail_of path d) ≢ 0) → 512 ≤ place_on image (trail_of path count)
+place-past_head image path zero some exists = absurd (omega (arith, some))
+place-past_head image path (suc n) some exists = let present = exists n (omega arith) in omega (arith, present)
+
+pub at-past_head : {image : Image} {touched : Touched} {found : FoundCover} → IsAt image touched found → 0 < found.len → 512 ≤ found.place
+at-past_head {image} {touched} {found} at some =
+    let past = place-past_head image (end_path touched 0) found.len some at.exists in
+    omega (arith, past, at.place)
 
 pub at-next : (image : Image) (touched : Touched) (found : FoundCover) → IsTouched touched → IsAt image touched found → BeginAlike touched (found.len + 1) → (block slot : ℕ) → block ≢ 0 →
     block ≡ block_on image (trail_of (end_path touched 0) found.len) → block < block_count image → slot ≡ slice_index (end_path touched 0) found.len →

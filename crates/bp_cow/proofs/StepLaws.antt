@@ -73,6 +73,13 @@ module _ {plan : Plan} {from i depth : ℕ} {now : Image} {free : ℕ → Bool} 
       let range = stage.in_range b is in
       at.on.can.exact.dead b range.0 range.1 (λ has. let full : free b ≡ false = stage.taken b (inl has) in absurd (cc)) (stage.loose b is)
 
+  -- the block that is reached is not null
+  pub some_block : 1 ≤ block
+  some_block =
+      let fresh = at.made.stage.fresh way live renewed_here in
+      let some : block ≢ 0 = rw at.block_is fresh.0 in
+      omega (arith, some)
+
   pub free_inside : (b : ℕ) → free b ≡ true → (1 ≤ b) × (512 * b + 512 ≤ length now)
   free_inside b is = free_in_image are at.made b is
 

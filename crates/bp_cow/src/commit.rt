@@ -24,7 +24,7 @@ use crate::touched::Touched;
 use crate::ways::Shared;
 use bp_free::{Blocks, Parts};
 use bp_limits::BLOCK_SIZE;
-use pm_region::{Region, commit_word};
+use pm_region::{HEAD_WORDS, Region, commit_word};
 
 /// Copies the blocks from the cover down with the touched words in place, and sets the cover's pointer to the copies.
 /// The old blocks are not free yet.
@@ -98,12 +98,13 @@ fn commit_copies<R: Region>(
 /// Stores the value of the only touched word in place, at `place`.
 fn commit_one<R: Region>(region: &mut R, touched: &Touched<'_>, place: u64)
     requires touched { IsTouched touched.now }
+    requires after_head { HEAD_WORDS ≤ place }
     requires place { place < length (words_in R.memory region.old) }
     requires room { 3 ≤ room_in (R.memory region.old) }
     ensures { Adds (R.memory region.old) (R.memory region.new)
         (commit place (only_value touched.now (word (words_in R.memory region.old) place))) }
 {
-    let old = region.load(place);
+    let old = region.load_past_head(place);
     commit_word(region, place, touched.only_value(old));
 }
 

@@ -2,7 +2,7 @@
 
 ghost use Rattle.std.specs.Prelude.{◌≡◌, ◌≢◌, ◌≤◌, [], true, length, Some, IfOk, IfErr};
 ghost use Rattle.std.specs.List.{list_all};
-ghost use Rattle.bp_layout.specs.Inode.{IsDirectory};
+ghost use Rattle.bp_layout.specs.Inode.{IsDirectory, root_of, size_of};
 ghost use Rattle.bp_layout.specs.Directory.{ino_at, slot_named};
 ghost use Rattle.bp_layout.specs.Hints.{AreRight};
 ghost use Rattle.bp_limits.specs.Limits.{root_ino};
@@ -20,7 +20,7 @@ use crate::names::{split_first, split_last};
 use crate::path::Path;
 use bp_layout::{Hints, Kind};
 use bp_limits::ROOT_INO;
-use bp_read::inodes::get;
+use bp_read::inodes::{get, get_in, inode_file};
 use bp_read::{Finder, Hinted, Scan, Tree};
 use pm_region::Region;
 
@@ -44,7 +44,7 @@ pub enum WalkFault {
     NotDir,
 }
 
-/// Returns the entry of a name in a directory, and its inode.
+/// Returns the entry of a name in a directory, and its inode. `inodes` is the tree of the inode file.
 ///
 /// # Errors
 ///
@@ -52,10 +52,13 @@ pub enum WalkFault {
 /// - `NotFound`: the directory does not have it.
 fn step<R: Region, F: Finder>(
     region: &R,
+    inodes: Tree,
     dir: u32,
     name: &[u8],
     finder: &mut F,
 ) -> Result<FoundEntry, WalkFault>
+    requires root { inodes.root ≡ root_of (words_in R.memory region.now) 0 }
+    requires size { inodes.size ≡ size_of (words_in R.memory region.now) 0 }
     requires well { IsWellFormed (words_in R.memory region.now) }
     requires reached { IsReached (words_in R.memory region.now) dir }
     requires some { 1 ≤ dir }
@@ -71,7 +74,7 @@ fn step<R: Region, F: Finder>(
     ensures right { F.right finder.new (words_in R.memory region.now) }
     ensures references { F.same_references finder.old finder.new }
 {
-    let inode = get(region, dir);
+    let inode = get_in(region, inodes, dir);
     let tree = Tree::of(&inode);
     match inode.kind {
         Kind::File => Err(WalkFault::NotDir),
@@ -105,6 +108,7 @@ fn walk_names<R: Region, F: Finder>(
     ensures right { F.right finder.new (words_in R.memory region.now) }
     ensures references { F.same_references finder.old finder.new }
 {
+    let inodes = inode_file(region);
     let mut entry = FoundEntry {
         ino: ROOT_INO,
         dir: 0,
@@ -113,7 +117,7 @@ fn walk_names<R: Region, F: Finder>(
     let mut rest = text;
     while !rest.is_empty() {
         let (name, following) = split_first(rest);
-        entry = step(region, entry.ino, name, finder)?;
+        entry = step(region, inodes, entry.ino, name, finder)?;
         rest = following;
     }
     Ok(entry)

@@ -17,7 +17,7 @@ use crate::spot::{Both, Found, Spot};
 use crate::tree::{Tree, content_place, content_word};
 use bp_layout::{EntryView, INO_WORD, last_word};
 use bp_limits::{BLOCK_ENTRIES, ENTRY_WORDS};
-use pm_region::Region;
+use pm_region::{HEAD_WORDS, Region};
 
 /// Returns the number of the inode that the entry in a slot names, 0 if the entry is empty.
 pub fn entry_ino<R: Region>(region: &R, tree: Tree, slot: u64) -> u64
@@ -181,6 +181,7 @@ pub fn entry_place<R: Region>(region: &R, tree: Tree, slot: u64, field: u64) -> 
     ensures place { result ≡ word_place_in (words_in R.memory region.now) tree.root slot field }
     ensures present { node (words_in R.memory region.now) tree.root (height_of tree.root)
         ((entry_words * slot + field) / block_words) ≢ 0 }
+    ensures after_head { HEAD_WORDS ≤ result }
     ensures in_range { result < length (words_in R.memory region.now) }
 {
     content_place(region, tree, ENTRY_WORDS * slot + field)

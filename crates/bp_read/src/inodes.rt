@@ -27,7 +27,7 @@ use bp_limits::{
     ATTRIBUTE_FIELD, BLOCK_INODES, BLOCK_WORDS, INODE_SIZE, INODE_WORDS, ROOT_FIELD, SIZE_FIELD,
     SUPER_ROOT, SUPER_SIZE, Version, WORD_SIZE,
 };
-use pm_region::Region;
+use pm_region::{HEAD_WORDS, Region};
 
 /// Returns the tree of the inode file: words 2 and 3 of the superblock are its root word and its size.
 pub fn inode_file<R: Region>(region: &R) -> Tree
@@ -41,7 +41,7 @@ pub fn inode_file<R: Region>(region: &R) -> Tree
     }
 }
 
-/// Returns inode number `i`.
+/// Returns inode number `ino`.
 pub fn get<R: Region>(region: &R, ino: u32) -> Inode
     requires sound { let words = words_in R.memory region.now in IsSound words (root_of words 0) (size_of words 0) }
     requires some { 1 ≤ ino }
@@ -52,7 +52,22 @@ pub fn get<R: Region>(region: &R, ino: u32) -> Inode
     ensures root { result.root ≡ root_of (words_in R.memory region.now) ino }
     ensures size { result.size ≡ size_of (words_in R.memory region.now) ino }
 {
-    let inodes = inode_file(region);
+    get_in(region, inode_file(region), ino)
+}
+
+/// Returns what [`get`] returns, for a caller that has the tree of the inode file already.
+pub fn get_in<R: Region>(region: &R, inodes: Tree, ino: u32) -> Inode
+    requires root { inodes.root ≡ root_of (words_in R.memory region.now) 0 }
+    requires size { inodes.size ≡ size_of (words_in R.memory region.now) 0 }
+    requires sound { let words = words_in R.memory region.now in IsSound words (root_of words 0) (size_of words 0) }
+    requires some { 1 ≤ ino }
+    requires there { ino < inode_count (words_in R.memory region.now) }
+    requires least { 1 ≤ kind_of (words_in R.memory region.now) ino }
+    requires most { kind_of (words_in R.memory region.now) ino ≤ 2 }
+    ensures kind { kind_word result.kind ≡ kind_of (words_in R.memory region.now) ino }
+    ensures root { result.root ≡ root_of (words_in R.memory region.now) ino }
+    ensures size { result.size ≡ size_of (words_in R.memory region.now) ino }
+{
     let block = leaf_block(region, inodes, (ino / BLOCK_INODES) as u64);
     // An existing inode is in a block, and a region has fewer than 2^41 words, so its place fits.
     let _words = region.words();
@@ -68,6 +83,7 @@ pub fn place<R: Region>(region: &R, ino: u32, field: u64) -> u64
     requires there { ino < inode_count (words_in R.memory region.now) }
     requires field { field < inode_words }
     ensures place { ContentStandsAt (words_in R.memory region.now) 0 (inode_words * ino + field) result }
+    ensures after_head { HEAD_WORDS ≤ result }
     ensures in_range { result < length (words_in R.memory region.now) }
 {
     content_place(region, inode_file(region), INODE_WORDS * ino as u64 + field)
@@ -75,6 +91,7 @@ pub fn place<R: Region>(region: &R, ino: u32, field: u64) -> u64
 
 /// Sets the three words from `first` on to 0.
 fn clear<R: Region>(region: &mut R, first: u64)
+    requires after_head { HEAD_WORDS ≤ first }
     requires in_range { first + attributes ≤ length (R.memory region.old).base }
     requires room { attributes ≤ room_in (R.memory region.old) }
     ensures stores { AddsMay (AnyAt (IsWithin first attributes)) 0 attributes
@@ -83,13 +100,14 @@ fn clear<R: Region>(region: &mut R, first: u64)
 {
     // A region has fewer than 2^41 words, so the last place fits.
     let _words = region.words();
-    region.store(first, 0);
-    region.store(first + 1, 0);
-    region.store(first + 2, 0);
+    region.store_past_head(first, 0);
+    region.store_past_head(first + 1, 0);
+    region.store_past_head(first + 2, 0);
 }
 
 /// Sets the attributes of the inode at a place of the region to 0, if the version has attributes.
 fn clear_attributes<R: Region>(region: &mut R, place: u64, version: Version)
+    requires after_head { HEAD_WORDS ≤ place }
     requires in_range { place + inode_fields version ≤ length (R.memory region.old).base }
     requires room { inode_fields version ≤ room_in (R.memory region.old) + attribute_field }
     ensures stores { let count = inode_fields version - attribute_field in
@@ -110,6 +128,7 @@ fn clear_attributes<R: Region>(region: &mut R, place: u64, version: Version)
 
 /// Makes the inode at a place of the region a file or a directory without bytes, whose attributes are 0.
 fn put<R: Region>(region: &mut R, place: u64, kind: Kind, version: Version)
+    requires after_head { HEAD_WORDS ≤ place }
     requires in_range { place + inode_fields version ≤ length (R.memory region.old).base }
     requires room { inode_fields version ≤ room_in (R.memory region.old) }
     ensures stores { AddsMay (AnyAt (IsWithin place (inode_fields version))) 0 (inode_fields version)
@@ -118,9 +137,9 @@ fn put<R: Region>(region: &mut R, place: u64, kind: Kind, version: Version)
 {
     // A region has fewer than 2^41 words, so the last place fits.
     let _words = region.words();
-    region.store(place, kind.word());
-    region.store(place + ROOT_FIELD, 0);
-    region.store(place + SIZE_FIELD, 0);
+    region.store_past_head(place, kind.word());
+    region.store_past_head(place + ROOT_FIELD, 0);
+    region.store_past_head(place + SIZE_FIELD, 0);
     clear_attributes(region, place, version);
 }
 

@@ -10,10 +10,11 @@ ghost use Rattle.pm_region.specs.Memory.{words_in, room_in};
 ghost use Rattle.pm_region.specs.Safe.{AddsMay};
 
 use bp_layout::{LENGTH_WORD, NAME_WORD, name_word};
-use pm_region::Region;
+use pm_region::{HEAD_WORDS, Region};
 
 /// Writes a name to the entry at a place of the region: its length in bytes, and its bytes.
 pub fn put_name<R: Region>(region: &mut R, place: u64, name: &[u8])
+    requires after_head { HEAD_WORDS ≤ place }
     requires in_range { place + entry_words ≤ length (R.memory region.old).base }
     requires short { length name.now ≤ max_name }
     requires room { 31 ≤ room_in (R.memory region.old) }
@@ -23,8 +24,8 @@ pub fn put_name<R: Region>(region: &mut R, place: u64, name: &[u8])
     ensures name { HasNameAt (words_in R.memory region.new) place name.now }
 {
     let _words = region.words();
-    region.store(place + LENGTH_WORD, name.len() as u64);
+    region.store_past_head(place + LENGTH_WORD, name.len() as u64);
     for i in 0..name.len().div_ceil(8) {
-        region.store(place + NAME_WORD + i as u64, name_word(name, i));
+        region.store_past_head(place + NAME_WORD + i as u64, name_word(name, i));
     }
 }

@@ -78,12 +78,13 @@ fn read_words<R: Region>(region: &R, word: u64, into: &mut [u8])
 
 /// Reads some of the bytes of a word.
 fn read_part<R: Region>(region: &R, word: u64, first: usize, into: &mut [u8])
+    requires after_head { HEAD_WORDS ≤ word }
     requires word { word < length (words_in R.memory region.now) }
     requires within { first + length into.old ≤ 8 }
     ensures { into.new ≡ stored_bytes (words_in R.memory region.now) (8 * word + first) (length into.old) }
 {
     let _words = region.words();
-    let bytes = region.load(word).to_le_bytes();
+    let bytes = region.load_past_head(word).to_le_bytes();
     into.copy_from_slice(&bytes[first..first + into.len()]);
 }
 

@@ -10,7 +10,7 @@ ghost use Rattle.pm_region.specs.Memory.{words_in};
 use crate::descent::descend;
 use bp_layout::Inode;
 use bp_limits::BLOCK_WORDS;
-use pm_region::Region;
+use pm_region::{HEAD_WORDS, Region};
 
 /// Content words of a leaf.
 const LEAF_WORDS: u64 = BLOCK_WORDS;
@@ -63,7 +63,7 @@ pub fn load_slot<R: Region>(region: &R, block: u64, slot: u64) -> u64
     if block == 0 {
         0
     } else {
-        region.load(LEAF_WORDS * block + slot)
+        region.load_past_head(LEAF_WORDS * block + slot)
     }
 }
 
@@ -106,6 +106,7 @@ pub fn content_place<R: Region>(region: &R, tree: Tree, index: u64) -> u64
     requires present { let words = words_in R.memory region.now in
         node words tree.root (height_of tree.root) (index / block_words) ≢ 0 }
     ensures place { result ≡ content_place (words_in R.memory region.now) tree.root index }
+    ensures after_head { HEAD_WORDS ≤ result }
     ensures in_range { result < length (words_in R.memory region.now) }
 {
     let _words = region.words();

@@ -65,12 +65,15 @@ fn load_inode<R: Region>(region: &R, ino: u32) -> InodeWords
     ensures { AreWords (words_in R.memory region.now) ino result }
 {
     let place = place(region, ino, 0);
+    // Words of one inode follow one another in a block, so they are read together.
+    let _words = region.words();
+    let words = region.load_words(place, 3);
     InodeWords {
         place,
-        kind: region.load(place),
+        kind: words[0],
         tree: Tree {
-            root: region.load(place + 1),
-            size: region.load(place + 2),
+            root: words[1],
+            size: words[2],
         },
     }
 }

@@ -83,14 +83,14 @@ pub(crate) fn is_name<R: Region>(region: &R, place: u64) -> bool
     ensures { IsTrue result ↔ IsName (name_there (words_in R.memory region.now) place) }
 {
     let _words = region.words();
-    let count = region.load(place + LENGTH_WORD);
+    let count = region.load_past_head(place + LENGTH_WORD);
     if count == 0 {
         return false;
     }
     if count > MAX_NAME as u64 {
         return false;
     }
-    let first = region.load(place + NAME_WORD);
+    let first = region.load_past_head(place + NAME_WORD);
     if is_dots(first, count) {
         return false;
     }

@@ -32,7 +32,7 @@ pub(crate) fn hash_name<R: Region>(region: &R, place: u64) -> u32
     ensures { result ≡ name_hash (words_in R.memory region.now) place }
 {
     let _words = region.words();
-    let count = region.load(place + LENGTH_WORD);
+    let count = region.load_past_head(place + LENGTH_WORD);
     let words = region.load_words(place + NAME_WORD, NAME_WORDS);
     let whole = count as usize / 8;
     let mut state = mix(0, count);

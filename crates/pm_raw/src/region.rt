@@ -143,6 +143,7 @@ impl Region for RawRegion {
         self.current.as_slice()[word as usize]
     }
 
+    #[inline(always)]
     fn load_words(&self, first: u64, count: usize) -> &[u64] {
         let _words = self.words();
         let first = first as usize;

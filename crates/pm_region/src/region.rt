@@ -45,14 +45,40 @@ pub trait Region {
         requires in_range { first + count ≤ length (memory self.now).base }
         ensures { result.now ≡ slice_range (current_words (memory self.now)) first (first + count) };
 
+    /// Returns a word past the first `HEAD_WORDS`, as the processor sees it. A region that shows other words there than
+    /// it has stored returns it without a comparison.
+    #[inline(always)]
+    fn load_past_head(&self, word: u64) -> u64
+        requires after_head { HEAD_WORDS ≤ word }
+        requires in_range { word < length (memory self.now).base }
+        ensures { result ≡ slice_index (current_words (memory self.now)) word }
+    {
+        let _words = self.words();
+        self.load_words(word, 1)[0]
+    }
+
     /// Sets a word, and appends the store to the log.
     fn store(&mut self, word: u64, value: u64)
         requires in_range { word < length (memory self.old).base }
         requires room { 0 < room_in (memory self.old) }
         ensures { Adds (memory self.old) (memory self.new) (Store word value ∷ []) };
 
-    /// Sets the words from `first` on to these values, in order, and appends the stores to the log.
+    /// Sets a word past the first `HEAD_WORDS`, and appends the store to the log. A region that shows other words there
+    /// than it has stored does so without a comparison.
+    #[inline(always)]
+    fn store_past_head(&mut self, word: u64, value: u64)
+        requires after_head { HEAD_WORDS ≤ word }
+        requires in_range { word < length (memory self.old).base }
+        requires room { 0 < room_in (memory self.old) }
+        ensures { Adds (memory self.old) (memory self.new) (Store word value ∷ []) }
+    {
+        self.store(word, value);
+    }
+
+    /// Sets the words from `first` on to these values, in order, and appends the stores to the log. They are past the
+    /// first `HEAD_WORDS` words, which are set by `store`.
     fn store_words(&mut self, first: u64, values: &[u64])
+        requires after_head { HEAD_WORDS ≤ first }
         requires in_range { first + length values.now ≤ length (memory self.old).base }
         requires room { length values.now ≤ room_in (memory self.old) }
         ensures { Adds (memory self.old) (memory self.new) (stores_from first values.now) }

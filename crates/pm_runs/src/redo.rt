@@ -87,10 +87,12 @@ impl Region for RedoRegion {
         self.region.words()
     }
 
+    #[inline(always)]
     fn load(&self, word: u64) -> u64 {
         self.region.load(word)
     }
 
+    #[inline(always)]
     fn load_words(&self, first: u64, count: usize) -> &[u64] {
         self.region.load_words(first, count)
     }

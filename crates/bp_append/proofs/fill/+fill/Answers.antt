@@ -95,8 +95,11 @@ fill-make-pointer-requires g t c κs within =
       ),
     )
 
-pub fill-store-requires-clause-room : goal.fill-store-requires-clause-room
-fill-store-requires-clause-room g t c =
+pub fill-store_past_head-requires-clause-after_head : goal.fill-store_past_head-requires-clause-after_head
+fill-store_past_head-requires-clause-after_head g t c = omega (arith, c.requires.can.some_block)
+
+pub fill-store_past_head-requires-clause-room : goal.fill-store_past_head-requires-clause-room
+fill-store_past_head-requires-clause-room g t c =
     let up = some_level c.args.node.level c.if-node-eq0.false in
     let inv = c.loop-slot.invariant in
     let few : c.loop-slot.slot < 512 = omega (arith, c.loop-slot-test.true, c.begun_slots-slot-end.ensures.few) in
@@ -122,9 +125,9 @@ fill-loop-slot-preserved g t c =
       at = inv.at;
       reached = omega (arith, inv.reached);
       most = omega (arith, few);
-      fills = fills_more (g.R.Region.memory c.store.new.self)
+      fills = fills_more (g.R.Region.memory c.store_past_head.new.self)
           can.index
-          (length first.base / 512) inv.fills built c.store.ensures can.usable (omega (arith, length-current_words first)) can.some_block can.in_range can.outside
+          (length first.base / 512) inv.fills built c.store_past_head.ensures can.usable (omega (arith, length-current_words first)) can.some_block can.in_range can.outside
           few begun inside (can.aligned ∙ ap (λ l. can.index * span l) up) inv.at inv.reached;
       room = c.make-pointer.ensures.room ∙ inv.room;
     }

@@ -17,6 +17,9 @@ lay-requires-clause-in_leaf g c = omega (arith, c.min-end.ensures)
 pub lay-requires-clause-few : goal.lay-requires-clause-few
 lay-requires-clause-few g c = omega (arith, c.requires.can.few)
 
+pub lay-requires-clause-some_block : goal.lay-requires-clause-some_block
+lay-requires-clause-some_block g c = c.requires.can.some_block
+
 pub lay-requires-clause-in_range : goal.lay-requires-clause-in_range
 lay-requires-clause-in_range g c = c.requires.can.in_range
 

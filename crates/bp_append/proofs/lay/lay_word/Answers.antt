@@ -7,6 +7,6 @@ pub returns : goal.returns
 returns g c = record {
   values = c.laid_word-value.result ∷ [];
   long = refl;
-  adds = c.store.ensures;
+  adds = c.store_past_head.ensures;
   laid = one_laid (current_words (g.R.Region.memory c.args.region.now)) c.args.place c.args.start c.args.layer.now.low c.args.layer.now.from c.laid_word-value.result c.args.layer.now.bytes.now c.laid_word-value.ensures;
 }

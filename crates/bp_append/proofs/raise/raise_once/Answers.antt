@@ -10,11 +10,14 @@ use Rattle.bp_append.proofs.raise.raise_once.Goals as goal
 pub alloc_lowest-block-requires : goal.alloc_lowest-block-requires
 alloc_lowest-block-requires g c = enough_once c.args.root c.requires.can
 
-pub store-requires-clause-in_range : goal.store-requires-clause-in_range
-store-requires-clause-in_range g c = omega (arith, (head_low c.args.root c.alloc_lowest-block.result c.requires.can c.alloc_lowest-block.ensures.first).1)
+pub store_past_head-requires-clause-after_head : goal.store_past_head-requires-clause-after_head
+store_past_head-requires-clause-after_head g c = omega (arith, (head_low c.args.root c.alloc_lowest-block.result c.requires.can c.alloc_lowest-block.ensures.first).0)
 
-pub store-requires-clause-room : goal.store-requires-clause-room
-store-requires-clause-room g c = store_room_once c.args.root c.requires.can
+pub store_past_head-requires-clause-in_range : goal.store_past_head-requires-clause-in_range
+store_past_head-requires-clause-in_range g c = omega (arith, (head_low c.args.root c.alloc_lowest-block.result c.requires.can c.alloc_lowest-block.ensures.first).1)
+
+pub store_past_head-requires-clause-room : goal.store_past_head-requires-clause-room
+store_past_head-requires-clause-room g c = store_room_once c.args.root c.requires.can
 
 pub overflow_add-node : goal.overflow_add-node
 overflow_add-node g c = omega (arith, c.requires.height)
@@ -29,8 +32,8 @@ fill-requires g c =
     let next : c.args.height + 1 ≡ suc (height_of c.args.root) = omega (arith, c.requires.height) in
     record {
       can = rw (low, next)
-          (raise_fill_can (g.R.Region.memory c.store.new.self) c.args.root c.alloc_lowest-block.result c.requires.can c.alloc_lowest-block.ensures.first
-          (rw value at c.store.ensures));
+          (raise_fill_can (g.R.Region.memory c.store_past_head.new.self) c.args.root c.alloc_lowest-block.result c.requires.can c.alloc_lowest-block.ensures.first
+          (rw value at c.store_past_head.ensures));
     }
 
 pub overflow_add-top : goal.overflow_add-top
@@ -54,8 +57,8 @@ returns-clause-rises g c =
     let top : c.word.result ≡ 4096 * c.alloc_lowest-block.result + suc (height_of c.args.root) = omega (arith, c.word.ensures, next) in
     let fills = fills_at c.fill.ensures.fills next low in
     rw top
-    (raise_done (g.R.Region.memory c.store.new.self) c.args.root c.alloc_lowest-block.result c.requires.can c.alloc_lowest-block.ensures.first
-    (rw value at c.store.ensures) c.args.bytes.now fills)
+    (raise_done (g.R.Region.memory c.store_past_head.new.self) c.args.root c.alloc_lowest-block.result c.requires.can c.alloc_lowest-block.ensures.first
+    (rw value at c.store_past_head.ensures) c.args.bytes.now fills)
 
 pub returns-clause-tall : goal.returns-clause-tall
 returns-clause-tall g c = omega (arith, c.word.ensures, c.requires.height, c.requires.can.most)

@@ -132,7 +132,7 @@ pub visit_slot-overflow_cast-block : goal.visit_slot-overflow_cast-block
 visit_slot-overflow_cast-block g t c =
     let old = g.R.Region.memory c.args.region.now in
     let up = some_up c.args.node.level c.requires.some in
-    let is = loaded old c.args.node.block c.args.slot c.load-pointer.result c.requires.can.some_block c.load-pointer.ensures in
+    let is = loaded old c.args.node.block c.args.slot c.load_past_head-pointer.result c.requires.can.some_block c.load_past_head-pointer.ensures in
     let low = kid_low (as_node up c.requires.can) c.requires.last in
     let same : c.block_of-block.result ≡ block_of (slot_word (current_words old) c.args.node.block c.args.slot) = c.block_of-block.ensures ∙ ap block_of is in
     omega (arith, same, low, c.words-words.ensures, c.words-words.type_inv)
@@ -141,14 +141,14 @@ pub visit_slot-hang-requires-clause-can : goal.visit_slot-hang-requires-clause-c
 visit_slot-hang-requires-clause-can g t c =
     let old = g.R.Region.memory c.args.region.now in
     let up = some_up c.args.node.level c.requires.some in
-    let is = loaded old c.args.node.block c.args.slot c.load-pointer.result c.requires.can.some_block c.load-pointer.ensures in
+    let is = loaded old c.args.node.block c.args.slot c.load_past_head-pointer.result c.requires.can.some_block c.load_past_head-pointer.ensures in
     build_can (as_node up c.requires.can) c.requires.last (sym (c.block_of-block.ensures ∙ ap block_of is) ∙ c.if-block-eq0.true)
 
 pub visit_slot-returns-then-block-eq0-clause-below : goal.visit_slot-returns-then-block-eq0-clause-below
 visit_slot-returns-then-block-eq0-clause-below g t c =
     let old = g.R.Region.memory c.args.region.now in
     let up = some_up c.args.node.level c.requires.some in
-    let is = loaded old c.args.node.block c.args.slot c.load-pointer.result c.requires.can.some_block c.load-pointer.ensures in
+    let is = loaded old c.args.node.block c.args.slot c.load_past_head-pointer.result c.requires.can.some_block c.load_past_head-pointer.ensures in
     let null : block_of (slot_word (current_words old) c.args.node.block c.args.slot) ≡ 0 = sym (c.block_of-block.ensures ∙ ap block_of is) ∙ c.if-block-eq0.true in
     let hung = c.hang.ensures.builds in
     slot_of_make (as_node up c.requires.can) c.requires.last c.args.bytes.now _ _ hung.pointer _ null hung.built hung.which
@@ -157,7 +157,7 @@ pub visit_slot-visit-requires : goal.visit_slot-visit-requires
 visit_slot-visit-requires g t c κs within =
     let old = g.R.Region.memory c.args.region.now in
     let up = some_up c.args.node.level c.requires.some in
-    let is = loaded old c.args.node.block c.args.slot c.load-pointer.result c.requires.can.some_block c.load-pointer.ensures in
+    let is = loaded old c.args.node.block c.args.slot c.load_past_head-pointer.result c.requires.can.some_block c.load_past_head-pointer.ensures in
     let same : c.block_of-block.result ≡ block_of (slot_word (current_words old) c.args.node.block c.args.slot) = c.block_of-block.ensures ∙ ap block_of is in
     let some : 1 ≤ block_of (slot_word (current_words old) c.args.node.block c.args.slot) = rw (← same) (positive c.block_of-block.result c.if-block-eq0.false) in (
       omega (arith, c.decreases, up),
@@ -172,6 +172,6 @@ visit_slot-returns-clause-below g t c =
     let old = g.R.Region.memory c.args.region.now in
     let new = g.R.Region.memory c.visit.new.region in
     let up = some_up c.args.node.level c.requires.some in
-    let is = loaded old c.args.node.block c.args.slot c.load-pointer.result c.requires.can.some_block c.load-pointer.ensures in
+    let is = loaded old c.args.node.block c.args.slot c.load_past_head-pointer.result c.requires.can.some_block c.load_past_head-pointer.ensures in
     slot_of_visit (as_node up c.requires.can) c.requires.last c.args.bytes.now new (members c.visit.new.blocks) (links_in c.visit.result)
     (visits_from c.visit.ensures.visits c.slot_start.ensures (c.block_of-block.ensures ∙ ap block_of is))

@@ -4,7 +4,7 @@ use Rattle.bp_cow.specs.Plan.{planned}
 use Rattle.bp_cow.specs.Touched.{job_of}
 use Rattle.bp_cow.proofs.AddsLaws.{makes_none, makes_one, makes_as}
 use Rattle.bp_cow.proofs.NeedLaws.{turns_one, turns_none}
-use Rattle.bp_cow.proofs.StepLaws.{HasReachedIn, GoesOn, free_inside, next_low, loaded, loaded_low, made_before, made_copy, copy_reached, stored_taken}
+use Rattle.bp_cow.proofs.StepLaws.{HasReachedIn, GoesOn, free_inside, next_low, some_block, loaded, loaded_low, made_before, made_copy, copy_reached, stored_taken}
 use Rattle.bp_cow.proofs.build.step.Given.{Over}
 use Rattle.bp_cow.proofs.build.step.Goals.{Start, After-slot}
 use Rattle.bp_cow.proofs.build.step.Goals as goal
@@ -29,6 +29,11 @@ redirect-requires-clause-some g c =
     let one = turns_one (job_of c.args.touched.now) c.args.from c.args.way.now.index (c.args.depth + 1) (c.is_new.ensures.first c.if-is_new.true c.args.from) in
     omega (arith, c.requires.1.1.1.1.1.1.1.0, one)
 
+pub redirect-requires-clause-after_head : goal.redirect-requires-clause-after_head
+redirect-requires-clause-after_head g c =
+    let at = goal.at.redirect-requires-clause-after_head g c in
+    omega (arith, some_block (reached g at.Start))
+
 pub redirect-requires-clause-place : goal.redirect-requires-clause-place
 redirect-requires-clause-place g c =
     let at = goal.at.redirect-requires-clause-place g c in
@@ -51,9 +56,14 @@ redirect-requires-clause-room g c =
     let one = turns_one (job_of c.args.touched.now) c.args.from c.args.way.now.index (c.args.depth + 1) (c.is_new.ensures.first c.if-is_new.true c.args.from) in
     omega (arith, c.requires.1.1.1.1.1.1.1.1, one)
 
-pub load-requires : goal.load-requires
-load-requires g c =
-    let at = goal.at.load-requires g c in
+pub load_past_head-requires-clause-after_head : goal.load_past_head-requires-clause-after_head
+load_past_head-requires-clause-after_head g c =
+    let at = goal.at.load_past_head-requires-clause-after_head g c in
+    omega (arith, some_block (reached g at.Start))
+
+pub load_past_head-requires-clause-in_range : goal.load_past_head-requires-clause-in_range
+load_past_head-requires-clause-in_range g c =
+    let at = goal.at.load_past_head-requires-clause-in_range g c in
     let inside = next_low (reached g at.Start) (next g at.After-slot) in
     omega (arith, inside, length-current_words (g.R.Region.memory c.args.region.now))
 
@@ -61,7 +71,7 @@ pub overflow_cast-result : goal.overflow_cast-result
 overflow_cast-result g c =
     let at = goal.at.overflow_cast-result g c in
     let inside = loaded_low (reached g at.Start) (next g at.After-slot) in
-    omega (arith, c.load.ensures, inside, length-current_words (g.R.Region.memory c.args.region.now), c.words-words.ensures, c.words-words.type_inv)
+    omega (arith, c.load_past_head.ensures, inside, length-current_words (g.R.Region.memory c.args.region.now), c.words-words.ensures, c.words-words.type_inv)
 
 pub returns-then-is_new-clause-made : goal.returns-then-is_new-clause-made
 returns-then-is_new-clause-made g c =
@@ -89,7 +99,7 @@ returns-else-is_new-clause-made g c =
 pub returns-else-is_new-clause-block : goal.returns-else-is_new-clause-block
 returns-else-is_new-clause-block g c =
     let at = goal.at.returns-else-is_new-clause-block g c in
-    c.block_of.ensures ∙ ap (λ w. w / 4096) c.load.ensures ∙ loaded (reached g at.Start) (next g at.After-slot)
+    c.block_of.ensures ∙ ap (λ w. w / 4096) c.load_past_head.ensures ∙ loaded (reached g at.Start) (next g at.After-slot)
 
 pub returns-else-is_new-clause-makes : goal.returns-else-is_new-clause-makes
 returns-else-is_new-clause-makes g c =

@@ -7,6 +7,7 @@ use Rattle.bp_cow.specs.Touched.{job_of}
 use Rattle.bp_cow.proofs.CommitEnd.{copied-some, commits_one, commits_turned}
 use Rattle.bp_cow.proofs.CommitTaking.{commits_touched}
 use Rattle.bp_cow.proofs.CopiesNeed.{none-begins}
+use Rattle.bp_cow.proofs.CoverLaws.{at-past_head}
 use Rattle.bp_cow.proofs.CoverOf.{count_is}
 use Rattle.bp_cow.proofs.WaysAlike.{can_build}
 use Rattle.bp_cow.proofs.commit.commit_at.Goals as goal
@@ -26,6 +27,11 @@ way_len-requires-clause-shared g c =
 pub commit_one-requires-clause-touched : goal.commit_one-requires-clause-touched
 commit_one-requires-clause-touched g c =
     c.requires.1.0.can.shape
+
+pub commit_one-requires-clause-after_head : goal.commit_one-requires-clause-after_head
+commit_one-requires-clause-after_head g c =
+    let past = subst (λ (n : ℕ). n < c.args.found.now.cover.len) c.way_len.ensures c.if-way_len-cover.true in
+    omega (arith, at-past_head c.requires.1.1.0.cover.at (omega (arith, past)))
 
 pub commit_one-requires-clause-place : goal.commit_one-requires-clause-place
 commit_one-requires-clause-place g c =

@@ -5,6 +5,9 @@ use Rattle.bp_cow.specs.Copies.{HoldsPrefix}
 use Rattle.bp_cow.proofs.CopyLaws.{prefix_whole, stored_words, filled}
 use Rattle.bp_cow.proofs.copies.store_prefix.Goals as goal
 
+pub store_words-requires-clause-after_head : goal.store_words-requires-clause-after_head
+store_words-requires-clause-after_head g c = omega (arith, c.requires.to.not_null)
+
 pub store_words-requires-clause-in_range : goal.store_words-requires-clause-in_range
 store_words-requires-clause-in_range g c = omega (arith, c.requires.to.inside, c.requires.few, length-current_words (g.R.Region.memory c.args.region.now))
 

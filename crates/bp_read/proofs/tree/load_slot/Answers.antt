@@ -8,5 +8,5 @@ overflow_mul-block g c = omega (arith, length_now (g.R.Region.memory c.args.regi
 pub overflow_add-block : goal.overflow_add-block
 overflow_add-block g c = omega (arith, length_now (g.R.Region.memory c.args.region.now))
 
-pub load-requires : goal.load-requires
-load-requires g c = omega (arith, length_now (g.R.Region.memory c.args.region.now))
+pub load_past_head-requires-clause-in_range : goal.load_past_head-requires-clause-in_range
+load_past_head-requires-clause-in_range g c = omega (arith, length_now (g.R.Region.memory c.args.region.now))

@@ -12,8 +12,8 @@ overflow_add-place g c = omega (arith, length_now (g.R.Region.memory c.args.regi
 pub overflow_add-place-in-loop-k : goal.overflow_add-place-in-loop-k
 overflow_add-place-in-loop-k g c = omega (arith, length_now (g.R.Region.memory c.args.region.now), c.requires.within, c.loop-k-test.true)
 
-pub load-requires : goal.load-requires
-load-requires g c = omega (arith, length_now (g.R.Region.memory c.args.region.now), c.requires.within, c.loop-k-test.true)
+pub load_past_head-requires-clause-in_range : goal.load_past_head-requires-clause-in_range
+load_past_head-requires-clause-in_range g c = omega (arith, length_now (g.R.Region.memory c.args.region.now), c.requires.within, c.loop-k-test.true)
 
 pub loop-k-preserved : goal.loop-k-preserved
 loop-k-preserved g c =
@@ -22,11 +22,11 @@ loop-k-preserved g c =
     let named = c.loop-k.named in
     let inside : k < length named = omega (arith, c.requires.few, c.loop-k-test.true, c.loop-k.invariant.long) in
     record {
-      long = length-set named k c.load.result ∙ c.loop-k.invariant.long;
+      long = length-set named k c.load_past_head.result ∙ c.loop-k.invariant.long;
       read = λ i low. elim (cases_eq i k) [
         | inl here ↦
             let at : c.args.place + 32 * k + 0 ≡ c.args.place + 32 * i = omega (arith, here) in
-            ap (slice_index (slice_set named k c.load.result)) here ∙ get_or-set_same named k c.load.result 0 inside ∙ c.load.ensures ∙ ap (word image) at
-        | inr apart ↦ get_or-set_other named k i c.load.result 0 apart ∙ c.loop-k.invariant.read i (omega (arith, low, apart))
+            ap (slice_index (slice_set named k c.load_past_head.result)) here ∙ get_or-set_same named k c.load_past_head.result 0 inside ∙ c.load_past_head.ensures ∙ ap (word image) at
+        | inr apart ↦ get_or-set_other named k i c.load_past_head.result 0 apart ∙ c.loop-k.invariant.read i (omega (arith, low, apart))
       ];
     }

@@ -22,6 +22,9 @@ load_words-requires-clause-after_head g c = omega (arith, c.block_of-block.ensur
 pub load_words-requires-clause-in_range : goal.load_words-requires-clause-in_range
 load_words-requires-clause-in_range g c = omega (arith, c.block_of-block.ensures, ap block_of c.load.ensures, c.requires.block, length_now (g.R.Region.memory c.args.region.now))
 
+pub store_words-requires-clause-after_head : goal.store_words-requires-clause-after_head
+store_words-requires-clause-after_head g c = omega (arith, c.requires.copy.not_null)
+
 pub store_words-requires-clause-in_range : goal.store_words-requires-clause-in_range
 store_words-requires-clause-in_range g c = omega (arith, c.requires.copy.inside, length_now (g.R.Region.memory c.args.region.now), c.turn_words.array_long)
 

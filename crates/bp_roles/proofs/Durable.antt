@@ -25,7 +25,8 @@ use Rattle.bp_layout.proofs.SameLaws.{same_symmetric, same_transitive}
 use Rattle.bp_changes.proofs.Snapshot.{Keeps, snapshot_same}
 use Rattle.bp_roles.specs.Roles.{exchanged, magic_of, stored_at, swapped}
 use Rattle.bp_roles.specs.Seen.{seen_events, seen_words}
-use Rattle.bp_roles.specs.Transaction.{IsOneStore, AvoidsSnapshot, SameDurable, by_roles, commit_events, inside, outside, roles_of, outside_place}
+use Rattle.bp_roles.specs.Mounted.{SameDurable, by_roles, roles_of}
+use Rattle.bp_roles.specs.Transaction.{IsOneStore, AvoidsSnapshot, commit_events, inside, outside, outside_place}
 use Rattle.bp_roles.proofs.PlaceLaws.{stored_at-zero}
 use Rattle.bp_roles.proofs.SwapLaws.{exchanged-one, swapped-past, swapped-first}
 use Rattle.bp_roles.proofs.SeenLaws.{length-seen, seen-stores_of, seen-up_to_call_end, seen-word, seen-word_past, seen-words_after, stored-first}

@@ -2,14 +2,16 @@ pub mod PlaceLaws
 pub mod SwapLaws
 pub mod SeenLaws
 pub mod RegionLaws
+pub mod HeadLaws
 pub mod Bridge
 pub mod Likeness
 pub mod Durable
 pub mod Begun
 pub mod Begin
-pub mod Earlier
+pub mod AsStored
 pub mod Spare
 pub mod Ordinary
 pub mod Short
 pub mod Unseen
+pub mod KeptLaws
 pub mod StoredLaws

@@ -5,7 +5,7 @@ use Rattle.bp_layout.specs.Trees.{snapshot_of}
 use Rattle.bp_layout.specs.Whole.{SameFiles}
 use Rattle.bp_layout.specs.Words.{Image}
 use Rattle.bp_layout.proofs.SameLaws.{same_symmetric, same_transitive}
-use Rattle.bp_roles.specs.Transaction.{SameDurable, by_roles}
+use Rattle.bp_roles.specs.Mounted.{SameDurable, by_roles}
 
 files_symmetric : (one two : Image) → SameFiles one two → SameFiles two one
 files_symmetric one two same = record {

@@ -11,7 +11,8 @@ use Rattle.bp_layout.specs.Whole.{SameFiles}
 use Rattle.bp_layout.specs.Words.{Image, word}
 use Rattle.bp_roles.specs.Roles.{magic_of}
 use Rattle.bp_roles.specs.Seen.{seen_events, seen_words}
-use Rattle.bp_roles.specs.Transaction.{SameDurable, by_roles, outside}
+use Rattle.bp_roles.specs.Mounted.{SameDurable, by_roles}
+use Rattle.bp_roles.specs.Transaction.{outside}
 use Rattle.bp_roles.proofs.SeenLaws.{seen-after_calls, seen-kept_calls, seen-replay, seen-right}
 use Rattle.bp_roles.proofs.Durable.{StoresMay-up_to_call_end, by_outside}
 

@@ -4,7 +4,7 @@ use Rattle.std.proofs.lemmas.Bool.{cases_lt}
 use Rattle.std.proofs.lemmas.List.{get_or_default, get_or_past}
 use Rattle.bp_roles.specs.Roles.{seen_at, seen_places, stored_at, stored_places}
 use Rattle.bp_roles.specs.declared.roles.Roles.{Roles}
-use Rattle.bp_roles.specs.declared.roles.Roles.TheVariants.{Earlier, OutsideA, OutsideB, InsideA, InsideB}
+use Rattle.bp_roles.specs.declared.roles.Roles.TheVariants.{OutsideA, OutsideB, InsideA, InsideB}
 
 -- a property of all words, from the first 8 one by one and the rest together
 pub by_word : (P : ℕ → Type 0) → P 0 → P 1 → P 2 → P 3 → P 4 → P 5 → P 6 → P 7
@@ -21,7 +21,6 @@ by_word P p0 p1 p2 p3 p4 p5 p6 p7 rest (suc (suc (suc (suc (suc (suc (suc (suc i
 
 pub stored_at-seen_at : (roles : Roles) (word : ℕ) → stored_at roles (seen_at roles word) ≡ word
 unfolding stored_at seen_at
-stored_at-seen_at Earlier word = by_word (λ i. stored_at Earlier (seen_at Earlier i) ≡ i) refl refl refl refl refl refl refl refl (λ i. refl) word
 stored_at-seen_at OutsideA word = by_word (λ i. stored_at OutsideA (seen_at OutsideA i) ≡ i) refl refl refl refl refl refl refl refl (λ i. refl) word
 stored_at-seen_at OutsideB word = by_word (λ i. stored_at OutsideB (seen_at OutsideB i) ≡ i) refl refl refl refl refl refl refl refl (λ i. refl) word
 stored_at-seen_at InsideA word = by_word (λ i. stored_at InsideA (seen_at InsideA i) ≡ i) refl refl refl refl refl refl refl refl (λ i. refl) word
@@ -29,7 +28,6 @@ stored_at-seen_at InsideB word = by_word (λ i. stored_at InsideB (seen_at Insid
 
 pub seen_at-stored_at : (roles : Roles) (word : ℕ) → seen_at roles (stored_at roles word) ≡ word
 unfolding stored_at seen_at
-seen_at-stored_at Earlier word = by_word (λ i. seen_at Earlier (stored_at Earlier i) ≡ i) refl refl refl refl refl refl refl refl (λ i. refl) word
 seen_at-stored_at OutsideA word = by_word (λ i. seen_at OutsideA (stored_at OutsideA i) ≡ i) refl refl refl refl refl refl refl refl (λ i. refl) word
 seen_at-stored_at OutsideB word = by_word (λ i. seen_at OutsideB (stored_at OutsideB i) ≡ i) refl refl refl refl refl refl refl refl (λ i. refl) word
 seen_at-stored_at InsideA word = by_word (λ i. seen_at InsideA (stored_at InsideA i) ≡ i) refl refl refl refl refl refl refl refl (λ i. refl) word
@@ -37,21 +35,18 @@ seen_at-stored_at InsideB word = by_word (λ i. seen_at InsideB (stored_at Insid
 
 pub stored_at-zero : (roles : Roles) → stored_at roles 0 ≡ 0
 unfolding stored_at
-stored_at-zero Earlier = refl
 stored_at-zero OutsideA = refl
 stored_at-zero OutsideB = refl
 stored_at-zero InsideA = refl
 stored_at-zero InsideB = refl
 
 length-stored_places : (roles : Roles) → length (stored_places roles) ≡ 8
-length-stored_places Earlier = refl
 length-stored_places OutsideA = refl
 length-stored_places OutsideB = refl
 length-stored_places InsideA = refl
 length-stored_places InsideB = refl
 
 length-seen_places : (roles : Roles) → length (seen_places roles) ≡ 8
-length-seen_places Earlier = refl
 length-seen_places OutsideA = refl
 length-seen_places OutsideB = refl
 length-seen_places InsideA = refl

@@ -1,26 +1,24 @@
 -- The postconditions of the calls of a region as it is seen, from those of the region below.
 use Rattle.std.proofs.Common.{◌≡◌, ℕ, zero, suc, ◌+◌, ◌-◌, ◌<◌, ◌≤◌, false, List, [], ◌∷◌, ◌++◌, length, take, drop, get_or, Some, refl, sym, ◌∙◌, ap, subst, arith}
-use Rattle.std.specs.Prelude.{Result, Ok, Err, None, OnOk, OnErr, slice_get, slice_range, option_map}
+use Rattle.std.specs.Prelude.{None, slice_get, slice_range, option_map}
 use Rattle.std.proofs.lemmas.Bool.{ltb-false}
 use Rattle.std.proofs.lemmas.List.{ext_get_or, get_or-drop, length-drop, take-map}
 use Rattle.std.proofs.lemmas.Option.{slice_get-get_or, slice_get-map}
-use Rattle.std.proofs.lemmas.Result.{on_ok_weaker, on_err_weaker}
 use Rattle.pm_epochs.specs.declared.event.Event.{Event}
 use Rattle.pm_epochs.specs.declared.event.Event.TheVariants.{Store, Barrier, CallEnd}
 use Rattle.pm_epochs.specs.declared.event.EventKind.{EventKind}
 use Rattle.pm_epochs.specs.declared.event.EventKind.TheVariants as kinds
 use Rattle.pm_epochs.specs.Kind.{event_of, event_value, value_at}
 use Rattle.pm_epochs.specs.Log.{words_after}
-use Rattle.pm_epochs.specs.Replay.{PowerCut}
 use Rattle.pm_epochs.proofs.CrashLaws.{length-words_after}
-use Rattle.pm_region.specs.Memory.{Memory, Adds, AreInRow, AreWithin, Follows, current_words, crashed, stores_from}
+use Rattle.pm_region.specs.Memory.{Memory, Adds, AreInRow, AreWithin, Follows, current_words, stores_from}
 use Rattle.pm_region.proofs.KindLaws.{kind_get}
 use Rattle.bp_roles.specs.Roles.{stored_at, seen_at, swapped}
 use Rattle.bp_roles.specs.Seen.{MemoryByRoles, IsWide, is_of_head, seen, seen_words, seen_event, seen_events, seen_kind, seen_memory}
 use Rattle.bp_roles.specs.declared.roles.Roles.{Roles}
 use Rattle.bp_roles.proofs.PlaceLaws.{seen_at-stored_at, seen_at-past}
 use Rattle.bp_roles.proofs.SwapLaws.{swapped-past, swapped-twice}
-use Rattle.bp_roles.proofs.SeenLaws.{length-seen, seen-word, seen-word_past, stored_at-inside, seen-words_after, seen-current, seen-adds, seen-within, wide-crashed}
+use Rattle.bp_roles.proofs.SeenLaws.{length-seen, seen-word, seen-word_past, stored_at-inside, seen-words_after, seen-current, seen-adds, seen-within}
 
 -- ## Reads
 
@@ -187,13 +185,3 @@ pub within-is : (it now : MemoryByRoles) → it ≡ now → IsWide it.memory →
 within-is it now same wide within =
     subst (λ (r : MemoryByRoles). AreWithin (length (seen r).base) (seen r).events) same
     (subst (λ n. AreWithin n (seen_events it.roles it.memory.events)) (sym (length-seen it.roles it.memory.base)) (seen-within it.roles (length it.memory.base) it.memory.events wide within))
-
--- ## Crashes
-
-either : {T E P : Type 0} (result : Result T E) → OnOk result P → OnErr result P → P
-either (Ok value) ok err = ok
-either (Err error) ok err = err
-
-pub crash-wide : {T E : Type 0} (result : Result T E) (old new : Memory) (cut : PowerCut) → IsWide old → OnOk result (new ≡ crashed old cut) → OnErr result (new ≡ old) → IsWide new
-crash-wide result old new cut wide left err =
-    either {P = IsWide new} result (on_ok_weaker result (λ e. subst IsWide (sym e) (wide-crashed old cut wide)) left) (on_err_weaker result (λ e. subst IsWide (sym e) wide) err)

@@ -143,6 +143,12 @@ seen-closed roles (Store word value ∷ events) closed = (omega (arith, seen-bar
 seen-closed roles (Barrier ∷ events) closed = seen-closed roles events closed
 seen-closed roles (CallEnd ∷ events) closed = seen-closed roles events closed
 
+pub closed-seen : (roles : Roles) (events : List Event) → IsClosed (seen_events roles events) → IsClosed events
+closed-seen roles [] closed = tt
+closed-seen roles (Store word value ∷ events) closed = (omega (arith, seen-barriers roles events, closed.0), closed-seen roles events closed.1)
+closed-seen roles (Barrier ∷ events) closed = closed-seen roles events closed
+closed-seen roles (CallEnd ∷ events) closed = closed-seen roles events closed
+
 pub seen-within : (roles : Roles) (count : ℕ) (events : List Event) → 8 ≤ count → AreWithin count events → AreWithin count (seen_events roles events)
 seen-within roles count [] wide within = tt
 seen-within roles count (Store word value ∷ events) wide within = (seen_at-inside roles count word wide within.0, seen-within roles count events wide within.1)

@@ -17,7 +17,8 @@ use Rattle.bp_layout.specs.Words.{Image, word}
 use Rattle.bp_layout.proofs.SameLaws.{same_symmetric}
 use Rattle.bp_roles.specs.Roles.{magic_of, swapped}
 use Rattle.bp_roles.specs.Seen.{seen_events, seen_words}
-use Rattle.bp_roles.specs.Transaction.{IsSpare, SameDurable, by_roles, outside}
+use Rattle.bp_roles.specs.Mounted.{SameDurable, by_roles}
+use Rattle.bp_roles.specs.Transaction.{IsSpare, outside}
 use Rattle.bp_roles.proofs.SeenLaws.{seen-stores_of, seen-up_to_call_end, seen-words_after, stored-first}
 use Rattle.bp_roles.proofs.Bridge.{SameButSlots, same_but_slots}
 use Rattle.bp_roles.proofs.Likeness.{durable_symmetric, durable_transitive}

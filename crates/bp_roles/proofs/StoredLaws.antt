@@ -8,8 +8,8 @@ use Rattle.bp_roles.specs.Roles.{number_of, seen_at, swapped}
 use Rattle.bp_roles.specs.Seen.{IsWide, MemoryByRoles, raw_events, seen, seen_words}
 use Rattle.bp_roles.specs.Stored.{raw_words, roles_in, roles_numbered, stored_base, stored_events, stored_words}
 use Rattle.bp_roles.specs.declared.roles.Roles.{Roles}
-use Rattle.bp_roles.specs.declared.roles.Roles.TheVariants.{Earlier}
-use Rattle.bp_roles.proofs.Earlier.{swapped-same}
+use Rattle.bp_roles.specs.declared.roles.Roles.TheVariants.{OutsideA}
+use Rattle.bp_roles.proofs.AsStored.{swapped-same}
 use Rattle.bp_roles.proofs.PlaceLaws.{by_word, seen_at-past}
 use Rattle.bp_roles.proofs.SeenLaws.{length-seen, seen-current, wide-drained}
 use Rattle.bp_roles.proofs.SwapLaws.{swapped-past}
@@ -40,7 +40,7 @@ raw-past roles words i past low =
 
 pub roles-seen : (it : MemoryByRoles) → roles_in (seen it) ≡ it.roles
 roles-seen it =
-    let number : (5 * it.memory.through + number_of it.roles) % 5 ≡ number_of it.roles = omega (arith, number_low it.roles) in
+    let number : (4 * it.memory.through + number_of it.roles) % 4 ≡ number_of it.roles = omega (arith, number_low it.roles) in
     ap roles_numbered number ∙ numbered_number it.roles
 
 -- ## Memories
@@ -60,18 +60,18 @@ stored_log it = ap (λ roles. raw_events roles (seen it).events) (roles-seen it)
 
 -- ## A region's own memory
 
-seen_at-earlier : (i : ℕ) → seen_at Earlier i ≡ i
+seen_at-a : (i : ℕ) → seen_at OutsideA i ≡ i
 unfolding seen_at
-seen_at-earlier i = by_word (λ i. seen_at Earlier i ≡ i) refl refl refl refl refl refl refl refl (λ i. refl) i
+seen_at-a i = by_word (λ i. seen_at OutsideA i ≡ i) refl refl refl refl refl refl refl refl (λ i. refl) i
 
-raw_own : (words : List ℕ) → raw_words Earlier words ≡ words
-raw_own words = ext_get_or 0 (raw_words Earlier words) words (length-raw Earlier words) (λ i low.
-    raw-word Earlier words i (omega (arith, low, length-raw Earlier words))
-    ∙ swapped-same Earlier refl (seen_at Earlier i) (get_or words (seen_at Earlier i) 0)
-    ∙ ap (λ p. get_or words p 0) (seen_at-earlier i))
+raw_own : (words : List ℕ) → raw_words OutsideA words ≡ words
+raw_own words = ext_get_or 0 (raw_words OutsideA words) words (length-raw OutsideA words) (λ i low.
+    raw-word OutsideA words i (omega (arith, low, length-raw OutsideA words))
+    ∙ swapped-same OutsideA refl (seen_at OutsideA i) (get_or words (seen_at OutsideA i) 0)
+    ∙ ap (λ p. get_or words p 0) (seen_at-a i))
 
-roles-own : (memory : Memory) → memory.through ≡ 0 → roles_in memory ≡ Earlier
-roles-own memory own = ap (λ n. roles_numbered (n % 5)) own ∙ numbered_number Earlier
+roles-own : (memory : Memory) → memory.through ≡ 0 → roles_in memory ≡ OutsideA
+roles-own memory own = ap (λ n. roles_numbered (n % 4)) own ∙ numbered_number OutsideA
 
 pub own_now : (memory : Memory) → memory.through ≡ 0 → stored_words memory ≡ current_words memory
 own_now memory own = ap (λ roles. raw_words roles (current_words memory)) (roles-own memory own) ∙ raw_own (current_words memory)

@@ -8,7 +8,7 @@ use Rattle.bp_roles.specs.Roles.{number_of, seen_at, swapped}
 use Rattle.bp_roles.specs.Seen.{IsWide, MemoryByRoles, raw_event, raw_events, seen, seen_event, seen_events, seen_memory, seen_words}
 use Rattle.bp_roles.specs.Stored.{roles_numbered}
 use Rattle.bp_roles.specs.declared.roles.Roles.{Roles}
-use Rattle.bp_roles.specs.declared.roles.Roles.TheVariants.{Earlier, OutsideA, OutsideB, InsideA, InsideB}
+use Rattle.bp_roles.specs.declared.roles.Roles.TheVariants.{OutsideA, OutsideB, InsideA, InsideB}
 use Rattle.bp_roles.proofs.PlaceLaws.{stored_at-seen_at, seen_at-stored_at}
 use Rattle.bp_roles.proofs.SwapLaws.{swapped-twice}
 use Rattle.bp_roles.proofs.SeenLaws.{length-seen, seen-word}
@@ -48,8 +48,7 @@ all_seen_raw roles (event ∷ events) = ap (λ e. e ∷ seen_events roles (raw_e
 
 -- ## Roles
 
-pub number_low : (roles : Roles) → number_of roles < 5
-number_low Earlier = omega arith
+pub number_low : (roles : Roles) → number_of roles < 4
 number_low OutsideA = omega arith
 number_low OutsideB = omega arith
 number_low InsideA = omega arith
@@ -57,7 +56,6 @@ number_low InsideB = omega arith
 
 pub numbered_number : (roles : Roles) → roles_numbered (number_of roles) ≡ roles
 unfolding roles_numbered
-numbered_number Earlier = refl
 numbered_number OutsideA = refl
 numbered_number OutsideB = refl
 numbered_number InsideA = refl
@@ -67,7 +65,7 @@ numbered_number InsideB = refl
 
 roles_told : (one two : MemoryByRoles) → seen one ≡ seen two → one.roles ≡ two.roles
 roles_told one two same =
-    let through : 5 * one.memory.through + number_of one.roles ≡ 5 * two.memory.through + number_of two.roles = ap (λ (m : Memory). m.through) same in
+    let through : 4 * one.memory.through + number_of one.roles ≡ 4 * two.memory.through + number_of two.roles = ap (λ (m : Memory). m.through) same in
     let number : number_of one.roles ≡ number_of two.roles = omega (arith, through, number_low one.roles, number_low two.roles) in
     sym (numbered_number one.roles) ∙ ap roles_numbered number ∙ numbered_number two.roles
 
@@ -77,7 +75,7 @@ memory_told roles one two wide other same =
     let events : one.events ≡ two.events = sym (all_raw_seen roles one.events) ∙ ap (λ (m : Memory). raw_events roles m.events) same ∙ all_raw_seen roles two.events in
     let capacity : one.capacity ≡ two.capacity = ap (λ (m : Memory). m.capacity) same in
     let drains : one.drains ≡ two.drains = ap (λ (m : Memory). m.drains) same in
-    let shown : 5 * one.through + number_of roles ≡ 5 * two.through + number_of roles = ap (λ (m : Memory). m.through) same in
+    let shown : 4 * one.through + number_of roles ≡ 4 * two.through + number_of roles = ap (λ (m : Memory). m.through) same in
     let through : one.through ≡ two.through = omega (arith, shown) in
     λ i. record { base = base i; events = events i; capacity = capacity i; drains = drains i; through = through i }
 

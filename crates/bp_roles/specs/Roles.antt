@@ -2,18 +2,16 @@
 -- it, in bytes, of an inode file: words 2 and 3, 4 and 5, 6 and 7. Roles say where each of the first 8 words is stored,
 -- and which magic number is at word 0.
 --
--- No program has transactions yet: this file and Transaction define the second magic number of version 3 and the slots
--- of its images.
+-- No program has transactions yet, so none makes an image with the second magic number.
 use Rattle.std.specs.Prelude.{ℕ, ◌==◌, List, [], ◌∷◌, if◌then◌else◌, slice_index_or}
 use Rattle.bp_limits.specs.Limits.{magic, super_magic}
 use Rattle.bp_limits.specs.declared.version.Version.TheVariants.{Three}
 use Rattle.bp_roles.specs.declared.roles.Roles.{Roles}
-use Rattle.bp_roles.specs.declared.roles.Roles.TheVariants.{Earlier, OutsideA, OutsideB, InsideA, InsideB}
+use Rattle.bp_roles.specs.declared.roles.Roles.TheVariants.{OutsideA, OutsideB, InsideA, InsideB}
 
 -- The magic number that word 0 has under these roles and that is seen as `BPFSRS3A`, the one of version 3. Version 3
--- has two: the bytes `BPFSRS3A` and `BPFSRS3B`. Under the roles of earlier images each one is seen as it is.
+-- has two: the bytes `BPFSRS3A` and `BPFSRS3B`.
 abbrev pub magic_of : Roles → ℕ
-magic_of Earlier = magic Three
 magic_of OutsideA = magic Three
 magic_of OutsideB = 0x4233535253465042
 magic_of InsideA = magic Three
@@ -21,15 +19,13 @@ magic_of InsideB = 0x4233535253465042
 
 -- The number of the roles among all of them.
 abbrev pub number_of : Roles → ℕ
-number_of Earlier = 0
-number_of OutsideA = 1
-number_of OutsideB = 2
-number_of InsideA = 3
-number_of InsideB = 4
+number_of OutsideA = 0
+number_of OutsideB = 1
+number_of InsideA = 2
+number_of InsideB = 3
 
 -- The places where the first 8 words are stored, in the order in which they are seen.
 abbrev pub stored_places : Roles → List ℕ
-stored_places Earlier = 0 ∷ 1 ∷ 2 ∷ 3 ∷ 4 ∷ 5 ∷ 6 ∷ 7 ∷ []
 stored_places OutsideA = 0 ∷ 1 ∷ 2 ∷ 3 ∷ 4 ∷ 5 ∷ 6 ∷ 7 ∷ []
 stored_places OutsideB = 0 ∷ 1 ∷ 6 ∷ 7 ∷ 4 ∷ 5 ∷ 2 ∷ 3 ∷ []
 stored_places InsideA = 0 ∷ 1 ∷ 6 ∷ 7 ∷ 2 ∷ 3 ∷ 4 ∷ 5 ∷ []
@@ -37,7 +33,6 @@ stored_places InsideB = 0 ∷ 1 ∷ 2 ∷ 3 ∷ 6 ∷ 7 ∷ 4 ∷ 5 ∷ []
 
 -- The places at which the first 8 words are seen, in the order in which they are stored.
 abbrev pub seen_places : Roles → List ℕ
-seen_places Earlier = 0 ∷ 1 ∷ 2 ∷ 3 ∷ 4 ∷ 5 ∷ 6 ∷ 7 ∷ []
 seen_places OutsideA = 0 ∷ 1 ∷ 2 ∷ 3 ∷ 4 ∷ 5 ∷ 6 ∷ 7 ∷ []
 seen_places OutsideB = 0 ∷ 1 ∷ 6 ∷ 7 ∷ 4 ∷ 5 ∷ 2 ∷ 3 ∷ []
 seen_places InsideA = 0 ∷ 1 ∷ 4 ∷ 5 ∷ 6 ∷ 7 ∷ 2 ∷ 3 ∷ []

@@ -1,11 +1,11 @@
 -- Words, logs and memories as they are seen by roles.
-use Rattle.std.specs.Prelude.{ℕ, ◌+◌, ◌*◌, ◌≤◌, nat_lt, Bool, false, List, map, length, slice_index}
+use Rattle.std.specs.Prelude.{ℕ, ◌+◌, ◌*◌, ◌≤◌, nat_lt, Bool, false, List, map, length, slice_index, take}
 use Rattle.std.specs.List.{range_with_len}
 use Rattle.pm_epochs.specs.declared.event.Event.{Event}
 use Rattle.pm_epochs.specs.declared.event.Event.TheVariants.{Store, Barrier, CallEnd}
 use Rattle.pm_epochs.specs.declared.event.EventKind.{EventKind}
 use Rattle.pm_epochs.specs.declared.event.EventKind.TheVariants as kinds
-use Rattle.pm_region.specs.Memory.{Memory}
+use Rattle.pm_region.specs.Memory.{Memory, current_words}
 use Rattle.bp_roles.specs.Roles.{number_of, stored_at, seen_at, swapped}
 use Rattle.bp_roles.specs.declared.roles.Roles.{Roles}
 
@@ -46,14 +46,14 @@ abbrev pub raw_events : Roles → List Event → List Event
 raw_events roles events = map (raw_event roles) events
 
 -- A memory as it is seen: its base and its events are; the capacity of its log and its number of drains are the same.
--- The number of the view gives the roles, of which there are five, and the view of the memory itself.
+-- The number of the view gives the roles, of which there are four, and the view of the memory itself.
 abbrev pub seen_memory : Roles → Memory → Memory
 seen_memory roles memory = record {
   base = seen_words roles memory.base;
   events = seen_events roles memory.events;
   capacity = memory.capacity;
   drains = memory.drains;
-  through = 5 * memory.through + number_of roles;
+  through = 4 * memory.through + number_of roles;
 }
 
 -- A memory, and the roles by which it is seen.
@@ -64,6 +64,10 @@ pub record MemoryByRoles : Type 0 where
 -- The memory as it is seen by its roles.
 abbrev pub seen : MemoryByRoles → Memory
 seen it = seen_memory it.roles it.memory
+
+-- The first 8 words of a memory, as the processor sees them.
+abbrev pub head_words : Memory → List ℕ
+head_words memory = take 8 (current_words memory)
 
 -- The memory has all words that have roles.
 abbrev pub IsWide : Memory → Type 0

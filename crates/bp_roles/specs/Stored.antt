@@ -6,20 +6,19 @@ use Rattle.pm_region.specs.Memory.{Memory, current_words}
 use Rattle.bp_roles.specs.Roles.{seen_at, swapped}
 use Rattle.bp_roles.specs.Seen.{raw_events}
 use Rattle.bp_roles.specs.declared.roles.Roles.{Roles}
-use Rattle.bp_roles.specs.declared.roles.Roles.TheVariants.{Earlier, OutsideA, OutsideB, InsideA, InsideB}
+use Rattle.bp_roles.specs.declared.roles.Roles.TheVariants.{OutsideA, OutsideB, InsideA, InsideB}
 
--- The roles with a number, the inverse of `number_of`; `Earlier` for a number that no roles have.
+-- The roles with a number, the inverse of `number_of`; `OutsideA` for a number that no roles have.
 unfoldable pub roles_numbered : ℕ → Roles
 roles_numbered number =
-    if number == 1 then OutsideA
-    else if number == 2 then OutsideB
-    else if number == 3 then InsideA
-    else if number == 4 then InsideB
-    else Earlier
+    if number == 1 then OutsideB
+    else if number == 2 then InsideA
+    else if number == 3 then InsideB
+    else OutsideA
 
--- The roles by which a memory is seen; `Earlier` if it is the region's own memory.
+-- The roles by which a memory is seen; `OutsideA` if it is the region's own memory.
 abbrev pub roles_in : Memory → Roles
-roles_in memory = roles_numbered (memory.through % 5)
+roles_in memory = roles_numbered (memory.through % 4)
 
 -- The stored words that are seen as these: each is the one seen at its place.
 unfoldable pub raw_words : Roles → List ℕ → List ℕ

@@ -1,10 +1,9 @@
--- Images of version 3 and transactions: the roles that a magic number gives, the image outside and inside a
--- transaction, and the files that an image represents.
+-- Images of version 3 and transactions: the image outside and inside a transaction.
 --
 -- Outside a transaction the slots are the files, the snapshot and a spare one. Inside it, the spare slot has the tree of
 -- the transaction, which its calls see as the files; and the files of the outside are seen as the snapshot, so that no
 -- call stores to their blocks.
-use Rattle.std.specs.Prelude.{◌≡◌, ◌≢◌, ◌⊎◌, ◌==◌, ◌/◌, ◌<◌, ◌≤◌, ℕ, Bool, true, false, not, if◌then◌else◌, List, [], ◌∷◌, ◌++◌, slice_index_or}
+use Rattle.std.specs.Prelude.{◌≡◌, ◌≢◌, ◌⊎◌, ◌/◌, ◌<◌, ◌≤◌, ℕ, Bool, true, false, not, List, [], ◌∷◌, ◌++◌, slice_index_or}
 use Rattle.pm_epochs.specs.declared.event.Event.{Event}
 use Rattle.pm_epochs.specs.declared.event.Event.TheVariants.{Store, Barrier, CallEnd}
 use Rattle.pm_epochs.specs.Log.{IsStoredIn, call_ends, words_after}
@@ -14,11 +13,11 @@ use Rattle.bp_limits.specs.Limits.{block_words, super_magic, super_root, super_s
 use Rattle.bp_layout.specs.Words.{Image, word}
 use Rattle.bp_layout.specs.Same.{Same}
 use Rattle.bp_layout.specs.Trees.{has_snapshot, snapshot_of}
-use Rattle.bp_layout.specs.Whole.{SameFiles}
+use Rattle.bp_roles.specs.Mounted.{SameDurable, by_roles}
 use Rattle.bp_roles.specs.Roles.{magic_of}
 use Rattle.bp_roles.specs.Seen.{seen_words}
 use Rattle.bp_roles.specs.declared.roles.Roles.{Roles}
-use Rattle.bp_roles.specs.declared.roles.Roles.TheVariants.{Earlier, OutsideA, OutsideB, InsideA, InsideB}
+use Rattle.bp_roles.specs.declared.roles.Roles.TheVariants.{OutsideA, OutsideB, InsideA, InsideB}
 
 -- The roles outside a transaction, under the magic number `BPFSRS3A` or, if `is_b`, under `BPFSRS3B`.
 abbrev pub outside : Bool → Roles
@@ -29,20 +28,6 @@ outside true = OutsideB
 abbrev pub inside : Bool → Roles
 inside false = InsideA
 inside true = InsideB
-
--- The roles outside a transaction under a magic number, by which a mount, a check and an export see an image.
-abbrev pub roles_of : ℕ → Roles
-roles_of magic = if magic == magic_of OutsideA then OutsideA else if magic == magic_of OutsideB then OutsideB else Earlier
-
--- The image as it is seen outside a transaction: if it is of version 3, with the magic number `BPFSRS3A`, and with the
--- root word and the size of its files at words 2 and 3. So what is stated of images with that magic number holds for
--- all images of version 3. An image of an earlier version is seen as it is.
-abbrev pub by_roles : Image → Image
-by_roles image = seen_words (roles_of (word image super_magic)) image
-
--- Both images represent the same files after a crash, in one version. An open transaction plays no part.
-abbrev pub SameDurable : Image → Image → Type 0
-SameDurable old new = SameFiles (by_roles old) (by_roles new)
 
 -- The place at which a word is seen outside a transaction if it is seen at this place inside. Past the first 8 words it
 -- is the same place.

@@ -12,8 +12,9 @@ use Rattle.bp_layout.specs.WellFormed.{IsWellFormed}
 use Rattle.bp_layout.specs.Whole.{IsFileSystem, SameFiles}
 use Rattle.bp_roles.specs.Roles.{magic_of}
 use Rattle.bp_roles.specs.Seen.{IsWide, MemoryByRoles, seen, seen_events, seen_words}
-use Rattle.bp_roles.specs.Transaction.{AvoidsSnapshot, IsSpare, begin_events, by_roles, inside, outside}
-use Rattle.bp_roles.specs.declared.roles.Roles.TheVariants.{OutsideA, OutsideB}
+use Rattle.bp_roles.specs.Mounted.{by_roles}
+use Rattle.bp_roles.specs.Transaction.{AvoidsSnapshot, IsSpare, begin_events, inside, outside}
+use Rattle.bp_roles.specs.declared.roles.Roles.TheVariants.{OutsideB}
 
 -- The image as it is seen outside a transaction, and inside one.
 abbrev pub seen_outside : Bool → Image → Image
@@ -80,11 +81,10 @@ pub record HasSnapshotInside (is_b : Bool) (image : Image) : Type 0 where
   pub wide : 8 ≤ length image
   pub well_formed : IsWellFormed (snapshot_inside is_b image)
 
--- The image has all words that have roles in version 3, and neither of its magic numbers.
-pub record IsEarlier (image : Image) : Type 0 where
+-- The image has all words that have roles, and at word 0 another value than the magic number `BPFSRS3B`.
+pub record IsSeenAsStored (image : Image) : Type 0 where
   pub wide : 8 ≤ length image
-  pub not_a : word image super_magic ≢ magic_of OutsideA
-  pub not_b : word image super_magic ≢ magic_of OutsideB
+  pub other : word image super_magic ≢ magic_of OutsideB
 
 -- Each store of the events has a barrier after it, and the tree seen inside after them is well-formed.
 pub record MayCommit (is_b : Bool) (image : Image) (events : List Event) : Type 0 where

@@ -1,6 +1,6 @@
 //! Theorems on images of version 3 and on transactions. Each is the contract of a function with an empty body.
 
-ghost use Rattle.std.specs.Prelude.{◌≡◌, ℕ, Bool, false, List};
+ghost use Rattle.std.specs.Prelude.{◌≡◌, ℕ, Bool, List};
 ghost use Rattle.bp_layout.specs.Need.{Change};
 ghost use Rattle.bp_layout.specs.Same.{Same};
 ghost use Rattle.bp_layout.specs.Trees.{has_snapshot};
@@ -10,12 +10,14 @@ ghost use Rattle.bp_layout.specs.Words.{Image};
 ghost use Rattle.bp_changes.specs.Performs.{IsShort};
 ghost use Rattle.bp_roles.specs.Seen.{IsWide, MemoryByRoles, raw_events, seen};
 ghost use Rattle.bp_roles.specs.Stored.{stored_base, stored_events, stored_words};
-ghost use Rattle.bp_roles.specs.Transaction.{AvoidsSnapshot, BeginsInside, IsOneStore, SameDurable, by_roles};
-ghost use Rattle.bp_roles.specs.TransactionLaws.{AddsSeen, Begins, CallsInside, HasOnlyFiles, HasSnapshotInside, HasTreeInside, IsEarlier};
+ghost use Rattle.bp_roles.specs.Mounted.{KeepsRoles, SameDurable, by_roles, served_words};
+ghost use Rattle.bp_roles.specs.Transaction.{AvoidsSnapshot, BeginsInside, IsOneStore};
+ghost use Rattle.bp_roles.specs.TransactionLaws.{AddsSeen, Begins, CallsInside, HasOnlyFiles, HasSnapshotInside, HasTreeInside, IsSeenAsStored};
 ghost use Rattle.bp_roles.specs.TransactionLaws.{IsRightOutside, IsVersionThree, MayCommit};
 ghost use Rattle.bp_roles.specs.TransactionLaws.{StoresToSpare, committed, seen_inside, seen_outside, snapshot_inside};
 ghost use Rattle.pm_epochs.specs.declared.event.Event.{Event};
 ghost use Rattle.pm_epochs.specs.Crash.{CrashRight, IsQuiet};
+ghost use Rattle.pm_epochs.specs.Replay.{PowerCut, replay};
 ghost use Rattle.pm_region.specs.Memory.{Adds, Memory, current_words};
 ghost use Rattle.pm_region.specs.Safe.{IsSafe};
 
@@ -68,11 +70,20 @@ pub fn what_is_seen_says_what_is_stored()
     ensures own_base { (memory : Memory) → memory.through ≡ 0 → stored_base memory ≡ memory.base }
 {}
 
-/// States that images of versions 1 and 2 are seen as they are, and so are images of version 3 under the magic number
-/// `BPFSRS3A`.
-pub fn earlier_images_are_unchanged()
-    ensures earlier { (image : Image) → IsEarlier image → by_roles image ≡ image }
-    ensures three { (image : Image) → IsVersionThree false image → by_roles image ≡ image }
+/// States that images of versions 1 and 2 are seen as they are stored, and so are images of version 3 under the magic
+/// number `BPFSRS3A`.
+pub fn most_images_are_seen_as_they_are_stored()
+    ensures { (image : Image) → IsSeenAsStored image → by_roles image ≡ image }
+{}
+
+/// States what a mount of the words of a region sees, now and after a crash at any point, if they keep their roles
+/// (`KeepsRoles`): the words that the view by these roles shows. A memory that is safe (`IsSafe`) as it is seen is safe
+/// for the files that a mount sees.
+pub fn a_mount_sees_what_the_roles_show()
+    ensures now { (it : MemoryByRoles) → KeepsRoles it → served_words it.memory ≡ current_words (seen it) }
+    ensures crash { (it : MemoryByRoles) → KeepsRoles it → (cut : PowerCut) →
+        by_roles (replay it.memory.base it.memory.events cut) ≡ replay (seen it).base (seen it).events cut }
+    ensures safe { (it : MemoryByRoles) → KeepsRoles it → IsSafe SameFiles (seen it) → IsSafe SameDurable it.memory }
 {}
 
 /// States that the snapshot seen inside a transaction has the files seen outside.

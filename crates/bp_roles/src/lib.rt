@@ -8,4 +8,4 @@ pub mod region;
 pub mod roles;
 
 pub use region::RegionByRoles;
-pub use roles::{Roles, roles_by_magic};
+pub use roles::Roles;

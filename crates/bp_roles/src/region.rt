@@ -1,9 +1,12 @@
 //! A region that is seen by roles.
 
-ghost use Rattle.std.specs.Prelude.{◌≡◌, ◌+◌, ◌<◌, ◌≤◌, [], ◌∷◌, length, slice_index};
-ghost use Rattle.bp_roles.specs.Seen.{seen};
+ghost use Rattle.std.specs.Prelude.{◌≡◌, ◌<◌, [], ◌∷◌, length, slice_index};
+ghost use Rattle.bp_layout.specs.Words.{word};
+ghost use Rattle.bp_limits.specs.Limits.{super_magic};
+ghost use Rattle.bp_roles.specs.Mounted.{roles_of};
+ghost use Rattle.bp_roles.specs.Seen.{head_words, seen, seen_memory};
 ghost use Rattle.pm_epochs.specs.declared.event.Event.TheVariants.{Store};
-ghost use Rattle.pm_region.specs.Memory.{Adds, current_words, room_in, stores_from};
+ghost use Rattle.pm_region.specs.Memory.{Adds, current_words, room_in};
 
 use crate::places::{Places, is_of_head};
 use crate::roles::Roles;
@@ -18,16 +21,20 @@ use std::marker::Model;
 pub struct RegionByRoles<R: Region> {
     region: R,
     places: Places,
+    /// The first words as they are seen now, so that a load of one of them needs no place.
+    head: [u64; 8],
 }
 
 impl<R: Region> Model for RegionByRoles<R> {
-    ghost use Rattle.bp_roles.specs.Seen.{IsWide, MemoryByRoles};
+    ghost use Rattle.std.specs.Prelude.{◌≡◌};
+    ghost use Rattle.bp_roles.specs.Seen.{IsWide, MemoryByRoles, head_words, seen_memory};
 
     ghost Value = { MemoryByRoles };
 
     ghost view = { λ it. record { roles = it.places; memory = R.memory it.region } };
 
-    ghost invariant = { λ it. IsWide (R.memory it.region) };
+    ghost invariant = { λ it.
+        IsWide (R.memory it.region) × (it.head ≡ head_words (seen_memory it.places (R.memory it.region))) };
 }
 
 impl<R: Region> RegionByRoles<R> {
@@ -38,10 +45,25 @@ impl<R: Region> RegionByRoles<R> {
         requires { IsWide (R.memory region) }
         ensures { result ≡ record { roles = roles; memory = R.memory region } }
     {
+        let places = Places::of(roles);
+        let head = RegionByRoles::head_of(&region, &places);
         RegionByRoles {
             region,
-            places: Places::of(roles),
+            places,
+            head,
         }
+    }
+
+    /// Returns a region of at least 8 words as a mount sees it: by the roles that its magic number gives.
+    pub fn by_magic(region: R) -> RegionByRoles<R>
+        requires { IsWide (R.memory region) }
+        ensures { result ≡ record {
+          roles = roles_of (word (current_words (R.memory region)) super_magic);
+          memory = R.memory region;
+        } }
+    {
+        let roles = Roles::of(region.load(SUPER_MAGIC));
+        RegionByRoles::new(region, roles)
     }
 
     /// Returns the roles by which the region is seen.
@@ -56,6 +78,7 @@ impl<R: Region> RegionByRoles<R> {
         ensures { self.new ≡ record self.old { roles = roles } }
     {
         self.places = Places::of(roles);
+        self.head = RegionByRoles::head_of(&self.region, &self.places);
     }
 
     /// Returns the region below, with its words and its log as they are stored.
@@ -72,35 +95,22 @@ impl<R: Region> RegionByRoles<R> {
         self.region
     }
 
-    /// Returns one of the first words as the processor sees it.
-    #[inline(always)]
-    fn load_head(&self, word: u64) -> u64
-        requires { word < length (seen self.now).base }
-        ensures { result ≡ slice_index (current_words (seen self.now)) word }
+    /// Returns the first words of a region as they are seen.
+    fn head_of(region: &R, places: &Places) -> [u64; 8]
+        requires { IsWide (R.memory region.now) }
+        ensures { result ≡ head_words (seen_memory places.now (R.memory region.now)) }
     {
-        let stored = self.places.stored_at(word);
-        if word == SUPER_MAGIC {
-            self.places.swapped(word, self.region.load(stored))
-        } else {
-            self.region.load(stored)
+        let mut head = [0; 8];
+        for word in 0..HEAD_WORDS {
+            head[word as usize] = places.swapped(word, region.load(places.stored_at(word)));
         }
-    }
-
-    /// Sets words one by one, some of which may be of the first words.
-    fn store_each(&mut self, first: u64, values: &[u64])
-        requires in_range { first + length values.now ≤ length (seen self.old).base }
-        requires room { length values.now ≤ room_in (seen self.old) }
-        ensures { Adds (seen self.old) (seen self.new) (stores_from first values.now) }
-    {
-        let _words = self.words();
-        for i in 0..values.len() {
-            self.store(first + i as u64, values[i]);
-        }
+        head
     }
 
     /// Sets one of the first words.
     #[inline(always)]
     fn store_head(&mut self, word: u64, value: u64)
+        requires of_head { word < HEAD_WORDS }
         requires in_range { word < length (seen self.old).base }
         requires room { 0 < room_in (seen self.old) }
         ensures { Adds (seen self.old) (seen self.new) (Store word value ∷ []) }
@@ -109,6 +119,7 @@ impl<R: Region> RegionByRoles<R> {
             self.places.stored_at(word),
             self.places.swapped(word, value),
         );
+        self.head[word as usize] = value;
     }
 }
 
@@ -122,15 +133,20 @@ impl<R: Region> Region for RegionByRoles<R> {
     #[inline(always)]
     fn load(&self, word: u64) -> u64 {
         if word < HEAD_WORDS {
-            self.load_head(word)
+            self.head[word as usize]
         } else {
-            self.region.load(word)
+            self.region.load_past_head(word)
         }
     }
 
     #[inline(always)]
     fn load_words(&self, first: u64, count: usize) -> &[u64] {
         self.region.load_words(first, count)
+    }
+
+    #[inline(always)]
+    fn load_past_head(&self, word: u64) -> u64 {
+        self.region.load_past_head(word)
     }
 
     #[inline(always)]
@@ -143,12 +159,13 @@ impl<R: Region> Region for RegionByRoles<R> {
     }
 
     #[inline(always)]
+    fn store_past_head(&mut self, word: u64, value: u64) {
+        self.region.store_past_head(word, value);
+    }
+
+    #[inline(always)]
     fn store_words(&mut self, first: u64, values: &[u64]) {
-        if first < HEAD_WORDS {
-            self.store_each(first, values);
-        } else {
-            self.region.store_words(first, values);
-        }
+        self.region.store_words(first, values);
     }
 
     fn barrier(&mut self) {
@@ -210,6 +227,8 @@ impl<R: Region> Region for RegionByRoles<R> {
     }
 
     fn crash_to(&mut self, choice: &Choice) -> Result<Kept, BadChoice> {
-        self.region.crash_to(choice)
+        let kept = self.region.crash_to(choice)?;
+        self.head = RegionByRoles::head_of(&self.region, &self.places);
+        Ok(kept)
     }
 }

@@ -1,30 +1,24 @@
 //! The roles of the slots of the superblock.
 
-ghost use Rattle.std.specs.Prelude.{◌≡◌, ◌<◌, length};
-ghost use Rattle.bp_layout.specs.Words.{word};
-ghost use Rattle.bp_limits.specs.Limits.{super_magic};
-ghost use Rattle.bp_roles.specs.Seen.{seen_event, seen_kind};
+ghost use Rattle.std.specs.Prelude.{◌≡◌};
+ghost use Rattle.bp_roles.specs.Seen.{seen_event};
 ghost use Rattle.bp_roles.specs.Roles.{exchanged, magic_of, seen_at, seen_places, stored_at, stored_places, swapped};
-ghost use Rattle.bp_roles.specs.Transaction.{roles_of};
-ghost use Rattle.pm_region.specs.Memory.{words_in};
+ghost use Rattle.bp_roles.specs.Mounted.{roles_of};
 
 use bp_limits::{SUPER_MAGIC, Version};
-use pm_epochs::{Event, EventKind};
-use pm_region::{HEAD_WORDS, Region};
+use pm_epochs::Event;
+use pm_region::HEAD_WORDS;
 
 /// Which slot of the superblock has which role. A slot is the root word and, next to it, the size in bytes of an inode
 /// file: words 2 and 3, 4 and 5, or 6 and 7.
 ///
 /// Seen by its roles, an image has the slot of its files at words 2 and 3, and that of its snapshot at words 4 and 5,
 /// as version 3 has them under the magic number `BPFSRS3A`. Word 0 says which roles they are outside a transaction; no
-/// word says whether a transaction is open. `specs/Roles` and `specs/Transaction` define the other magic number and the
-/// slots, which no program uses yet.
+/// word says whether a transaction is open. No program makes an image with the other magic number yet.
 #[derive(Clone, Copy, Debug, PartialEq, Eq)]
 pub enum Roles {
-    /// Versions 1 and 2: each word is seen where it is stored.
-    Earlier,
-    /// Version 3 under the magic number `BPFSRS3A`: the files at words 2 and 3, the snapshot at words 4 and 5, the spare
-    /// slot at words 6 and 7.
+    /// Versions 1 and 2, and version 3 under the magic number `BPFSRS3A`: the files at words 2 and 3, the snapshot at
+    /// words 4 and 5, the spare slot at words 6 and 7. Each word is seen where it is stored.
     OutsideA,
     /// Version 3 under the magic number `BPFSRS3B`: the files at words 6 and 7, the snapshot at words 4 and 5, the spare
     /// slot at words 2 and 3.
@@ -42,21 +36,19 @@ impl Roles {
         ensures { result ≡ magic_of self }
     {
         match self {
-            Roles::Earlier | Roles::OutsideA | Roles::InsideA => Version::Three.magic(),
+            Roles::OutsideA | Roles::InsideA => Version::Three.magic(),
             Roles::OutsideB | Roles::InsideB => 0x4233_5352_5346_5042,
         }
     }
 
-    /// Returns the roles outside a transaction under this magic number; `Earlier` if it is not one of version 3.
+    /// Returns the roles outside a transaction under this magic number.
     pub fn of(magic: u64) -> Roles
         ensures { result ≡ roles_of magic }
     {
-        if magic == Roles::OutsideA.magic() {
-            Roles::OutsideA
-        } else if magic == Roles::OutsideB.magic() {
+        if magic == Roles::OutsideB.magic() {
             Roles::OutsideB
         } else {
-            Roles::Earlier
+            Roles::OutsideA
         }
     }
 
@@ -65,7 +57,7 @@ impl Roles {
         ensures { result ≡ stored_places self }
     {
         match self {
-            Roles::Earlier | Roles::OutsideA => [0, 1, 2, 3, 4, 5, 6, 7],
+            Roles::OutsideA => [0, 1, 2, 3, 4, 5, 6, 7],
             Roles::OutsideB => [0, 1, 6, 7, 4, 5, 2, 3],
             Roles::InsideA => [0, 1, 6, 7, 2, 3, 4, 5],
             Roles::InsideB => [0, 1, 2, 3, 6, 7, 4, 5],
@@ -77,7 +69,7 @@ impl Roles {
         ensures { result ≡ seen_places self }
     {
         match self {
-            Roles::Earlier | Roles::OutsideA => [0, 1, 2, 3, 4, 5, 6, 7],
+            Roles::OutsideA => [0, 1, 2, 3, 4, 5, 6, 7],
             Roles::OutsideB => [0, 1, 6, 7, 4, 5, 2, 3],
             Roles::InsideA => [0, 1, 4, 5, 6, 7, 2, 3],
             Roles::InsideB => [0, 1, 2, 3, 6, 7, 4, 5],
@@ -135,17 +127,6 @@ impl Roles {
             Event::CallEnd => Event::CallEnd,
         }
     }
-
-    /// Returns the kind of an event of the log as it is seen.
-    pub fn seen_kind(self, kind: EventKind) -> EventKind
-        ensures { result ≡ seen_kind self kind }
-    {
-        match kind {
-            EventKind::Store(word) => EventKind::Store(self.seen_at(word)),
-            EventKind::Barrier => EventKind::Barrier,
-            EventKind::CallEnd => EventKind::CallEnd,
-        }
-    }
 }
 
 /// Returns one of two values in place of the other, and any other value as it is.
@@ -160,12 +141,4 @@ pub(crate) fn exchanged(one: u64, other: u64, value: u64) -> u64
     } else {
         value
     }
-}
-
-/// Returns the roles outside a transaction by the magic number of a region: those by which its files are seen.
-pub fn roles_by_magic<R: Region>(region: &R) -> Roles
-    requires { 0 < length (R.memory region.now).base }
-    ensures { result ≡ roles_of (word (words_in R.memory region.now) super_magic) }
-{
-    Roles::of(region.load(SUPER_MAGIC))
 }

@@ -6,4 +6,4 @@ pub load_words-requires-clause-in_range : goal.load_words-requires-clause-in_ran
 load_words-requires-clause-in_range g c = omega (arith, c.requires.in_range, size-is (record { roles = c.self.inside.places; memory = g.R.Region.memory c.self.inside.region }) c.args.self.now c.self.view_is)
 
 pub returns : goal.returns
-returns g c = run-is (record { roles = c.self.inside.places; memory = g.R.Region.memory c.self.inside.region }) c.args.self.now c.self.view_is c.self.invariant c.args.first c.args.count c.load_words.result.now c.requires.after_head c.load_words.ensures
+returns g c = run-is (record { roles = c.self.inside.places; memory = g.R.Region.memory c.self.inside.region }) c.args.self.now c.self.view_is c.self.invariant.0 c.args.first c.args.count c.load_words.result.now c.requires.after_head c.load_words.ensures

@@ -1,0 +1,21 @@
+use Rattle.std.proofs.Common.{arith, ◌≤◌}
+use Rattle.bp_roles.proofs.RegionLaws.{size-is, added-is, store-past}
+use Rattle.bp_roles.proofs.HeadLaws.{head-kept}
+use Rattle.bp_roles.proofs.SeenLaws.{wide-adds}
+use Rattle.bp_roles.proofs.region.RegionByRolesRegion.store_past_head.Goals as goal
+
+pub store_past_head-requires-clause-in_range : goal.store_past_head-requires-clause-in_range
+store_past_head-requires-clause-in_range g c = omega (arith, c.requires.in_range, size-is (record { roles = c.self.inside.places; memory = g.R.Region.memory c.self.inside.region }) c.args.self.now c.self.view_is)
+
+pub returns : goal.returns
+returns g c =
+    let past : 8 ≤ c.args.word = omega (arith, c.requires.after_head) in
+    added-is (record { roles = c.self.inside.places; memory = g.R.Region.memory c.self.inside.region }) c.args.self.now c.self.view_is (g.R.Region.memory c.store_past_head.new.self) _ _ c.store_past_head.ensures (store-past c.self.inside.places c.args.word c.args.value past)
+
+pub invariant_of-self : goal.invariant_of-self
+invariant_of-self g c =
+    let past : 8 ≤ c.args.word = omega (arith, c.requires.after_head) in (
+      wide-adds (g.R.Region.memory c.self.inside.region) (g.R.Region.memory c.store_past_head.new.self) _ c.store_past_head.ensures c.self.invariant.0,
+      head-kept c.self.inside.places (g.R.Region.memory c.self.inside.region) (g.R.Region.memory c.store_past_head.new.self) _ _ c.self.inside.head c.store_past_head.ensures (store-past c.self.inside.places c.args.word c.args.value past)
+          (past, tt) c.self.invariant.1,
+    )

@@ -14,6 +14,7 @@ use Rattle.bp_plain.specs.Calls.{Call, Answer}
 use Rattle.bp_plain.specs.Calls.Call.{upgrade_to_three}
 use Rattle.bp_layout.specs.Whole.{HasSpace}
 use Rattle.bp_limits.specs.Limits.{call_room, max_line, max_mask}
+use Rattle.bp_roles.specs.Mounted.{served_words}
 use Rattle.bp_volume.specs.Called.{Called}
 use Rattle.bp_volume.specs.Called.Called.{at_once, cleared}
 use Rattle.bp_volume.specs.FileCall.{FileCall}
@@ -91,7 +92,7 @@ does_sync old new answer done = record {
   base = tt;
 }
 
-pub does_space : (memory : Memory) (free live : ℕ) (answer : Answer) → HasSpace (current_words memory) free → HasLive (current_words memory) live → Does memory space (Counted free live) answer memory
+pub does_space : (memory : Memory) (free live : ℕ) (answer : Answer) → HasSpace (served_words memory) free → HasLive (served_words memory) live → Does memory space (Counted free live) answer memory
 does_space memory free live answer has_free has_live = record {
   line = λ saved. record { free = free; live = live; reported = refl; has_free = has_free; has_live = has_live; same = refl };
   size = refl;

@@ -21,7 +21,8 @@ use Rattle.bp_replay.specs.Wanted.Wanted.{all, nothing, at}
 use Rattle.bp_replay.proofs.Ends.{kept_calls_all, right_all}
 use Rattle.bp_layout.specs.Words.{Image}
 use Rattle.bp_plain.specs.Calls.{Call, Answer}
-use Rattle.bp_volume.proofs.WholeLaws.{whole_equivalence}
+use Rattle.bp_roles.specs.Mounted.{SameDurable, by_roles, served_words}
+use Rattle.bp_roles.proofs.Likeness.{durable_symmetric}
 use Rattle.bp_volume.specs.Called.{Called, ClearsAll}
 use Rattle.bp_volume.specs.Called.Called.{at_once, cleared}
 use Rattle.bp_volume.specs.FileCall.{FileCall}
@@ -164,8 +165,8 @@ nothing_stored words (CallEnd ∷ events) (suc count) low = nothing_stored words
 
 -- ---- what follows
 
-follows : (memory : Memory) (p : PlainState) → Stands (current_words memory) (tree_now p) → call_ends memory.events ≡ length p.since
-    → ((count : ℕ) → Stands (after_calls memory.base memory.events count) (after_crash p count)) → CrashRight SameFiles memory.base memory.events → FollowsPlainState memory p
+follows : (memory : Memory) (p : PlainState) → Stands (served_words memory) (tree_now p) → call_ends memory.events ≡ length p.since
+    → ((count : ℕ) → Stands (by_roles (after_calls memory.base memory.events count)) (after_crash p count)) → CrashRight SameDurable memory.base memory.events → FollowsPlainState memory p
 follows memory p now calls after right = record {
   now = now;
   calls = calls;
@@ -174,21 +175,21 @@ follows memory p now calls after right = record {
 }
 
 -- with an empty log
-pub follows_fresh : (memory : Memory) (tree : FileTree) → memory.events ≡ [] → Stands memory.base tree → FollowsPlainState memory (fresh tree)
+pub follows_fresh : (memory : Memory) (tree : FileTree) → memory.events ≡ [] → Stands (by_roles memory.base) tree → FollowsPlainState memory (fresh tree)
 follows_fresh memory tree empty stands = follows memory (fresh tree)
     (rw empty stands)
     (rw empty refl)
     (λ count. rw (empty, nothing_logged memory.base count, nothing_since tree count) stands)
-    (rw empty (crash_right_none SameFiles memory.base (same_by_stands memory.base tree stands)))
+    (rw empty (crash_right_none SameDurable memory.base (same_by_stands (by_roles memory.base) tree stands)))
 
 -- one more call
-follows_more : (old new : Memory) (p : PlainState) (added : List Event) (tree : FileTree) → FollowsPlainState old p → call_ends added ≡ 0 → Adds old new (added ++ CallEnd ∷ []) → CrashRight SameFiles new.base new.events
-    → Stands (current_words new) tree → FollowsPlainState new (with_call p tree)
+follows_more : (old new : Memory) (p : PlainState) (added : List Event) (tree : FileTree) → FollowsPlainState old p → call_ends added ≡ 0 → Adds old new (added ++ CallEnd ∷ []) → CrashRight SameDurable new.base new.events
+    → Stands (served_words new) tree → FollowsPlainState new (with_call p tree)
 follows_more old new p added tree before none adds right stands =
     let base : new.base ≡ old.base = ap (λ (m : Memory). m.base) adds in
     let events : new.events ≡ old.events ++ (added ++ CallEnd ∷ []) = ap (λ (m : Memory). m.events) adds in
     let calls : call_ends new.events ≡ length (p.since ++ tree ∷ []) = ap call_ends events ∙ omega (arith, call_ends-append old.events (added ++ CallEnd ∷ []), call_ends-append added (CallEnd ∷ []), none, before.calls, length-append p.since (tree ∷ [])) in
-    let go : (count : ℕ) → (few : Bool) → nat_le count (length p.since) ≡ few → Stands (after_calls new.base new.events count) (after_crash (with_call p tree) count) = λ count few. elim few as (λ few. nat_le count (length p.since) ≡ few → Stands (after_calls new.base new.events count) (after_crash (with_call p tree) count)) [
+    let go : (count : ℕ) → (few : Bool) → nat_le count (length p.since) ≡ few → Stands (by_roles (after_calls new.base new.events count)) (after_crash (with_call p tree) count) = λ count few. elim few as (λ few. nat_le count (length p.since) ≡ few → Stands (by_roles (after_calls new.base new.events count)) (after_crash (with_call p tree) count)) [
       | true ↦ λ e. let low : count ≤ length p.since = leb-true count (length p.since) e in
           rw (base, events, up_to_call_end-append old.events (added ++ CallEnd ∷ []) count (omega (arith, before.calls, low)), tree_at-few p.certain tree p.since count low) (before.after count)
       | false ↦ λ e. let high : length p.since < count = leb-false count (length p.since) e in
@@ -224,7 +225,7 @@ record CallFollows (p : PlainState) (call : Call) (answer : Answer) (new : Memor
 file_call_follows : (old new : Memory) (p : PlainState) (call : Call) (answer : Answer) → FollowsPlainState old p → FileCall old call answer new → CallFollows p call answer new
 file_call_follows old new p call answer before done =
     let first = settles call_room old p before in
-    let step = plain_step (current_words old) (tree_now p) call answer (current_words new) before.now (done.step (tree_now p) before.now) in
+    let step = plain_step (served_words old) (tree_now p) call answer (served_words new) before.now (done.step (tree_now p) before.now) in
     record {
       tree = step.after;
       plain = with_call first.plain step.after;
@@ -236,8 +237,8 @@ file_call_follows old new p call answer before done =
 -- words that were cleared still represent the tree, which is durable
 cleared_follows : (old new : Memory) (p : PlainState) → FollowsPlainState old p → ClearsAll old new → FollowsPlainState new (fresh (tree_now p))
 cleared_follows old new p before clears =
-    let same : SameFiles (current_words new) (current_words old) = whole_equivalence.symmetric (current_words old) (current_words new) clears.files in
-    follows_fresh new (tree_now p) clears.durable (rw clears.durable at (stands_by_same (current_words new) (current_words old) (tree_now p) same before.now))
+    let same : SameFiles (served_words new) (served_words old) = durable_symmetric (current_words old) (current_words new) clears.files in
+    follows_fresh new (tree_now p) clears.durable (rw clears.durable at (stands_by_same (served_words new) (served_words old) (tree_now p) same before.now))
 
 called_follows : (old new : Memory) (p : PlainState) (call : Call) (answer : Answer) → FollowsPlainState old p → Called old call answer new → CallFollows p call answer new
 called_follows old new p call answer before (at_once done) = file_call_follows old new p call answer before done
@@ -274,8 +275,8 @@ crash_follower old p command cut count reply new before does is line = record {
 -- the calls that changed nothing left the certain tree
 certain_tree : (memory : Memory) (p : PlainState) → FollowsPlainState memory p → (count : ℕ) → count ≤ kept_calls memory.events (cut_for memory.events nothing) → after_crash p count ≡ p.certain
 certain_tree memory p before count low =
-    let here : Stands memory.base (after_crash p count) = rw (nothing_stored memory.base memory.events count low) at (before.after count) in
-    stands_once memory.base (after_crash p count) p.certain here (before.after 0)
+    let here : Stands (by_roles memory.base) (after_crash p count) = rw (nothing_stored memory.base memory.events count low) at (before.after count) in
+    stands_once (by_roles memory.base) (after_crash p count) p.certain here (before.after 0)
 
 nothing_right : (events : List Event) → IsRight events (cut_for events nothing)
 nothing_right events = record { moment = omega arith; epoch = omega arith; mask = omega arith }
@@ -356,12 +357,12 @@ plain_session old p (command ∷ commands) (reply ∷ replies) new before (middl
     record { plain = later.plain; session = (first.plain, first.line, later.session); follows = later.follows }
 
 -- a session is the plain tree's, at its end and after each of its lines
-pub is_plainly : (old : State) (tree : FileTree) (commands : List Command) (replies : List LineReply) (new : State) → old.memory.events ≡ [] → Stands old.memory.base tree → Session old commands replies new → IsPlainly tree commands replies new.memory
+pub is_plainly : (old : State) (tree : FileTree) (commands : List Command) (replies : List LineReply) (new : State) → old.memory.events ≡ [] → Stands (by_roles old.memory.base) tree → Session old commands replies new → IsPlainly tree commands replies new.memory
 is_plainly old tree commands replies new empty stands session =
     let run = plain_session old (fresh tree) commands replies new (follows_fresh old.memory tree empty stands) session in
     record { plain = run.plain; session = run.session; follows = run.follows }
 
-pub follows_tree : (old : State) (tree : FileTree) (commands : List Command) (replies : List LineReply) (new : State) → old.memory.events ≡ [] → Stands old.memory.base tree → Session old commands replies new → FollowsTree tree old commands replies new
+pub follows_tree : (old : State) (tree : FileTree) (commands : List Command) (replies : List LineReply) (new : State) → old.memory.events ≡ [] → Stands (by_roles old.memory.base) tree → Session old commands replies new → FollowsTree tree old commands replies new
 follows_tree old tree commands replies new empty stands session = record {
   whole = is_plainly old tree commands replies new empty stands session;
   prefixes = λ first rest are.

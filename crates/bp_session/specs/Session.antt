@@ -14,6 +14,7 @@ use Rattle.bp_scan.specs.Totals.{HasLive}
 use Rattle.bp_plain.specs.Calls.{Call, Answer}
 use Rattle.bp_plain.specs.Calls.Answer.{refused}
 use Rattle.bp_plain.specs.Calls.Refusal.{no_memory}
+use Rattle.bp_roles.specs.Mounted.{served_words}
 use Rattle.bp_volume.specs.Called.{Called}
 use Rattle.bp_script.specs.Commands.{Command}
 use Rattle.bp_script.specs.Commands.Command.{file_call, sync, space, crash, storm, cache, log, bad_syntax, too_long}
@@ -51,13 +52,13 @@ pub record Syncs (old : State) (reply : LineReply) (new : State) : Type 0 where
   pub reported : reply ≡ synced
   pub done : new ≡ synced_state old
 
--- The reply has the numbers of free and of live blocks of the current words.
+-- The reply has the numbers of free and of live blocks of the current words, as a mount sees them.
 pub record ReportsSpace (old : State) (reply : LineReply) (new : State) : Type 0 where
   pub free : ℕ
   pub live : ℕ
   pub reported : reply ≡ space_of free live
-  pub has_free : HasSpace (current_words old.memory) free
-  pub has_live : HasLive (current_words old.memory) live
+  pub has_free : HasSpace (served_words old.memory) free
+  pub has_live : HasLive (served_words old.memory) live
   pub same : new ≡ old
 
 -- A crash: the reply has the number of calls that survive, and the number of calls of the log.

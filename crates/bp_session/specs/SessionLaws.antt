@@ -3,6 +3,7 @@ use Rattle.std.specs.Prelude.{All, ◌≡◌, List, [], ◌++◌}
 use Rattle.bp_plain.specs.Export.{without_snapshot}
 use Rattle.bp_plain.specs.PlainTree.{FileTree, empty_tree}
 use Rattle.bp_plain.specs.Stands.{Stands}
+use Rattle.bp_roles.specs.Mounted.{by_roles, served_words}
 use Rattle.bp_script.specs.Commands.{Command}
 use Rattle.bp_script.specs.Export.{export_text}
 use Rattle.bp_script.specs.Texts.{LineReply}
@@ -11,13 +12,13 @@ use Rattle.bp_session.specs.PlainSession.{PlainSession, PlainState, ReportsNoSpa
 use Rattle.bp_session.specs.Following.{FollowsPlainState}
 use Rattle.bp_session.specs.Session.{Session, State}
 use Rattle.pm_epochs.specs.Replay.{IsRight, PowerCut, kept_calls, replay}
-use Rattle.pm_region.specs.Memory.{Memory, current_words}
+use Rattle.pm_region.specs.Memory.{Memory}
 
--- A session over words that represent the tree, from an empty log, is one of the abstract tree, and its words follow
--- that tree afterwards.
+-- A session over words that represent the tree to a mount, from an empty log, is one of the abstract tree, and its words
+-- follow that tree afterwards.
 abbrev pub IsOfTree : FileTree → State → List Command → List LineReply → State → Type 0
 IsOfTree tree old commands replies new =
-    old.memory.events ≡ [] → Stands old.memory.base tree → Session old commands replies new →
+    old.memory.events ≡ [] → Stands (by_roles old.memory.base) tree → Session old commands replies new →
     (plain : PlainState) × PlainSession (fresh tree) commands replies plain × FollowsPlainState new.memory plain
 
 -- A session whose words follow an abstract tree at its beginning is one of that tree, and its words follow the tree
@@ -27,16 +28,16 @@ StaysPlain plain old commands replies new =
     FollowsPlainState old.memory plain → Session old commands replies new →
     (after : PlainState) × PlainSession plain commands replies after × FollowsPlainState new.memory after
 
--- A crash at any point of the log leaves words that represent the tree after the calls that the crash keeps.
+-- A crash at any point of the log leaves words that represent to a mount the tree after the calls that the crash keeps.
 abbrev pub LeavesTrees : Memory → PlainState → Type 0
 LeavesTrees memory plain = (cut : PowerCut) → IsRight memory.events cut →
-    Stands (replay memory.base memory.events cut) (after_crash plain (kept_calls memory.events cut))
+    Stands (by_roles (replay memory.base memory.events cut)) (after_crash plain (kept_calls memory.events cut))
 
 -- A session over words that represent the tree, from an empty log, is one of the abstract tree, and any crash at its
 -- end leaves one of that tree's trees.
 abbrev pub KeepsCalls : FileTree → State → List Command → List LineReply → State → Type 0
 KeepsCalls tree old commands replies new =
-    old.memory.events ≡ [] → Stands old.memory.base tree → Session old commands replies new →
+    old.memory.events ≡ [] → Stands (by_roles old.memory.base) tree → Session old commands replies new →
     (plain : PlainState) × PlainSession (fresh tree) commands replies plain × LeavesTrees new.memory plain
 
 -- A session over two lists of commands splits: one over the first list leads to a state from which one over the
@@ -50,6 +51,6 @@ SplitsAt old first rest replies new = Session old (first ++ rest) replies new �
 -- space, ends in the tree without its snapshot.
 abbrev pub ExportMakesTree : FileTree → State → List LineReply → State → Type 0
 ExportMakesTree tree old replies new =
-    old.memory.events ≡ [] → Stands old.memory.base (empty_tree tree.version) →
+    old.memory.events ≡ [] → Stands (by_roles old.memory.base) (empty_tree tree.version) →
     Session old (commands_from [] (export_text tree)) replies new → All (λ reply. ¬ ReportsNoSpace reply) replies →
-    Stands (current_words new.memory) (without_snapshot tree)
+    Stands (served_words new.memory) (without_snapshot tree)

@@ -1,4 +1,5 @@
-//! Properties of sessions, in terms of an abstract tree.
+//! Properties of sessions, in terms of an abstract tree. An image represents the tree that a mount of it sees
+//! (`by_roles`).
 
 ghost use Rattle.std.specs.Prelude.{◌≡◌, List, [], map};
 ghost use Rattle.bp_layout.specs.Bytes.{image_bytes};

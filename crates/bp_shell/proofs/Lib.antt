@@ -1,5 +1,6 @@
 pub mod OpeningLaws
 pub mod FormattingLaws
+mod SeeingLaws
 pub mod RunningLaws
 mod FilesLaws
 mod EndingLaws

@@ -2,7 +2,7 @@
 use Rattle.std.proofs.Common.{zero, suc, refl, sym, ◌∙◌, ap, subst, arith, ◌≡◌, ◌≢◌, ℕ, ◌+◌, ◌*◌, ◌/◌, ◌%◌, ◌-◌, List, [], ◌∷◌, ◌++◌, length, take, false, true, inl, inr}
 use Rattle.std.specs.Prelude.{Some, None, ◌⊎◌}
 use Rattle.std.proofs.Math.Seq.{take-add, take-length}
-use Rattle.bp_limits.specs.Limits.{max_file_blocks}
+use Rattle.bp_limits.specs.Limits.{max_file_blocks, super_magic}
 use Rattle.bp_io.specs.Files.{Stays, FileSatisfies, Answers, Reads, blocks_of}
 use Rattle.bp_io.specs.Views.{Known, View, HasBytes}
 use Rattle.bp_session.proofs.OthersLaws.{stays_same, stays_stays}
@@ -13,7 +13,10 @@ use Rattle.bp_layout.specs.Free.{AreFreeBlocks, numbers_below}
 use Rattle.bp_layout.specs.Trees.{AreInSnapshot}
 use Rattle.bp_layout.specs.Whole.{HasSpace}
 use Rattle.bp_layout.specs.Checks.{number_of}
-use Rattle.bp_layout.specs.Words.{Image, block_count}
+use Rattle.bp_layout.specs.Words.{Image, block_count, word}
+use Rattle.bp_roles.specs.Mounted.{by_roles, roles_of}
+use Rattle.bp_roles.specs.Roles.{stored_at}
+use Rattle.bp_roles.specs.declared.roles.Roles.{Roles}
 use Rattle.bp_scan.specs.Faults.{IsFault}
 use Rattle.bp_scan.specs.Length.{wanted_length}
 use Rattle.bp_scan.specs.declared.fault.MountFault.{MountFault}
@@ -25,9 +28,11 @@ use Rattle.bp_session.specs.Files.{AreWordsOf64Bits, HasLength, Holds, HoldsFirs
 use Rattle.pm_raw.specs.Part.{Part}
 use Rattle.pm_raw.specs.Spelled.{spelled_words}
 use Rattle.pm_raw.proofs.SpelledLaws.{AreSmall, bytes_of_spelled}
-use Rattle.bp_shell.specs.Opening.{FindsImage, HasLoaded, HasSized, RefusesFile}
-use Rattle.bp_shell.specs.Opening.RefusesFile.{by_length, not_formatted, by_count, damaged}
+use Rattle.bp_shell.specs.Opening.{FindsImage, HasLoaded, HasSized, RefusesFile, RefusesImage}
+use Rattle.bp_shell.specs.Opening.RefusesFile.{by_length, by_image}
+use Rattle.bp_shell.specs.Opening.RefusesImage.{not_formatted, by_count, damaged}
 use Rattle.bp_shell.specs.Stops.{stop_by}
+use Rattle.bp_volume.specs.Faults.{IsMountFault, stored_fault}
 use Rattle.bp_shell.specs.declared.stop.Stop.{Stop}
 use Rattle.bp_shell.specs.declared.stop.Stop.TheVariants.{Missing, Outside, Refused, Memory}
 
@@ -154,11 +159,16 @@ no_refusal reported e = cc
 same_notice : (first second : Notice) → ◌≡◌ {A = Stop} (Refused first) (Refused second) → first ≡ second
 same_notice first second e = cc
 
-pub stop_refused : (fault : MountFault) (image : Image) (known : Known) (notice : Notice) → IsFault image fault → HasSized known image → stop_by fault ≡ Refused notice → RefusesFile known notice
-stop_refused f.NotFormatted image known reported why has e = rw (← same_notice NotFormatted reported e) (not_formatted has why)
-stop_refused (f.BadSize found wanted) image known reported why has e = rw (← same_notice (BadSize found wanted) reported e, why.2, why.3) (by_count has why.0 why.1)
-stop_refused (f.Damaged check place) image known reported why has e = rw (← same_notice (Damaged (number_of check) place) reported e) (damaged has why.0 why.1 why.2)
-stop_refused f.Memory image known reported why has e = absurd why
+-- a fault of an image that is seen by these roles, with the place where the word is stored
+refused_stored : (shown : MountFault) (image : Image) (roles : Roles) (notice : Notice) → IsFault image shown → stop_by (stored_fault roles shown) ≡ Refused notice → RefusesImage image (stored_at roles) notice
+refused_stored f.NotFormatted image roles reported why e = rw (← same_notice NotFormatted reported e) (not_formatted why)
+refused_stored (f.BadSize found wanted) image roles reported why e = rw (← same_notice (BadSize found wanted) reported e, why.2, why.3) (by_count why.0 why.1)
+refused_stored (f.Damaged check place) image roles reported why e = rw (← same_notice (Damaged (number_of check) (stored_at roles place)) reported e) (damaged why.0 why.1 why.2)
+refused_stored f.Memory image roles reported why e = absurd why
+
+pub stop_refused : (fault : MountFault) (image : Image) (known : Known) (notice : Notice) → IsMountFault image fault → HasSized known image → stop_by fault ≡ Refused notice → RefusesFile known notice
+stop_refused fault image file line why has e =
+    by_image has (refused_stored why.shown (by_roles image) (roles_of (word image super_magic)) line why.applies (ap stop_by (sym why.stored) ∙ e))
 
 pub stop_refused_length : (fault : MountFault) (known : Known) (len : ℕ) (notice : Notice) → HasLength known len → (fault ≡ f.BadSize len (wanted_length max_file_blocks len)) × (len ≢ wanted_length max_file_blocks len) → stop_by fault ≡ Refused notice → RefusesFile known notice
 stop_refused_length fault known len notice has why e =

@@ -4,7 +4,7 @@ use Rattle.std.specs.Prelude.{Some}
 use Rattle.std.specs.Io.KnownBytes.{Consumes, IsAtEnd}
 use Rattle.pm_region.specs.Memory.{Memory, current_words, drained}
 use Rattle.bp_layout.specs.Formatted.{version_of}
-use Rattle.bp_layout.specs.Words.{Image}
+use Rattle.bp_layout.specs.Words.{Image, word}
 use Rattle.bp_layout.specs.Bytes.{image_bytes}
 use Rattle.bp_plain.proofs.Existence.{stands_for, tree_of}
 use Rattle.bp_script.specs.Commands.{Command}
@@ -12,14 +12,17 @@ use Rattle.bp_script.specs.Texts.{LineReply}
 use Rattle.bp_script.specs.declared.notices.Notice.{Notice}
 use Rattle.bp_layout.specs.Whole.{IsFileSystem}
 use Rattle.bp_layout.proofs.BothTrees.{none_fails_whole}
-use Rattle.bp_limits.specs.Limits.{max_file_blocks, min_blocks}
+use Rattle.bp_limits.specs.Limits.{max_file_blocks, min_blocks, super_magic}
 use Rattle.bp_scan.specs.Length.{wanted_length}
 use Rattle.bp_session.specs.Acting.{state}
 use Rattle.bp_session.specs.Files.{AreWordsOf64Bits, IsAbsent}
 use Rattle.bp_session.specs.Lines.{commands_from}
 use Rattle.bp_replies.specs.Room.{gathered_size}
-use Rattle.bp_shell.specs.Opening.{HoldsFileSystem, IsShortFileSystem, RefusesFile, start}
-use Rattle.bp_shell.specs.Opening.RefusesFile.{by_length, not_formatted, by_count, damaged}
+use Rattle.bp_roles.specs.Mounted.{by_roles, roles_of}
+use Rattle.bp_roles.specs.Roles.{stored_at}
+use Rattle.bp_shell.specs.Opening.{HoldsFileSystem, IsShortFileSystem, RefusesFile, RefusesImage, start}
+use Rattle.bp_shell.specs.Opening.RefusesFile.{by_length, by_image}
+use Rattle.bp_shell.specs.Opening.RefusesImage.{not_formatted, by_count, damaged}
 use Rattle.bp_session.specs.Prefixes.{FollowsTree}
 use Rattle.bp_shell.specs.Running.{BeginsRun, BreaksOffPlainly, IsComplete, Runs, RunsBroken, RunsLong, RunsPart, RunsStopped, RunsUnsaved, Saves, SavesSomeBlocks, StopsPlainly}
 use Rattle.bp_session.specs.Outside.{Outside}
@@ -30,6 +33,7 @@ use Rattle.bp_session.specs.Session.{Session, State}
 use Rattle.bp_shell.specs.Statuses.{IsReadStatus, IsRunStatus}
 use Rattle.bp_shell.specs.declared.status.Status.{Status}
 use Rattle.bp_shell.specs.declared.status.Status.TheVariants as status
+use Rattle.bp_shell.proofs.SeeingLaws.{length-by_roles}
 use Rattle.bp_session.proofs.BlockLaws.{image_once, length-image_bytes}
 use Rattle.bp_session.proofs.PlainLaws.{follows_tree}
 use Rattle.bp_session.proofs.ServingLaws.{breaks_as, not_long, serves_as, session_append, stops_as}
@@ -38,10 +42,10 @@ use Rattle.bp_session.proofs.ServingLaws.{breaks_as, not_long, serves_as, sessio
 
 module _ (before after : Outside) (image : Image) (memory new : Memory) (found : HoldsFileSystem before.file image) (same : memory ≡ (start image).memory) where
   abbrev begins : (input : List ℕ) → Consumes before.left after.left input → BeginsRun before after
-  begins input read = record { image = image; found = found; tree = tree_of image found.well_formed.first found.well_formed.second; stands = stands_for image found.well_formed.first found.well_formed.second; input = input; read = read }
+  begins input read = record { image = image; found = found; tree = tree_of (by_roles image) found.well_formed.first found.well_formed.second; stands = stands_for (by_roles image) found.well_formed.first found.well_formed.second; input = input; read = read }
 
-  plainly : (commands : List Command) (replies : List LineReply) (end : State) → Session (start image) commands replies end → FollowsTree (tree_of image found.well_formed.first found.well_formed.second) (start image) commands replies end
-  plainly commands replies end session = follows_tree (start image) (tree_of image found.well_formed.first found.well_formed.second) commands replies end refl (stands_for image found.well_formed.first found.well_formed.second) session
+  plainly : (commands : List Command) (replies : List LineReply) (end : State) → Session (start image) commands replies end → FollowsTree (tree_of (by_roles image) found.well_formed.first found.well_formed.second) (start image) commands replies end
+  plainly commands replies end session = follows_tree (start image) (tree_of (by_roles image) found.well_formed.first found.well_formed.second) commands replies end refl (stands_for (by_roles image) found.well_formed.first found.well_formed.second) session
 
   pub runs_whole : (input : List ℕ) (holds : Image → Type 0) → Consumes before.left after.left input → IsAtEnd after.left → length input ≤ 1073741824
       → ServesAll (state memory image) new holds (commands_from [] input) before.taken after.taken → Saves after (current_words new) → after.is_flushed ≡ true → Runs before after
@@ -87,7 +91,7 @@ module _ (before after : Outside) (image : Image) (memory new : Memory) (found :
       }
 
   breaks_plainly : (holds : Image → Type 0) → ((i : Image) → holds i → Saves after i) → (commands : List Command) → BreaksOff gathered_size (state memory image) new holds commands before.taken after.taken
-      → BreaksOffPlainly image (tree_of image found.well_formed.first found.well_formed.second) new before after commands
+      → BreaksOffPlainly image (tree_of (by_roles image) found.well_formed.first found.well_formed.second) new before after commands
   breaks_plainly holds f commands breaks =
       let reported : BreaksOff gathered_size (start image) new (Saves after) commands before.taken after.taken =
       breaks_as (start image) new before.taken after.taken holds (Saves after) f gathered_size gathered_size commands (λ e. e) (rw same at breaks) in
@@ -109,7 +113,7 @@ module _ (before after : Outside) (image : Image) (memory new : Memory) (found :
   }
 
   stops_plainly : (partly : Image → Image → Type 0) → ((i j : Image) → partly i j → SavesSomeBlocks after i j) → (commands : List Command) → StopsAtSave (state memory image) new partly commands before.taken after.taken
-      → StopsPlainly image (tree_of image found.well_formed.first found.well_formed.second) new before after commands
+      → StopsPlainly image (tree_of (by_roles image) found.well_formed.first found.well_formed.second) new before after commands
   stops_plainly partly f commands stops =
       let reported : StopsAtSave (start image) new (SavesSomeBlocks after) commands before.taken after.taken = stops_as (start image) new before.taken after.taken partly (SavesSomeBlocks after) f commands (rw same at stops) in
       record { stops = reported; plainly = plainly _ _ _ reported.reported.session }
@@ -146,15 +150,21 @@ wanted_whole n least most = omega arith
 
 -- ---- completeness
 
+-- a file system is not refused
+not_wrong : (image : Image) (stored : ℕ → ℕ) (notice : Notice) → IsFileSystem image → RefusesImage image stored notice → ⊥
+not_wrong image stored line well (not_formatted wrong) = wrong (version_of image) well.first.formatted.has_magic
+not_wrong image stored line well (by_count has_magic wrong) = wrong well.first.formatted.counted
+not_wrong image stored line well (damaged {check = check} {place = place} has_magic counted wrong) = none_fails_whole image well check place wrong
+
 pub not_refused : (image : Image) (notice : Notice) → AreWordsOf64Bits image → IsShortFileSystem image → RefusesFile (Some (Some (image_bytes image))) notice → ⊥
 not_refused image line words well (by_length {len = len} has wrong) =
-    let size : len ≡ 4096 * (length image / 512) = omega (arith, has, length-image_bytes image, well.0.first.formatted.sized.whole) in
-    wrong (size ∙ sym (wanted_whole (length image / 512) well.0.first.formatted.sized.at_least well.1) ∙ ap (wanted_length max_file_blocks) (sym size))
-not_refused image line words well (not_formatted {image = other} has wrong) = let same = image_once image other words has.has.words has.has.bytes in wrong (version_of other) (rw (← same) well.0.first.formatted.has_magic)
-not_refused image line words well (by_count {image = other} has has_magic wrong) = let same = image_once image other words has.has.words has.has.bytes in wrong (rw (← same) well.0.first.formatted.counted)
-not_refused image line words well (damaged {image = other} {check = check} {place = place} has has_magic counted wrong) =
+    let sized = well.0.first.formatted.sized in
+    let long : length (by_roles image) ≡ length image = length-by_roles image in
+    let size : len ≡ 4096 * (length image / 512) = omega (arith, has, length-image_bytes image, sized.whole, long) in
+    wrong (size ∙ sym (wanted_whole (length image / 512) (omega (arith, sized.at_least, long)) well.1) ∙ ap (wanted_length max_file_blocks) (sym size))
+not_refused image line words well (by_image {image = other} has wrong) =
     let same = image_once image other words has.has.words has.has.bytes in
-    none_fails_whole image well.0 check place (rw same wrong)
+    not_wrong (by_roles other) (stored_at (roles_of (word other super_magic))) line (rw (← same) well.0) wrong
 
 pub complete : (answer : Status) (before after : Outside) → (answer ≡ status.Missing → IsAbsent before.file) → (answer ≡ status.SourceFailed → SourceFailed before after) → (answer ≡ status.SinkFailed → SinkFailed before after) → (answer ≡ status.FilesFailed → FilesFailed before after)
     → (answer ≡ status.LongInput → RunsLong before after) → (answer ≡ status.Refused → (notice : Notice) × RefusesFile before.file notice)

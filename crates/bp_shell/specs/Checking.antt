@@ -3,6 +3,7 @@ use Rattle.std.specs.Prelude.{◌≡◌, ℕ, List}
 use Rattle.bp_io.specs.Views.{Known}
 use Rattle.bp_layout.specs.Whole.{HasSpace}
 use Rattle.bp_layout.specs.Words.{Image}
+use Rattle.bp_roles.specs.Mounted.{by_roles}
 use Rattle.bp_scan.specs.Totals.{HasTotals}
 use Rattle.bp_scan.specs.declared.totals.Totals.{Totals}
 use Rattle.bp_script.specs.Sayings.{notice_text}
@@ -21,11 +22,11 @@ pub record IsClean (image : Image) (notice : Notice) : Type 0 where
   pub leaves : HasSpace image free
   pub line : notice ≡ Clean totals.files totals.dirs totals.bytes totals.live free
 
--- FILE holds a file system, and the line has its totals.
+-- FILE holds a file system, and the line has its totals, as a mount sees them.
 pub record Checks (known : Known) (notice : Notice) : Type 0 where
   pub image : Image
   pub found : HoldsFileSystem known image
-  pub clean : IsClean image notice
+  pub clean : IsClean (by_roles image) notice
 
 -- FILE holds a file system, and the text is the line with its totals.
 pub record ChecksBy (known : Known) (text : List ℕ) : Type 0 where

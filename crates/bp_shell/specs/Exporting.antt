@@ -10,6 +10,7 @@ use Rattle.bp_plain.specs.Export.{HasShortPaths}
 use Rattle.bp_plain.specs.PlainTree.{FileTree}
 use Rattle.bp_plain.specs.Stands.{Stands}
 use Rattle.bp_replies.specs.Taking.{TakesPart}
+use Rattle.bp_roles.specs.Mounted.{by_roles}
 use Rattle.bp_script.specs.Export.{export_text}
 use Rattle.bp_script.specs.Sayings.{notice_text}
 use Rattle.bp_script.specs.declared.notices.Notice.{Notice}
@@ -44,11 +45,11 @@ PrintsTreeOf image answer sink sink_now = (tree : FileTree) → Stands image tre
 
 -- ---- a file
 
--- FILE holds a file system, which represents this tree.
+-- FILE holds a file system, which represents this tree to a mount.
 pub record HoldsTree (known : Known) (tree : FileTree) : Type 0 where
   pub image : Image
   pub found : HoldsFileSystem known image
-  pub stands : Stands image tree
+  pub stands : Stands (by_roles image) tree
 
 -- FILE holds a file system, a call can spell each path of its tree, and the text is the script that makes this tree.
 pub record Exports (known : Known) (text : List ℕ) : Type 0 where

@@ -7,6 +7,7 @@ use Rattle.bp_layout.specs.Words.{Image}
 use Rattle.bp_layout.specs.Bytes.{image_bytes}
 use Rattle.bp_plain.specs.PlainTree.{FileTree}
 use Rattle.bp_plain.specs.Stands.{Stands}
+use Rattle.bp_roles.specs.Mounted.{by_roles}
 use Rattle.bp_script.specs.Texts.{LineReply}
 use Rattle.bp_session.specs.Following.{IsPlainly}
 use Rattle.bp_session.specs.Lines.{commands_from, text_of}
@@ -14,14 +15,14 @@ use Rattle.bp_session.specs.Outside.{Outside, outside}
 use Rattle.bp_shell.specs.declared.status.Status.{Status}
 use Rattle.bp_shell.specs.declared.status.Status.TheVariants as status
 
--- FILE held an image that represents a tree. The script was read to its end. The text that was printed is the replies of
--- an abstract session that starts from the tree. FILE now holds the words of a memory that follows the session's last
--- state: the tree now, the tree after each call, and the tree after a power failure at any moment.
+-- FILE held an image that represents a tree to a mount. The script was read to its end. The text that was printed is
+-- the replies of an abstract session that starts from the tree. FILE now holds the words of a memory that follows the
+-- session's last state: the tree now, the tree after each call, and the tree after a power failure at any moment.
 pub record KeepsGuarantee (before after : Outside) : Type 0 where
   pub image : Image
   pub file : HasBytes before.file (image_bytes image)
   pub tree : FileTree
-  pub represents : Stands image tree
+  pub represents : Stands (by_roles image) tree
   pub script : List ℕ
   pub read : Consumes before.left after.left script
   pub all : IsAtEnd after.left

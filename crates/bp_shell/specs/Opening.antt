@@ -11,6 +11,8 @@ use Rattle.bp_limits.specs.declared.version.Version.{Version}
 use Rattle.bp_layout.specs.Checks.{number_of}
 use Rattle.bp_layout.specs.declared.check.Check.{Check}
 use Rattle.bp_layout.specs.Whole.{FailsWhole, IsFileSystem}
+use Rattle.bp_roles.specs.Mounted.{by_roles, roles_of}
+use Rattle.bp_roles.specs.Roles.{stored_at}
 use Rattle.bp_scan.specs.Length.{wanted_length}
 use Rattle.bp_script.specs.declared.notices.Notice.{Notice}
 use Rattle.bp_script.specs.declared.notices.Notice.TheVariants.{NotFormatted, BadSize, Damaged}
@@ -19,14 +21,14 @@ use Rattle.bp_session.specs.Session.{State}
 use Rattle.pm_raw.specs.Part.{Part}
 use Rattle.pm_region.specs.Memory.{Memory}
 
--- The file holds this image, which is a file system.
+-- The file holds this image, which is a file system to a mount.
 pub record HoldsFileSystem (known : Known) (image : Image) : Type 0 where
   pub has : HasImage known image
-  pub well_formed : IsFileSystem image
+  pub well_formed : IsFileSystem (by_roles image)
 
 -- A file system of at most as many blocks as the program reads from FILE.
 abbrev pub IsShortFileSystem : Image → Type 0
-IsShortFileSystem image = IsFileSystem image × (block_count image ≤ max_file_blocks)
+IsShortFileSystem image = IsFileSystem (by_roles image) × (block_count image ≤ max_file_blocks)
 
 -- The file has the bytes of an image of a length that an image may have.
 pub record HasSized (known : Known) (image : Image) : Type 0 where
@@ -58,21 +60,24 @@ pub record HasLoaded (files : View) (count : ℕ) (part : Part) : Type 0 where
   pub long : length part.words ≡ block_words * count
   pub size : part.size ≡ block_words * files.blocks
 
--- Why a file is refused, with the line that reports it. Its length is no image's; or it is, and word 0 is the magic
--- number of no version, word 1 is not its number of blocks, or both are right and the check with this number fails at
--- this word.
+-- Why an image is refused, with the line that reports it. Word 0 is the magic number of no version, or word 1 is not its
+-- number of blocks. Or both are right, and the check with this number fails at a word; the line has the place where that
+-- word is stored.
+pub data RefusesImage (image : Image) (stored : ℕ → ℕ) : Notice → Type 0 where
+  not_formatted : ((version : Version) → word image super_magic ≢ magic version) → RefusesImage image stored NotFormatted
+  by_count : word image super_magic ≡ magic (version_of image) → word image super_blocks ≢ block_count image
+      → RefusesImage image stored (BadSize (block_size * block_count image) (min (block_size * word image super_blocks) (2 ^ 64 - 1)))
+  damaged : {check : Check} {place : ℕ} → word image super_magic ≡ magic (version_of image)
+      → word image super_blocks ≡ block_count image → FailsWhole image check place
+      → RefusesImage image stored (Damaged (number_of check) (stored place))
+
+-- Why a file is refused, with the line that reports it. Its length is no image's; or it is, and its image is refused as a
+-- mount sees it.
 pub data RefusesFile (known : Known) : Notice → Type 0 where
   by_length : {len : ℕ} → HasLength known len → len ≢ wanted_length max_file_blocks len
       → RefusesFile known (BadSize len (wanted_length max_file_blocks len))
-  not_formatted : {image : Image} → HasSized known image
-      → ((version : Version) → word image super_magic ≢ magic version) → RefusesFile known NotFormatted
-  by_count : {image : Image} → HasSized known image → word image super_magic ≡ magic (version_of image)
-      → word image super_blocks ≢ block_count image →
-      RefusesFile known (BadSize (block_size * block_count image)
-      (min (block_size * word image super_blocks) (2 ^ 64 - 1)))
-  damaged : {image : Image} {check : Check} {place : ℕ} → HasSized known image
-      → word image super_magic ≡ magic (version_of image) → word image super_blocks ≡ block_count image →
-      FailsWhole image check place → RefusesFile known (Damaged (number_of check) place)
+  by_image : {image : Image} {notice : Notice} → HasSized known image
+      → RefusesImage (by_roles image) (stored_at (roles_of (word image super_magic))) notice → RefusesFile known notice
 
 -- The state in which a run begins.
 abbrev pub start : Image → State

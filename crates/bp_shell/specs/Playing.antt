@@ -1,6 +1,6 @@
 -- The result of `play FILE --seed S --count C`, and its conditions.
 use Rattle.std.specs.Prelude.{◌≡◌, ◌++◌, ℕ, List, codes, decimal, flat_map}
-use Rattle.pm_region.specs.Memory.{Memory, current_words}
+use Rattle.pm_region.specs.Memory.{Memory}
 use Rattle.bp_io.specs.Views.{Known}
 use Rattle.bp_layout.specs.Whole.{HasSpace}
 use Rattle.bp_layout.specs.Words.{Image}
@@ -9,6 +9,7 @@ use Rattle.bp_plain.specs.Stands.{Stands}
 use Rattle.bp_play.specs.Playing.{Plays}
 use Rattle.bp_play.specs.Turns.{turns}
 use Rattle.bp_play.specs.declared.summary.Summary.{Summary}
+use Rattle.bp_roles.specs.Mounted.{by_roles, served_words}
 use Rattle.bp_scan.specs.Totals.{HasTotals}
 use Rattle.bp_scan.specs.declared.totals.Totals.{Totals}
 use Rattle.bp_session.specs.Acting.{state}
@@ -53,8 +54,8 @@ play_text count summary totals free = summary_text count summary ++ tree_text to
 pub record EndsPlay (old : Memory) (seed count : ℕ) (summary : Summary) (totals : Totals) (free : ℕ) : Type 0 where
   pub new : Memory
   pub plays : Plays old new seed count summary
-  pub holds : HasTotals (current_words new) totals
-  pub leaves : HasSpace (current_words new) free
+  pub holds : HasTotals (served_words new) totals
+  pub leaves : HasSpace (served_words new) free
 
 -- FILE holds a file system, a play over a region of its words ended with this text, and its replies are those of an
 -- abstract tree.
@@ -66,7 +67,7 @@ pub record PlaysFile (known : Known) (seed count : ℕ) (text : List ℕ) : Type
   pub free : ℕ
   pub ends : EndsPlay (start image).memory seed count summary totals free
   pub reported : text ≡ play_text count summary totals free
-  pub plainly : (tree : FileTree) → Stands image tree
+  pub plainly : (tree : FileTree) → Stands (by_roles image) tree
       → FollowsTree tree (start image) (turns seed count) ends.plays.replies (state ends.new image)
 
 -- The result of `play FILE --seed S --count C`, and its conditions.

@@ -12,6 +12,7 @@ use Rattle.bp_plain.specs.Stands.{Stands}
 use Rattle.bp_limits.specs.declared.version.Version.{Version}
 use Rattle.bp_command.specs.Programs.{Program, Requests}
 use Rattle.bp_command.specs.Programs.Program.{formats, runs, checks, plays, exports}
+use Rattle.bp_roles.specs.Mounted.{by_roles}
 use Rattle.bp_script.specs.Commands.{Command}
 use Rattle.bp_script.specs.Commands.Command.{sync}
 use Rattle.bp_script.specs.declared.notices.Notice.TheVariants.{Formatted}
@@ -56,12 +57,12 @@ pub record IsMountedFrom (name : List ℕ) (image : Image) (before now : View) (
   pub calm : now.faults ≡ before.faults
   pub kept : KeepsFiles before now
 
--- A run began: FILE holds a file system, which represents a tree, and this input was read.
+-- A run began: FILE holds a file system, which represents a tree to a mount, and this input was read.
 pub record BeginsRun (before after : Outside) : Type 0 where
   pub image : Image
   pub found : HoldsFileSystem before.file image
   pub tree : FileTree
-  pub stands : Stands image tree
+  pub stands : Stands (by_roles image) tree
   pub input : List ℕ
   pub read : Consumes before.left after.left input
 

@@ -1,14 +1,21 @@
--- What a scan of an image finds.
-use Rattle.std.specs.Prelude.{◌≡◌, ◌*◌, ℕ, List, length}
+-- A region as a scan reads it, and what a scan of an image finds.
+use Rattle.std.specs.Prelude.{◌≡◌, ◌*◌, ℕ, List, [], length}
 use Rattle.bp_free.specs.Set.{Set, has}
 use Rattle.bp_layout.specs.Free.{AreFreeBlocks}
 use Rattle.bp_layout.specs.Names.{AreCounts}
 use Rattle.bp_layout.specs.Trees.{AreInSnapshot}
 use Rattle.bp_layout.specs.Whole.{IsFileSystem}
-use Rattle.bp_layout.specs.Words.{Image, block_count}
-use Rattle.bp_limits.specs.Limits.{block_inodes}
+use Rattle.bp_layout.specs.Words.{Image, block_count, word}
+use Rattle.bp_limits.specs.Limits.{block_inodes, super_magic}
+use Rattle.bp_roles.specs.Mounted.{roles_of}
+use Rattle.bp_roles.specs.Seen.{MemoryByRoles}
 use Rattle.bp_scan.specs.Totals.{HasTotals}
 use Rattle.bp_scan.specs.declared.totals.Totals.{Totals}
+
+-- The region is seen as a mount sees it, and its log is empty: what is seen is its image `by_roles`.
+pub record IsSeenMounted (region : MemoryByRoles) : Type 0 where
+  pub fresh : region.memory.events ≡ []
+  pub roles : region.roles ≡ roles_of (word region.memory.base super_magic)
 
 -- The image is a file system. A scan found the blocks of its snapshot, the blocks that are in neither tree, the
 -- number of links of each inode in the first tree, and the totals.

@@ -3,14 +3,16 @@
 ghost use Rattle.bp_io.specs.Views.{Known};
 ghost use Rattle.bp_layout.specs.Formatted.{IsSized};
 ghost use Rattle.bp_layout.specs.Whole.{IsFileSystem};
+ghost use Rattle.bp_roles.specs.Mounted.{by_roles};
 ghost use Rattle.bp_script.specs.declared.notices.Notice.{Notice};
 ghost use Rattle.bp_shell.specs.Answering.{EndsUnread};
 ghost use Rattle.bp_shell.specs.Checking.{CheckOutcome, Checks, IsClean};
 ghost use Rattle.bp_session.specs.Files.{HasImage};
 ghost use Rattle.bp_shell.specs.Opening.{OnlyReads, RefusesFile};
+ghost use Rattle.bp_shell.specs.Scanning.{IsSeenMounted};
 ghost use Rattle.bp_shell.specs.Stops.{HasStopCause, IsReason};
 ghost use Rattle.bp_shell.specs.declared.stop.Stop.TheVariants.{Memory, Refused};
-ghost use Rattle.std.specs.Prelude.{◌≡◌, ◌⊎◌, [], IfErr, IfOk, OnOk};
+ghost use Rattle.std.specs.Prelude.{◌≡◌, ◌⊎◌, IfErr, IfOk, OnOk};
 
 use crate::image_file::load_file;
 use crate::output::{print, report_stop};
@@ -18,17 +20,18 @@ use crate::scan::scan_image;
 use crate::status::Status;
 use crate::stop::Stop;
 use bp_io::{Access, Failed, Files, Sink};
+use bp_roles::RegionByRoles;
 use bp_script::Notice;
 use pm_raw::RawRegion;
 use std::alloc::Global;
 
-/// Scans an image, and returns the line with its totals.
-fn survey(alloc: Global, region: &RawRegion) -> Result<Notice, Stop>
-    requires fresh { region.now.events ≡ [] }
-    requires sized { IsSized region.now.base }
-    ensures well_formed { OnOk result (IsFileSystem region.now.base) }
-    ensures clean { IfOk result (λ notice. IsClean region.now.base notice) }
-    ensures refused { IfErr result (λ stop. (known : Known) (notice : Notice) → HasImage known region.now.base →
+/// Scans an image, seen as a mount sees it, and returns the line with its totals.
+fn survey(alloc: Global, region: &RegionByRoles<RawRegion>) -> Result<Notice, Stop>
+    requires seen { IsSeenMounted region.now }
+    requires sized { IsSized region.now.memory.base }
+    ensures well_formed { OnOk result (IsFileSystem (by_roles region.now.memory.base)) }
+    ensures clean { IfOk result (IsClean (by_roles region.now.memory.base)) }
+    ensures refused { IfErr result (λ stop. (known : Known) (notice : Notice) → HasImage known region.now.memory.base →
         stop ≡ Refused notice → RefusesFile known notice) }
     ensures kinds { IfErr result (λ stop. ((notice : Notice) × (stop ≡ Refused notice)) ⊎ (stop ≡ Memory)) }
 {
@@ -51,7 +54,7 @@ fn examine<F: Files>(alloc: Global, name: &str, files: &mut F) -> Result<Notice,
     ensures flushed { (F.view files.new).is_flushed ≡ (F.view files.old).is_flushed }
 {
     let region = load_file(alloc, name, Access::Read, files)?;
-    survey(alloc, &region)
+    survey(alloc, &RegionByRoles::by_magic(region))
 }
 
 /// Checks whether the file of a name is a file system, and prints its totals. The status is `Done` if it is one,

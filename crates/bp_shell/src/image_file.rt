@@ -8,6 +8,7 @@ ghost use Rattle.bp_layout.specs.Bytes.{image_bytes};
 ghost use Rattle.bp_layout.specs.Whole.{IsFileSystem};
 ghost use Rattle.bp_layout.specs.Words.{Image};
 ghost use Rattle.bp_limits.specs.Limits.{block_size, block_words, log_events, max_file_blocks};
+ghost use Rattle.bp_roles.specs.Mounted.{by_roles};
 ghost use Rattle.bp_script.specs.declared.notices.Notice.{Notice};
 ghost use Rattle.bp_session.specs.Files.{AreWordsOf64Bits, CanSave, HasImage, Holds, HoldsFirstBlocks};
 ghost use Rattle.bp_shell.specs.Opening.{AttachesAs, FindsImage, HasLoaded, HasSized, HoldsFileSystem, IsStart, Mounts, OnlyReads, RefusesFile};
@@ -161,7 +162,7 @@ fn mount(alloc: Global, region: RawRegion) -> Result<Volume<RawRegion>, Stop>
     requires starts { IsStart region.base region }
     requires sized { IsSized region.base }
     ensures same { IfOk result (λ volume. volume ≡ region) }
-    ensures well_formed { OnOk result (IsFileSystem region.base) }
+    ensures well_formed { OnOk result (IsFileSystem (by_roles region.base)) }
     ensures refused { IfErr result (λ stop. (known : Known) (notice : Notice) → HasImage known region.base →
         stop ≡ Refused notice → RefusesFile known notice) }
     ensures kinds { IfErr result (λ stop. ((notice : Notice) × (stop ≡ Refused notice)) ⊎ (stop ≡ Memory)) }

@@ -14,11 +14,10 @@ use Rattle.bp_free.specs.Set.{has}
 use Rattle.bp_changes.specs.Sets.{IsExact, in_snapshot_of}
 use Rattle.bp_plain.specs.Calls.{Call, Answer}
 use Rattle.bp_limits.specs.Limits.{call_room}
-use Rattle.bp_volume.specs.FileCall.{FileCall}
 use Rattle.bp_volume.specs.Carried.{ChangesTree, CarriesOut, PerformsCall}
 use Rattle.bp_volume.specs.Carried.CarriesOut.{changed, unchanged}
 use Rattle.bp_volume.specs.Volume.{IsVolume}
-use Rattle.bp_volume.proofs.FileCallLaws.{exact_parts, file_call_changed, file_call_unchanged, volume-ended}
+use Rattle.bp_volume.proofs.FileCallLaws.{SeenCall, exact_parts, file_call_changed, file_call_unchanged, volume-ended}
 use Rattle.bp_volume.proofs.ChangeLaws.{snapshot_once}
 use Rattle.bp_volume.proofs.SafeLaws.{file_system_after, snapshot_after, whole_safe}
 
@@ -66,6 +65,6 @@ carried_volume {R} {call} {answer} middle made new parts after region pending vo
 
 -- the whole call
 pub file_call_carried : (old middle made new : Memory) (call : Call) (answer : Answer) → middle ≡ with_room call_room old → IsSafe SameFiles middle → IsFileSystem (current_words middle) →
-    CarriesOut middle call answer made → Adds made new (CallEnd ∷ []) → FileCall old call answer new
+    CarriesOut middle call answer made → Adds made new (CallEnd ∷ []) → SeenCall old call answer new
 file_call_carried old middle made new call answer room safe is (changed does) ends = file_call_changed old middle made new call answer room safe is does ends
 file_call_carried old middle made new call answer room safe is (unchanged same reports) ends = file_call_unchanged old middle new call answer room safe (rw same at ends) reports

@@ -1,6 +1,8 @@
 -- A call on a file, from its parts.
-use Rattle.std.proofs.Common.{◌≡◌, ℕ, [], ◌∷◌, ◌++◌, true, false, refl, sym, ◌∙◌, ap, subst}
+use Rattle.std.proofs.Common.{◌≡◌, ℕ, List, [], ◌∷◌, ◌++◌, true, false, refl, sym, ◌∙◌, ap, subst}
+use Rattle.pm_epochs.specs.declared.event.Event.{Event}
 use Rattle.pm_epochs.specs.declared.event.Event.TheVariants.{CallEnd}
+use Rattle.pm_epochs.specs.Log.{call_ends}
 use Rattle.bp_changes.specs.Performs.{IsShort}
 use Rattle.bp_changes.proofs.PerformsLaws.{performed, performs_adds, performs_short, performs_no_call_end}
 use Rattle.pm_region.specs.Memory.{Memory, current_words, with_room, Adds}
@@ -12,11 +14,13 @@ use Rattle.bp_layout.specs.Trees.{AreInSnapshot}
 use Rattle.bp_layout.specs.Whole.{IsFileSystem, SameFiles}
 use Rattle.bp_layout.specs.Words.{Image}
 use Rattle.bp_plain.specs.Calls.{Call, Answer}
+use Rattle.bp_plain.specs.PlainTree.{FileTree}
+use Rattle.bp_plain.specs.Stands.{Stands}
 use Rattle.bp_changes.specs.Sets.{IsExact}
 use Rattle.bp_volume.specs.Carried.{ChangesTree, PerformsCall}
-use Rattle.bp_volume.specs.Step.{IsChange}
+use Rattle.bp_volume.specs.Step.{IsChange, Step}
 use Rattle.bp_limits.specs.Limits.{call_room}
-use Rattle.bp_volume.specs.FileCall.{FileCall}
+use Rattle.bp_volume.specs.FileCall.{IsCheap, has_changed}
 use Rattle.bp_volume.specs.FileCall.IsCheap.{changes}
 use Rattle.bp_volume.specs.Queries.{Answers}
 use Rattle.bp_volume.specs.Volume.{IsVolume}
@@ -46,9 +50,20 @@ volume-ended old new parts region pending volume adds =
 
 -- ---- calls, from the memory after the room that they made
 
+-- What a call on files does to a memory, by the memory's own words. At a view of a region this is what the call does as the
+-- view shows it; `raw_call` (`RolesLaws`) makes the call on the region below of it.
+pub record SeenCall (old : Memory) (call : Call) (answer : Answer) (new : Memory) : Type 0 where
+  pub added : List Event
+  pub no_call_end : call_ends added ≡ 0
+  pub adds : Adds (with_room call_room old) new (added ++ CallEnd ∷ [])
+  pub step : Step (current_words old) call answer (current_words new)
+  pub silent : (tree : FileTree) → Stands (current_words old) tree → has_changed tree call answer ≡ false → added ≡ []
+  pub short : (tree : FileTree) → Stands (current_words old) tree → has_changed tree call answer ≡ true → IsCheap (current_words old) call (current_words new) added
+  pub safe : IsSafe SameFiles new
+
 -- a call that changes nothing: its marker is all that it adds
 pub file_call_unchanged : (old middle new : Memory) (call : Call) (answer : Answer) → middle ≡ with_room call_room old → IsSafe SameFiles middle → Adds middle new (CallEnd ∷ []) →
-    Answers (current_words middle) call answer → FileCall old call answer new
+    Answers (current_words middle) call answer → SeenCall old call answer new
 file_call_unchanged old middle new call answer room safe adds reports =
     let before : current_words middle ≡ current_words old = ap current_words room ∙ current_words-with_room call_room old in
     let words : current_words new ≡ current_words old = current_words-adds middle new (CallEnd ∷ []) adds ∙ before in
@@ -65,7 +80,7 @@ file_call_unchanged old middle new call answer room safe adds reports =
 
 -- a call that changes the tree: a preparation, one store alone in its epoch, and its marker
 pub file_call_changed : (old middle committed new : Memory) (call : Call) (answer : Answer) → middle ≡ with_room call_room old → IsSafe SameFiles middle → IsFileSystem (current_words middle) →
-    PerformsCall middle call answer committed → Adds committed new (CallEnd ∷ []) → FileCall old call answer new
+    PerformsCall middle call answer committed → Adds committed new (CallEnd ∷ []) → SeenCall old call answer new
 file_call_changed old middle committed new call answer room safe is does ends =
     let events = performed does.in_snapshot middle committed does.change (ChangesTree call answer) does.performs in
     let before : current_words middle ≡ current_words old = ap current_words room ∙ current_words-with_room call_room old in

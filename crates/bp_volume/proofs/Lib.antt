@@ -37,6 +37,7 @@ pub mod CrashedLaws
 pub mod WholeLaws
 pub mod SharingLaws
 pub mod RemovedNames
+pub mod RolesLaws
 pub mod CachedLaws
 pub mod SuperLaws
 pub mod LiveBlocks
@@ -44,3 +45,5 @@ pub mod SnapLaws
 pub mod SnapshotAsking
 pub mod ToThreeLaws
 pub mod ClearedLaws
+pub mod ViewLaws
+pub mod MountLaws

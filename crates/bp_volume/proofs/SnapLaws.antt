@@ -202,6 +202,7 @@ module _ (memory made : Memory) (is : IsFileSystem (current_words memory)) (allo
     quiet = snap_quiet image is allows none;
     piece = record { no_call_end = refl; few_barriers = omega arith; few_stores = omega arith };
     beside = ((omega arith, (λ e. omega (arith, e)), (λ e. omega (arith, e))), ((omega arith, (λ e. omega (arith, e)), (λ e. omega (arith, e))), tt));
+    leaves = λ roles outside. ((λ e. absurd (omega (arith, e))), ((λ e. absurd (omega (arith, e))), tt));
     reported = refl;
     well = rw words_snapped (snapped_file_system image is allows none);
     changes = rw words_snapped (snap_changes image is allows none);
@@ -309,6 +310,7 @@ module _ (memory made : Memory) (is : IsFileSystem (current_words memory)) (ther
     quiet = quiet_none (current_words memory) is;
     piece = record { no_call_end = refl; few_barriers = omega arith; few_stores = omega arith };
     beside = ((omega arith, (λ e. omega (arith, e)), (λ e. omega (arith, e))), tt);
+    leaves = λ roles outside. ((λ e. absurd (omega (arith, e))), tt);
     reported = refl;
     well = rw words_unsnapped (unsnapped_file_system (current_words memory) is there);
     changes = rw words_unsnapped (unsnap_changes (current_words memory) is there);

@@ -1,6 +1,6 @@
 -- Calls that store words of the superblock beside the first tree, as far as their marker: a quiet preparation, and then
 -- one store alone in its epoch.
-use Rattle.std.proofs.Common.{◌≡◌, ◌≢◌, ℕ, ◌*◌, ◌<◌, ◌≤◌, List, [], ◌∷◌, ◌++◌, true, false, None, Some, refl, sym, ◌∙◌, ap, subst, arith}
+use Rattle.std.proofs.Common.{◌≡◌, ◌≢◌, ℕ, ◌*◌, ◌<◌, ◌≤◌, List, [], ◌∷◌, ◌++◌, true, false, None, Some, inl, inr, refl, sym, ◌∙◌, ap, subst, arith}
 use Rattle.std.specs.Prelude.{◌&&◌, is_none, if◌then◌else◌}
 use Rattle.pm_epochs.specs.declared.event.Event.{Event}
 use Rattle.pm_epochs.specs.declared.event.Event.TheVariants.{CallEnd}
@@ -13,19 +13,29 @@ use Rattle.pm_region.specs.Safe.{AddsCommit, IsSafe}
 use Rattle.pm_region.proofs.MemoryLaws.{adds_both, capacity-adds, current_words-adds, current_words-with_room}
 use Rattle.pm_region.proofs.SafeLaws.{room_after_commit, safe_committed}
 use Rattle.bp_free.specs.declared.parts.Parts.{Parts}
+use Rattle.bp_layout.specs.Formatted.{version_of}
 use Rattle.bp_layout.specs.Trees.{AreInSnapshot}
 use Rattle.bp_layout.specs.Whole.{IsFileSystem, SameFiles}
 use Rattle.bp_layout.specs.Words.{Image}
 use Rattle.bp_layout.proofs.BesideTrees.{SameTrees}
-use Rattle.bp_limits.specs.Limits.{call_room}
+use Rattle.bp_limits.specs.CallLimits.{allows_attributes}
+use Rattle.bp_limits.specs.Limits.{call_room, magic, super_magic, version_at}
+use Rattle.bp_limits.specs.declared.version.Version.{Version}
+use Rattle.bp_limits.specs.declared.version.Version.TheVariants.{One, Two, Three}
 use Rattle.bp_plain.specs.Calls.{Answer, Call}
 use Rattle.bp_plain.specs.Calls.Answer.{done}
 use Rattle.bp_plain.specs.Plain.{answer, answer_or, changes, is_changing, plain, refusal, tree_after}
 use Rattle.bp_plain.specs.PlainTree.{FileTree}
 use Rattle.bp_plain.specs.Stands.{Stands}
 use Rattle.bp_changes.specs.Sets.{IsExact, in_snapshot_of}
+use Rattle.bp_roles.specs.Mounted.{roles_of}
+use Rattle.bp_roles.specs.Roles.{exchanged, swapped}
+use Rattle.bp_roles.specs.declared.roles.Roles.{Roles}
+use Rattle.bp_roles.specs.declared.roles.Roles.TheVariants.{OutsideA}
+use Rattle.bp_roles.proofs.KeptLaws.{IsOutside, LeavesSeen}
+use Rattle.bp_roles.proofs.SwapLaws.{swapped-first}
 use Rattle.bp_volume.specs.Carried.{ChangesTree}
-use Rattle.bp_volume.specs.FileCall.{FileCall, has_changed}
+use Rattle.bp_volume.specs.FileCall.{has_changed}
 use Rattle.bp_volume.specs.FileCall.IsCheap.{reports}
 use Rattle.bp_volume.specs.SuperEvents.{super_events}
 use Rattle.bp_volume.specs.Step.{Fits, StepFor}
@@ -33,7 +43,7 @@ use Rattle.bp_volume.specs.Step.StepFor.{changed}
 use Rattle.bp_volume.specs.Queries.{Answers}
 use Rattle.bp_volume.specs.Volume.{IsVolume}
 use Rattle.bp_volume.proofs.CarriedLaws.{blocks-adds}
-use Rattle.bp_volume.proofs.FileCallLaws.{exact_parts, file_call_unchanged, volume-ended}
+use Rattle.bp_volume.proofs.FileCallLaws.{SeenCall, exact_parts, file_call_unchanged, volume-ended}
 use Rattle.bp_volume.proofs.SafeLaws.{whole_self}
 use Rattle.bp_volume.proofs.WholeLaws.{whole_equivalence}
 
@@ -50,6 +60,22 @@ trees_beside Stored low not_root not_size old new each = record {
   blocks = λ place high. same_where_none (AnyAt Stored) old new each place (λ value at. omega (arith, low place at, high));
 }
 
+-- An image before version 3 has the roles `OutsideA`, so a magic number that is seen in it is one that is stored. None of those
+-- that an upgrade stores is the second one of version 3.
+outside_early : (roles : Roles) (image : Image) → allows_attributes (version_of image) ≡ false → IsOutside roles image → roles ≡ OutsideA
+outside_early roles image early (inl same) = same
+outside_early roles image early (inr marked) = absurd (let both : true ≡ false = sym (ap (λ value. allows_attributes (version_at value)) marked.1) ∙ early in cc)
+
+first_magic : (version : Version) → roles_of (exchanged (magic Three) (magic Three) (magic version)) ≡ OutsideA
+first_magic One = refl
+first_magic Two = refl
+first_magic Three = refl
+
+pub magic_leaves : (version : Version) (roles : Roles) (image : Image) → allows_attributes (version_of image) ≡ false → IsOutside roles image → LeavesSeen roles super_magic (magic version)
+magic_leaves version roles image early outside there =
+    subst (λ roles. roles_of (swapped roles super_magic (magic version)) ≡ roles) (sym (outside_early roles image early outside))
+    (ap roles_of (swapped-first OutsideA (magic version)) ∙ first_magic version)
+
 -- The call has these events, makes a file system, and changes each tree for which the image stands.
 pub record StoresSuper (memory made : Memory) (call : Call) : Type 0 where
   pub prepared : List Event
@@ -59,6 +85,8 @@ pub record StoresSuper (memory made : Memory) (call : Call) : Type 0 where
   pub quiet : IsQuiet SameFiles (current_words memory) prepared
   pub piece : IsPiece 2 5 (prepared ++ commit place value)
   pub beside : StoresMay (AnyAt IsBeside) (prepared ++ commit place value)
+  -- through a view by roles outside a transaction: a mount would take the same roles after each of them
+  pub leaves : (roles : Roles) → IsOutside roles (current_words memory) → StoresMay (LeavesSeen roles) (prepared ++ commit place value)
   pub reported : super_events (current_words memory) call ≡ Some (prepared ++ commit place value)
   pub well : IsFileSystem (current_words made)
   pub changes : ChangesTree call done (current_words memory) (current_words made)
@@ -125,7 +153,7 @@ volume_super memory made ended call answer parts after region pending volume (un
 
 -- the whole call
 pub file_call_super : (old middle made new : Memory) (call : Call) (answer : Answer) → middle ≡ with_room call_room old → IsSafe SameFiles middle → CallsSuper middle made call answer → Adds made new (CallEnd ∷ []) →
-    FileCall old call answer new
+    SeenCall old call answer new
 file_call_super old middle made new call answer room safe (altered is does) ends =
     let before : current_words middle ≡ current_words old = ap current_words room ∙ current_words-with_room call_room old in
     let made_events : List Event = events middle made call does in

@@ -7,7 +7,7 @@ use Rattle.pm_epochs.specs.Crash.{IsQuiet}
 use Rattle.pm_epochs.specs.May.{EachMay}
 use Rattle.pm_epochs.proofs.MayLaws.{quiet_may, same_where_none}
 use Rattle.pm_region.specs.Memory.{Adds, Memory, current_words, with_room}
-use Rattle.pm_region.proofs.MemoryLaws.{current_words-adds, current_words-with_room}
+use Rattle.pm_region.proofs.MemoryLaws.{current_words-adds}
 use Rattle.bp_free.specs.declared.parts.Parts.{Parts}
 use Rattle.bp_layout.specs.Format.{upgraded_to_three}
 use Rattle.bp_layout.specs.Formatted.{version_of}
@@ -34,6 +34,8 @@ use Rattle.bp_changes.proofs.ClearedWords.{same_files-by_agreement, snapshot_by_
 use Rattle.bp_changes.proofs.Stores.{harmless_here}
 use Rattle.bp_stands.proofs.SnapStands.{idle-harmless}
 use Rattle.bp_stands.proofs.UpgradeStands.{to_three_stands}
+use Rattle.bp_roles.specs.Mounted.{KeepsRoles, served_words}
+use Rattle.bp_roles.specs.Seen.{MemoryByRoles, seen}
 use Rattle.bp_volume.specs.Called.{CanUpgrade, Called}
 use Rattle.bp_volume.specs.Called.Called.{at_once, cleared}
 use Rattle.bp_volume.specs.Carried.{ChangesTree}
@@ -46,9 +48,10 @@ use Rattle.bp_volume.specs.Upgraded.ClearsFirst.{cleared as are_cleared, kept}
 use Rattle.bp_volume.specs.Upgraded.UpgradesToThree.{made as has_made, refused as has_refused, third}
 use Rattle.bp_volume.specs.Volume.{IsVolume}
 use Rattle.bp_volume.proofs.BesideExact.{beside_exact}
+use Rattle.bp_volume.proofs.ClearedLaws.{words_with_room}
 use Rattle.bp_volume.proofs.SnapLaws.{tree_has_none, tree_has_one}
 use Rattle.bp_volume.proofs.StepLaws.{answer_steps, refused_steps}
-use Rattle.bp_volume.proofs.SuperLaws.{CallsSuper, StoresSuper, changing_steps, super_trees}
+use Rattle.bp_volume.proofs.SuperLaws.{CallsSuper, StoresSuper, changing_steps, magic_leaves, super_trees}
 use Rattle.bp_volume.proofs.SuperLaws.CallsSuper.{altered, unchanged}
 use Rattle.bp_volume.proofs.WholeLaws.{whole_equivalence}
 
@@ -141,6 +144,10 @@ module _ (memory made : Memory) (is : IsFileSystem (current_words memory)) (can 
         ),
       ),
     );
+    leaves = λ roles outside. (
+      (λ e. absurd (omega (arith, e))),
+      ((λ e. absurd (omega (arith, e))), ((λ e. absurd (omega (arith, e))), ((λ e. absurd (omega (arith, e))), (magic_leaves Three roles image can.early outside, tt)))),
+    );
     reported = refl;
     well = rw words_made (to_three_file_system image is.first);
     changes = rw words_made (to_three_changes image can clear);
@@ -181,12 +188,12 @@ module _ {R : Type 0} (memory made : Memory) (answer : Answer) (parts : Parts R)
 
 -- ---- with the words cleared first, and room made
 
-ready_with_room : (between middle : Memory) → middle ≡ with_room call_room between → IsReadied (current_words between) → IsReadied (current_words middle)
-ready_with_room between middle room = subst IsReadied (sym (ap current_words room ∙ current_words-with_room call_room between))
+ready_with_room : (between : Memory) (middle : MemoryByRoles) → KeepsRoles middle → middle.memory ≡ with_room call_room between → IsReadied (served_words between) → IsReadied (current_words (seen middle))
+ready_with_room between middle keeps room = subst IsReadied (sym (words_with_room between middle keeps room))
 
-pub cleared_first : (old between middle : Memory) → ClearsFirst old between → middle ≡ with_room call_room between → IsReadied (current_words middle)
-cleared_first old between middle (kept clear same) room = ready_with_room between middle room (rw same clear)
-cleared_first old between middle (are_cleared some clears) room = ready_with_room between middle room (λ can. clears.clear)
+pub cleared_first : (old between : Memory) (middle : MemoryByRoles) → ClearsFirst old between → KeepsRoles middle → middle.memory ≡ with_room call_room between → IsReadied (current_words (seen middle))
+cleared_first old between middle (kept clear same) keeps room = ready_with_room between middle keeps room (rw same clear)
+cleared_first old between middle (are_cleared some clears) keeps room = ready_with_room between middle keeps room (λ can. clears.clear)
 
 -- the whole call
 pub called_to_three : (old between new : Memory) (answer : Answer) → ClearsFirst old between → FileCall between upgrade_to_three answer new → Called old upgrade_to_three answer new

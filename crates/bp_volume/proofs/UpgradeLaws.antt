@@ -20,7 +20,7 @@ use Rattle.bp_layout.proofs.BesideTrees.{SameTrees}
 use Rattle.bp_layout.proofs.NoSnapshot.{first_has_none, snapshot_none, none_in_snapshot_of}
 use Rattle.bp_layout.proofs.Upgrade.{same_files_first, upgraded_alone, upgraded_file_system}
 use Rattle.bp_limits.specs.Limits.{magic}
-use Rattle.bp_limits.specs.CallLimits.{allows_snapshot}
+use Rattle.bp_limits.specs.CallLimits.{allows_attributes, allows_snapshot}
 use Rattle.bp_limits.specs.declared.version.Version.TheVariants.{One, Two}
 use Rattle.bp_plain.specs.Calls.Answer.{done}
 use Rattle.bp_plain.specs.Calls.Call.{upgrade}
@@ -35,7 +35,7 @@ use Rattle.bp_volume.specs.Upgraded.Upgrades.{first, second}
 use Rattle.bp_volume.specs.Volume.{IsVolume}
 use Rattle.bp_volume.proofs.BesideExact.{beside_exact}
 use Rattle.bp_volume.proofs.StepLaws.{answer_steps}
-use Rattle.bp_volume.proofs.SuperLaws.{CallsSuper, StoresSuper, changing_steps, super_trees, trees_beside}
+use Rattle.bp_volume.proofs.SuperLaws.{CallsSuper, StoresSuper, changing_steps, magic_leaves, super_trees, trees_beside}
 use Rattle.bp_volume.proofs.SuperLaws.CallsSuper.{altered, unchanged}
 use Rattle.bp_volume.proofs.WholeLaws.{whole_equivalence}
 
@@ -96,6 +96,7 @@ module _ (memory made : Memory) (is : IsFileSystem (current_words memory)) (one 
       (omega arith, (λ e. omega (arith, e)), (λ e. omega (arith, e))),
       ((omega arith, (λ e. omega (arith, e)), (λ e. omega (arith, e))), ((omega arith, (λ e. omega (arith, e)), (λ e. omega (arith, e))), tt)),
     );
+    leaves = λ roles outside. ((λ e. absurd (omega (arith, e))), ((λ e. absurd (omega (arith, e))), (magic_leaves Two roles image (ap allows_attributes one) outside, tt)));
     reported = refl;
     well = rw words_made (upgraded_file_system image is.first);
     changes = rw words_made (upgrade_changes image one);

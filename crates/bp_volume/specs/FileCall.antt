@@ -3,10 +3,9 @@ use Rattle.std.specs.Prelude.{◌≡◌, ℕ, Some, List, [], ◌∷◌, ◌++�
 use Rattle.pm_epochs.specs.declared.event.Event.{Event}
 use Rattle.pm_epochs.specs.declared.event.Event.TheVariants.{CallEnd}
 use Rattle.pm_epochs.specs.Log.{call_ends}
-use Rattle.pm_region.specs.Memory.{Memory, current_words, with_room, Adds}
+use Rattle.pm_region.specs.Memory.{Memory, with_room, Adds}
 use Rattle.pm_region.specs.Safe.{IsSafe}
 use Rattle.bp_layout.specs.Trees.{AreInSnapshot}
-use Rattle.bp_layout.specs.Whole.{SameFiles}
 use Rattle.bp_limits.specs.Limits.{call_room}
 use Rattle.bp_plain.specs.PlainTree.{FileTree}
 use Rattle.bp_plain.specs.Stands.{Stands}
@@ -16,6 +15,7 @@ use Rattle.bp_plain.specs.Plain.{is_changing}
 use Rattle.bp_layout.specs.Need.{Change}
 use Rattle.bp_layout.specs.Words.{Image}
 use Rattle.bp_changes.specs.Performs.{IsShort}
+use Rattle.bp_roles.specs.Mounted.{SameDurable, served_events, served_words}
 use Rattle.bp_volume.specs.Step.{Step, IsChange}
 use Rattle.bp_volume.specs.SuperEvents.{super_events}
 
@@ -34,16 +34,18 @@ pub data IsCheap (image : Image) (call : Call) (new : Image) (events : List Even
       IsShort image new in_snapshot change events → IsCheap image call new events
   reports : super_events image call ≡ Some events → IsCheap image call new events
 
--- A call on files. The answer and the new image are a step. The log got the call's events and then its end-of-call
--- marker. A call that changes nothing has no events, and the events of a changing call are within its bounds. The new
--- words are a file system, and a crash at any point leaves a file system with the files and directories of some prefix
--- of the calls.
+-- A call on files, over a region with these memories. The answer and the new image are a step, of the images as a mount
+-- sees them. The log got the call's events and then its end-of-call marker. A call that changes nothing has no events,
+-- and the events of a changing call are within its bounds.
+--
+-- The new words are a file system, and a crash at any point leaves a file system with the files and directories of some
+-- prefix of the calls.
 pub record FileCall (old : Memory) (call : Call) (answer : Answer) (new : Memory) : Type 0 where
   pub added : List Event
   pub no_call_end : call_ends added ≡ 0
   pub adds : Adds (with_room call_room old) new (added ++ CallEnd ∷ [])
-  pub step : Step (current_words old) call answer (current_words new)
-  pub silent : (tree : FileTree) → Stands (current_words old) tree → has_changed tree call answer ≡ false → added ≡ []
-  pub short : (tree : FileTree) → Stands (current_words old) tree → has_changed tree call answer ≡ true →
-      IsCheap (current_words old) call (current_words new) added
-  pub safe : IsSafe SameFiles new
+  pub step : Step (served_words old) call answer (served_words new)
+  pub silent : (tree : FileTree) → Stands (served_words old) tree → has_changed tree call answer ≡ false → added ≡ []
+  pub short : (tree : FileTree) → Stands (served_words old) tree → has_changed tree call answer ≡ true →
+      IsCheap (served_words old) call (served_words new) (served_events old added)
+  pub safe : IsSafe SameDurable new

@@ -6,6 +6,7 @@ pub mod Volume
 pub mod Ready
 pub mod Queries
 pub mod Laid
+pub mod Faults
 pub mod Upgraded
 pub mod Seen
 pub mod Carried

@@ -12,6 +12,7 @@ use Rattle.bp_plain.specs.Calls.Answer.{done, refused as is_refused}
 use Rattle.bp_plain.specs.Calls.Refusal.{has_snap}
 use Rattle.bp_plain.specs.declared.errors.FsError.{FsError}
 use Rattle.bp_plain.specs.declared.errors.FsError.TheVariants.{HasSnap}
+use Rattle.bp_roles.specs.Mounted.{served_words}
 use Rattle.bp_volume.specs.Called.{CanUpgrade, ClearsAll}
 use Rattle.bp_volume.specs.SuperEvents.{to_three_events, upgrade_events}
 
@@ -31,8 +32,8 @@ MayUpgrade image (Err error) =
 
 -- If the image can be upgraded, its words are cleared: at once, if they are clear already.
 pub data ClearsFirst (old new : Memory) : Type 0 where
-  kept : (CanUpgrade (current_words old) → AreClear (current_words old)) → new ≡ old → ClearsFirst old new
-  cleared : (AreClear (current_words old) → ⊥) → ClearsAll old new → ClearsFirst old new
+  kept : (CanUpgrade (served_words old) → AreClear (served_words old)) → new ≡ old → ClearsFirst old new
+  cleared : (AreClear (served_words old) → ⊥) → ClearsAll old new → ClearsFirst old new
 
 -- If the image can be upgraded, the call adds its events. In version 3 it changes nothing, and if there is a snapshot it
 -- is refused.

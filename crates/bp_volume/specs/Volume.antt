@@ -10,11 +10,13 @@ use Rattle.bp_layout.specs.Trees.{AreInSnapshot}
 use Rattle.bp_layout.specs.Whole.{IsFileSystem, SameFiles}
 use Rattle.bp_layout.specs.Words.{block_count}
 use Rattle.bp_limits.specs.Limits.{block_inodes, call_room}
+use Rattle.bp_roles.specs.Mounted.{KeepsRoles}
+use Rattle.bp_roles.specs.Seen.{MemoryByRoles, seen}
 
--- A volume. A crash at any point leaves a file system with the files and directories of some prefix of the calls. The
--- log can hold the events of any call, and the words are a file system. The sets hold exactly its free blocks, its
--- free inodes and the blocks of its snapshot, the counts are those of its links, and a scan has the memory that it
--- needs.
+-- A volume, as its calls see its memory. A crash at any point leaves a file system with the files and directories of
+-- some prefix of the calls. The log can hold the events of any call, and the words are a file system. The sets hold
+-- exactly its free blocks, its free inodes and the blocks of its snapshot, the counts are those of its links, and a scan
+-- has the memory that it needs.
 pub record IsVolume {R : Type 0} (memory : Memory) (parts : Parts R) (pending : ℕ) : Type 0 where
   pub safe : IsSafe SameFiles memory
   pub roomy : call_room ≤ memory.capacity
@@ -23,7 +25,9 @@ pub record IsVolume {R : Type 0} (memory : Memory) (parts : Parts R) (pending : 
   pub exact : IsExact (current_words memory) parts
   pub scans : pending ≡ block_inodes * block_count (current_words memory)
 
--- A volume, with its cache of directories, which is correct for the words.
-pub record IsCachedVolume {R : Type 0} (memory : Memory) (parts : Parts R) (pending : ℕ) (cache : DirectoryCache) : Type 0 where
-  pub volume : IsVolume memory parts pending
-  pub right : IsCacheOf (current_words memory) cache
+-- A volume over a region that is seen by the roles which a mount would take, with its cache of directories, which is
+-- correct for the words as they are seen.
+pub record IsCachedVolume (parts : Parts MemoryByRoles) (pending : ℕ) (cache : DirectoryCache) : Type 0 where
+  pub roles : KeepsRoles parts.region
+  pub volume : IsVolume (seen parts.region) parts pending
+  pub right : IsCacheOf (current_words (seen parts.region)) cache

@@ -1,25 +1,25 @@
 -- Properties that hold for all volumes.
 use Rattle.std.specs.Prelude.{◌≡◌, ℕ, ◌<◌, ◌≤◌, List, length, None}
 use Rattle.bp_calls.specs.InPlace.{LiesInWord}
-use Rattle.bp_layout.specs.Whole.{SameFiles}
 use Rattle.bp_layout.specs.Words.{Image}
 use Rattle.bp_limits.specs.Limits.{attributes}
 use Rattle.bp_plain.specs.Calls.Call.{set_attribute, truncate, write}
 use Rattle.bp_plain.specs.Plain.{bytes_at, path_named}
 use Rattle.bp_plain.specs.PlainTree.{FileTree}
 use Rattle.bp_plain.specs.Stands.{Stands}
+use Rattle.bp_roles.specs.Mounted.{SameDurable}
 use Rattle.bp_volume.specs.Step.{IsNeverShort, PathFinds}
 use Rattle.pm_epochs.specs.Replay.{after_calls, kept_calls}
 use Rattle.pm_region.specs.Memory.{Memory}
 use Rattle.pm_steps.specs.Machine.{MachineState, MachineStep, cut_of}
 use Rattle.pm_steps.specs.Runs.{RunsTo}
 
--- If these steps lead to this state, its words have the files and directories after the first calls of the log: as
--- many calls as the state keeps whole.
+-- If these steps lead to this state, its words have the files and directories after the first calls of the log, to a
+-- mount: as many calls as the state keeps whole.
 abbrev pub ShowsFirstCalls : Memory → List MachineStep → MachineState → Type 0
 ShowsFirstCalls memory steps state =
     RunsTo memory.base memory.events steps state →
-    SameFiles state.words (after_calls memory.base memory.events
+    SameDurable state.words (after_calls memory.base memory.events
     (kept_calls memory.events (cut_of memory.events state.back)))
 
 -- A truncate that does not make the file longer is never refused for lack of space or memory.

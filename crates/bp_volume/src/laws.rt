@@ -1,20 +1,20 @@
 //! Properties of volumes. Each is the contract of a function with an empty body.
 
 ghost use Rattle.std.specs.Prelude.{ℕ, List};
-ghost use Rattle.bp_layout.specs.Whole.{SameFiles};
 ghost use Rattle.bp_plain.specs.Calls.Call.{rmdir, unlink};
 ghost use Rattle.bp_plain.specs.PlainTree.{FileTree};
+ghost use Rattle.bp_roles.specs.Mounted.{SameDurable};
 ghost use Rattle.bp_volume.specs.Step.{IsNeverShort};
 ghost use Rattle.bp_volume.specs.VolumeLaws.{SetsInPlace, ShortensInPlace, ShowsFirstCalls, WithoutSnapshot, WritesInPlace};
 ghost use Rattle.pm_region.specs.Memory.{Memory};
 ghost use Rattle.pm_region.specs.Safe.{IsSafe};
 ghost use Rattle.pm_steps.specs.Machine.{MachineState, MachineStep};
 
-/// States that at each point of execution the words in memory have the files and directories after the first calls, as
-/// many as are kept whole. This holds for each order in which the processor executes the events since the last drain
+/// States that at each point of execution the words in memory have, to a mount, the files and directories after the first
+/// calls, as many as are kept whole. This holds for each order in which the processor executes the events since the last drain
 /// and the engine writes their stores back.
 pub fn memory_is_as_after_a_call()
-    ensures { (memory : Memory) (steps : List MachineStep) (state : MachineState) → IsSafe SameFiles memory →
+    ensures { (memory : Memory) (steps : List MachineStep) (state : MachineState) → IsSafe SameDurable memory →
         ShowsFirstCalls memory steps state }
 {}
 

@@ -4,6 +4,7 @@
 mod attributes;
 mod batch;
 mod create;
+mod faults;
 mod format_stores;
 pub mod laws;
 mod link;
@@ -23,6 +24,7 @@ mod volume;
 mod write;
 
 pub use bp_scan::{MountFault, Totals};
+pub use faults::stored_fault;
 pub use format_stores::{lay_first_blocks, lay_out};
 pub use sets::Sets;
 pub use space::Space;

@@ -4,9 +4,9 @@ ghost use Rattle.std.specs.List.{All};
 ghost use Rattle.std.specs.Prelude.{[], ◌*◌, ◌≡◌, ◌⊎◌, ◌<◌, ◌≤◌, ◌↔◌, IfErr, IfOk, IsOk, OnErr, OnOk, drop, length, map};
 ghost use Rattle.bp_cache.specs.Cache.{IsCacheOf};
 ghost use Rattle.bp_layout.specs.Formatted.{IsSized};
-ghost use Rattle.bp_layout.specs.Whole.{HasSpace, IsFileSystem, SameFiles};
-ghost use Rattle.bp_layout.specs.Words.{block_count};
-ghost use Rattle.bp_limits.specs.Limits.{attributes, block_inodes, call_room, max_pieces, max_read};
+ghost use Rattle.bp_layout.specs.Whole.{HasSpace, IsFileSystem};
+ghost use Rattle.bp_layout.specs.Words.{block_count, word};
+ghost use Rattle.bp_limits.specs.Limits.{attributes, block_inodes, call_room, max_pieces, max_read, super_magic};
 ghost use Rattle.pm_epochs.specs.Log.{call_ends};
 ghost use Rattle.pm_epochs.specs.Replay.{IsRight, after_calls, kept_calls};
 ghost use Rattle.pm_region.specs.Memory.{crashed, current_words, drained, room_in, with_room};
@@ -17,9 +17,12 @@ ghost use Rattle.bp_plain.specs.Calls.Call.{set_attribute, snap, snap_list, snap
 ghost use Rattle.bp_plain.specs.PlainTree.{empty_tree};
 ghost use Rattle.bp_plain.specs.Seen.{CanAsk, LiesIn, call_of, piece_in};
 ghost use Rattle.bp_plain.specs.Stands.{Stands};
+ghost use Rattle.bp_roles.specs.Mounted.{SameDurable, by_roles, roles_of, served_words};
+ghost use Rattle.bp_roles.specs.Seen.{IsWide, seen};
 ghost use Rattle.bp_scan.specs.Faults.{IsFault};
 ghost use Rattle.bp_scan.specs.Totals.{HasLive, HasTotals};
 ghost use Rattle.bp_volume.specs.Called.{Called};
+ghost use Rattle.bp_volume.specs.Faults.{IsMountFault};
 ghost use Rattle.bp_volume.specs.FileCall.{FileCall};
 ghost use Rattle.bp_volume.specs.Laid.{formatted_memory};
 ghost use Rattle.bp_volume.specs.Seen.{attribute_answer, links_answer, list_answer_of, read_answer_of, stat_answer_of, unit_answer};
@@ -29,6 +32,7 @@ mod upgrades;
 use crate::attributes::{do_attribute, do_set_attribute};
 use crate::batch::do_batch;
 use crate::create::do_create;
+use crate::faults::stored_fault;
 use crate::format_stores::lay_out;
 use crate::link::do_link;
 use crate::queries::{do_links, do_list, do_read, do_stat};
@@ -48,16 +52,18 @@ use bp_free::Parts;
 use bp_layout::{Kind, Listing, Stat};
 use bp_limits::{BLOCK_WORDS, CALL_ROOM, Version};
 use bp_plain::{Call, FsError, Piece, Reply};
+use bp_roles::{RegionByRoles, Roles};
 use bp_scan::{MountFault, Pending, Totals, scan_whole};
 use pm_epochs::{BadChoice, Choice, Kept};
 use pm_region::Region;
 use std::alloc::Global;
 use std::marker::Model;
 
-/// A file system over a region. Contracts describe it by the region's memory.
+/// A file system over a region. Contracts describe it by the region's memory, and its files by the words as a mount
+/// sees them (`served_words`).
 #[derive(Drop)]
 pub struct Volume<R: Region> {
-    parts: Parts<R>,
+    parts: Parts<RegionByRoles<R>>,
     pending: Pending,
     cache: DirectoryCache,
 }
@@ -68,9 +74,9 @@ impl<R: Region> Model for Volume<R> {
 
     ghost Value = { Memory };
 
-    ghost view = { λ v. R.memory v.parts.region };
+    ghost view = { λ v. v.parts.region.memory };
 
-    ghost invariant = { λ v. IsCachedVolume (R.memory v.parts.region) v.parts v.pending v.cache };
+    ghost invariant = { λ v. IsCachedVolume v.parts v.pending v.cache };
 }
 
 impl<R: Region> Volume<R> {
@@ -87,8 +93,8 @@ impl<R: Region> Volume<R> {
         requires fresh { (R.memory region).events ≡ [] }
         requires roomy { call_room ≤ (R.memory region).capacity }
         ensures made { IfOk result (λ volume. volume ≡ formatted_memory One (R.memory region)) }
-        ensures empty { IfOk result (λ volume. Stands (current_words volume) (empty_tree One)) }
-        ensures safe { IfOk result (IsSafe SameFiles) }
+        ensures empty { IfOk result (λ volume. Stands (served_words volume) (empty_tree One)) }
+        ensures safe { IfOk result (IsSafe SameDurable) }
         ensures handed_back { IfErr result (λ e. e.0 ≡ region) }
         ensures memory { IfErr result (λ e. e.1 ≡ MountFault.Memory) }
     {
@@ -109,8 +115,8 @@ impl<R: Region> Volume<R> {
         requires fresh { (R.memory region).events ≡ [] }
         requires roomy { call_room ≤ (R.memory region).capacity }
         ensures made { IfOk result (λ volume. volume ≡ formatted_memory version (R.memory region)) }
-        ensures empty { IfOk result (λ volume. Stands (current_words volume) (empty_tree version)) }
-        ensures safe { IfOk result (IsSafe SameFiles) }
+        ensures empty { IfOk result (λ volume. Stands (served_words volume) (empty_tree version)) }
+        ensures safe { IfOk result (IsSafe SameDurable) }
         ensures handed_back { IfErr result (λ e. e.0 ≡ region) }
         ensures memory { IfErr result (λ e. e.1 ≡ MountFault.Memory) }
     {
@@ -122,43 +128,52 @@ impl<R: Region> Volume<R> {
         // From here on a crash cannot leave the words that were there before: it always leaves a file system.
         region.drain();
         // The stores of a format turn any words into a file system.
-        Ok(Volume::of_file_system(region, sets, cache))
+        let view = RegionByRoles::new(region, Roles::OutsideA);
+        Ok(Volume::of_file_system(view, sets, cache))
     }
 
-    /// Mounts the file system of a formatted region of 8 to 67,108,864 blocks of 512 words.
+    /// Mounts the file system of a formatted region of 8 to 67,108,864 blocks of 512 words. Its magic number says where
+    /// the superblock has the roots of the two trees.
     ///
     /// # Errors
     ///
-    /// The region is returned unchanged.
+    /// The region is returned with the same memory.
     ///
     /// - `NotFormatted`: the region does not begin with a magic number of the format.
     /// - `BadSize`: it was formatted for another number of blocks.
-    /// - `Damaged`: a check of the format fails; it holds one check that does.
+    /// - `Damaged`: a check of the format fails; it holds one check that does, and the word of the region at which it
+    ///   does.
     /// - `Memory`: allocation fails.
     pub fn mount(alloc: Global, region: R) -> Result<Volume<R>, (R, MountFault)>
         requires sized { IsSized (R.memory region).base }
         requires fresh { (R.memory region).events ≡ [] }
         requires roomy { call_room ≤ (R.memory region).capacity }
         ensures same { IfOk result (λ volume. volume ≡ R.memory region) }
-        ensures well_formed { OnOk result (IsFileSystem (R.memory region).base) }
-        ensures safe { IfOk result (IsSafe SameFiles) }
-        ensures handed_back { IfErr result (λ e. e.0 ≡ region) }
-        ensures fault { IfErr result (λ e. (e.1 ≡ MountFault.Memory) ⊎ IsFault (R.memory region).base e.1) }
-        ensures exact { IsFileSystem (R.memory region).base → IfErr result (λ e. e.1 ≡ MountFault.Memory) }
+        ensures well_formed { OnOk result (IsFileSystem (by_roles (R.memory region).base)) }
+        ensures safe { IfOk result (IsSafe SameDurable) }
+        ensures handed_back { IfErr result (λ e. R.memory e.0 ≡ R.memory region) }
+        ensures fault { IfErr result (λ e. (e.1 ≡ MountFault.Memory) ⊎ IsMountFault (R.memory region).base e.1) }
+        ensures exact { IsFileSystem (by_roles (R.memory region).base) → IfErr result (λ e. e.1 ≡ MountFault.Memory) }
     {
-        match memory_for(alloc, (region.words() / BLOCK_WORDS) as u32) {
-            Ok((sets, cache)) => Volume::scanned(alloc, region, sets, cache),
-            Err(_) => Err((region, MountFault::Memory)),
+        let Ok((sets, cache)) = memory_for(alloc, (region.words() / BLOCK_WORDS) as u32) else {
+            return Err((region, MountFault::Memory));
+        };
+        match Volume::scanned(alloc, RegionByRoles::by_magic(region), sets, cache) {
+            Ok(volume) => Ok(volume),
+            Err((view, fault)) => {
+                let roles = view.roles();
+                Err((view.into_region(), stored_fault(roles, fault)))
+            }
         }
     }
 
-    /// Returns the region of the volume. Its words are a file system, and a crash at any point leaves a file system
-    /// with the files and directories of some prefix of the calls.
+    /// Returns the region of the volume. To a mount its words are a file system, and a crash at any point leaves a file
+    /// system with the files and directories of some prefix of the calls.
     pub fn region(&self) -> &R
         ensures memory { R.memory result.now ≡ self.now }
-        ensures safe { IsSafe SameFiles self.now }
+        ensures safe { IsSafe SameDurable self.now }
     {
-        &self.parts.region
+        self.parts.region.region()
     }
 
     /// Returns the region, without the volume.
@@ -177,19 +192,19 @@ impl<R: Region> Volume<R> {
             link_counts: _,
             snapshot_blocks: _,
         } = parts;
-        region
+        region.into_region()
     }
 
     /// Waits until all stores of the calls so far are written back, and empties the log.
     pub fn sync(&mut self)
         ensures drained { self.new ≡ drained self.old }
-        ensures safe { IsSafe SameFiles self.new }
+        ensures safe { IsSafe SameDurable self.new }
     {
         self.parts.region.drain();
     }
 
-    /// Crashes, and continues with the words that the choice leaves and an empty log. They are a file system with the
-    /// files and directories after the calls that are kept. It allocates no memory: the scan of the words uses the
+    /// Crashes, and continues with the words that the choice leaves and an empty log. To a mount they are a file system
+    /// with the files and directories after the calls that are kept. It allocates no memory: the scan of the words uses the
     /// volume's own.
     ///
     /// # Errors
@@ -203,8 +218,8 @@ impl<R: Region> Volume<R> {
         ensures kept { IfOk result (λ kept. kept.c ≡ kept_calls self.old.events choice.now.cut) }
         ensures of { IfOk result (λ kept. kept.n ≡ call_ends self.old.events) }
         ensures shows { IfOk result
-            (λ kept. SameFiles (current_words self.new) (after_calls self.old.base self.old.events kept.c)) }
-        ensures safe { IsSafe SameFiles self.new }
+            (λ kept. SameDurable (current_words self.new) (after_calls self.old.base self.old.events kept.c)) }
+        ensures safe { IsSafe SameDurable self.new }
         ensures err { OnErr result (self.new ≡ self.old) }
     {
         let kept = self.parts.region.crash_to(choice)?;
@@ -216,7 +231,7 @@ impl<R: Region> Volume<R> {
     /// Returns the totals of the volume: its files, directories and bytes, and the live blocks of both its trees. The
     /// time grows with the whole image, as for a mount. It allocates no memory.
     pub fn totals(&mut self) -> Totals
-        ensures totals { HasTotals (current_words self.old) result }
+        ensures totals { HasTotals (served_words self.old) result }
         ensures same { self.new ≡ self.old }
     {
         rescan(&mut self.parts, &mut self.pending)
@@ -224,8 +239,8 @@ impl<R: Region> Volume<R> {
 
     /// Returns the numbers of free blocks, and of blocks that are live in one of the trees or in both.
     pub fn space(&self) -> Space
-        ensures free { HasSpace (current_words self.now) result.free }
-        ensures live { HasLive (current_words self.now) result.live }
+        ensures free { HasSpace (served_words self.now) result.free }
+        ensures live { HasLive (served_words self.now) result.live }
     {
         let free = self.parts.free_blocks.count();
         let live = self.parts.free_blocks.room() - free - 1;
@@ -761,18 +776,21 @@ impl<R: Region> Volume<R> {
         report_read(reply, reported);
     }
 
-    /// Makes a volume of a region with an empty log, whose words are known to be a file system.
-    fn of_file_system(region: R, sets: Sets, cache: DirectoryCache) -> Volume<R>
-        requires well_formed { IsFileSystem (R.memory region).base }
-        requires fresh { (R.memory region).events ≡ [] }
-        requires roomy { call_room ≤ (R.memory region).capacity }
-        requires blocks { length sets.free_blocks ≡ block_count (R.memory region).base }
-        requires inodes { length sets.free_inodes ≡ block_inodes * block_count (R.memory region).base }
-        requires counts { length sets.link_counts ≡ block_inodes * block_count (R.memory region).base }
-        requires snapshot_blocks { length sets.snapshot_blocks ≡ block_count (R.memory region).base }
-        requires pending { sets.pending ≡ block_inodes * block_count (R.memory region).base }
-        requires right { IsCacheOf (R.memory region).base cache }
-        ensures { result ≡ R.memory region }
+    /// Makes a volume of a region with an empty log, seen by the roles that its magic number gives. As they are seen, its
+    /// words are known to be a file system.
+    fn of_file_system(region: RegionByRoles<R>, sets: Sets, cache: DirectoryCache) -> Volume<R>
+        requires wide { IsWide region.memory }
+        requires roles { roles_of (word region.memory.base super_magic) ≡ region.roles }
+        requires well_formed { IsFileSystem (seen region).base }
+        requires fresh { (seen region).events ≡ [] }
+        requires roomy { call_room ≤ (seen region).capacity }
+        requires blocks { length sets.free_blocks ≡ block_count (seen region).base }
+        requires inodes { length sets.free_inodes ≡ block_inodes * block_count (seen region).base }
+        requires counts { length sets.link_counts ≡ block_inodes * block_count (seen region).base }
+        requires snapshot_blocks { length sets.snapshot_blocks ≡ block_count (seen region).base }
+        requires pending { sets.pending ≡ block_inodes * block_count (seen region).base }
+        requires right { IsCacheOf (seen region).base cache }
+        ensures { result ≡ region.memory }
     {
         let Sets {
             free_blocks,
@@ -796,27 +814,30 @@ impl<R: Region> Volume<R> {
         }
     }
 
-    /// Makes a volume of a region with an empty log, if its image passes a scan.
+    /// Makes a volume of a region with an empty log, seen by the roles that its magic number gives, if its image passes a
+    /// scan. The place of a fault is the one that is seen.
     fn scanned(
         alloc: Global,
-        region: R,
+        region: RegionByRoles<R>,
         sets: Sets,
         cache: DirectoryCache,
-    ) -> Result<Volume<R>, (R, MountFault)>
-        requires sized { IsSized (R.memory region).base }
-        requires fresh { (R.memory region).events ≡ [] }
-        requires roomy { call_room ≤ (R.memory region).capacity }
-        requires blocks { length sets.free_blocks ≡ block_count (R.memory region).base }
-        requires inodes { length sets.free_inodes ≡ block_inodes * block_count (R.memory region).base }
-        requires counts { length sets.link_counts ≡ block_inodes * block_count (R.memory region).base }
-        requires snapshot_blocks { length sets.snapshot_blocks ≡ block_count (R.memory region).base }
-        requires pending { sets.pending ≡ block_inodes * block_count (R.memory region).base }
-        requires right { IsCacheOf (R.memory region).base cache }
-        ensures same { IfOk result (λ volume. volume ≡ R.memory region) }
-        ensures well_formed { OnOk result (IsFileSystem (R.memory region).base) }
+    ) -> Result<Volume<R>, (RegionByRoles<R>, MountFault)>
+        requires wide { IsWide region.memory }
+        requires roles { roles_of (word region.memory.base super_magic) ≡ region.roles }
+        requires sized { IsSized (seen region).base }
+        requires fresh { (seen region).events ≡ [] }
+        requires roomy { call_room ≤ (seen region).capacity }
+        requires blocks { length sets.free_blocks ≡ block_count (seen region).base }
+        requires inodes { length sets.free_inodes ≡ block_inodes * block_count (seen region).base }
+        requires counts { length sets.link_counts ≡ block_inodes * block_count (seen region).base }
+        requires snapshot_blocks { length sets.snapshot_blocks ≡ block_count (seen region).base }
+        requires pending { sets.pending ≡ block_inodes * block_count (seen region).base }
+        requires right { IsCacheOf (seen region).base cache }
+        ensures same { IfOk result (λ volume. volume ≡ region.memory) }
+        ensures well_formed { OnOk result (IsFileSystem (seen region).base) }
         ensures handed_back { IfErr result (λ e. e.0 ≡ region) }
-        ensures fault { IfErr result (λ e. (e.1 ≡ MountFault.Memory) ⊎ IsFault (R.memory region).base e.1) }
-        ensures exact { IsFileSystem (R.memory region).base → IfErr result (λ e. e.1 ≡ MountFault.Memory) }
+        ensures fault { IfErr result (λ e. (e.1 ≡ MountFault.Memory) ⊎ IsFault (seen region).base e.1) }
+        ensures exact { IsFileSystem (seen region).base → IfErr result (λ e. e.1 ≡ MountFault.Memory) }
     {
         let Sets {
             mut free_blocks,

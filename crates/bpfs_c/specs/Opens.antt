@@ -4,23 +4,24 @@ use Rattle.bp_layout.specs.Checks.{number_of}
 use Rattle.bp_layout.specs.Formatted.{IsSized}
 use Rattle.bp_layout.specs.Whole.{IsFileSystem}
 use Rattle.bp_limits.specs.Limits.{log_events, max_blocks}
-use Rattle.bp_scan.specs.Faults.{IsFault}
 use Rattle.bp_scan.specs.Length.{wanted_length}
 use Rattle.bp_scan.specs.declared.fault.MountFault.{MountFault}
 use Rattle.bp_scan.specs.declared.fault.MountFault.TheVariants.{NotFormatted, BadSize, Damaged, Memory as Lacking}
 use Rattle.pm_region.specs.Memory.{Memory, current_words}
+use Rattle.bp_roles.specs.Mounted.{by_roles}
+use Rattle.bp_volume.specs.Faults.{IsMountFault}
 use Rattle.bpfs_c.specs.declared.mounted.Mounted.{Mounted}
 use Rattle.bpfs_c.specs.declared.mount.Fault.{Fault}
 
--- The number of a mount fault, and the fields of `Fault` that are written with it. The other fields keep their
--- values.
-abbrev pub IsMountFault : MountFault → Fault → ℕ → Fault → Type 0
-IsMountFault NotFormatted old code new = (code ≡ 35) × (new ≡ old)
-IsMountFault (BadSize found wanted) old code new =
+-- The number of a mount fault, and the fields of `Fault` that are written with it. The place of a fault of a mount is
+-- where its word is stored (`IsMountFault`). The other fields keep their values.
+abbrev pub ReportsFault : MountFault → Fault → ℕ → Fault → Type 0
+ReportsFault NotFormatted old code new = (code ≡ 35) × (new ≡ old)
+ReportsFault (BadSize found wanted) old code new =
     (code ≡ 36) × (new ≡ record old { found = found; wanted = wanted })
-IsMountFault (Damaged check place) old code new =
+ReportsFault (Damaged check place) old code new =
     (code ≡ 37) × (new ≡ record old { check = number_of check; place = place })
-IsMountFault Lacking old code new = (code ≡ 12) × (new ≡ old)
+ReportsFault Lacking old code new = (code ≡ 12) × (new ≡ old)
 
 -- The region of a copy of these words, with an empty log.
 abbrev pub region_of : List ℕ → Memory
@@ -39,13 +40,13 @@ abbrev pub IsSizedOr : List ℕ → Result (Unit {0}) MountFault → Type 0
 IsSizedOr words (Ok nothing) = IsSized words
 IsSizedOr words (Err fault) = ¬ IsSized words × (fault ≡ odd_size words)
 
--- The volume is over a copy of these words, and they are a file system. Else the fault names the cause: no image has
--- this number of words, allocation failed, or the words are no file system.
+-- The volume is over a copy of these words, and to a mount they are a file system (`by_roles`). Else the fault names the
+-- cause: no image has this number of words, allocation failed, or the words are no file system to a mount.
 abbrev pub Mounts : List ℕ → Result Memory MountFault → Type 0
-Mounts words (Ok volume) = IsSized words × (volume ≡ region_of words) × IsFileSystem words
+Mounts words (Ok volume) = IsSized words × (volume ≡ region_of words) × IsFileSystem (by_roles words)
 Mounts words (Err fault) =
     (¬ IsSized words × (fault ≡ odd_size words))
-    ⊎ (IsSized words × ((fault ≡ Lacking) ⊎ (IsFault words fault × ¬ IsFileSystem words)))
+    ⊎ (IsSized words × ((fault ≡ Lacking) ⊎ (IsMountFault words fault × ¬ IsFileSystem (by_roles words))))
 
 -- A volume right after its mount: no listing is kept, no event was drained, and the tag is 0.
 abbrev pub mounted_of : Memory → Mounted
@@ -57,18 +58,18 @@ Holds volume old code new =
     ((code ≡ 0) × (new ≡ Some (mounted_of volume))) ⊎ ((code ≡ 12) × (new ≡ old))
 
 -- A handle that held no volume then holds one over a copy of the words. It still holds none where no image has this
--- number of words or they are no file system (the number and `Fault` give the cause), and where allocation fails. A
--- handle that held a volume keeps it, and the number is 33.
+-- number of words or they are no file system to a mount (the number and `Fault` give the cause), and where allocation
+-- fails. A handle that held a volume keeps it, and the number is 33.
 pub data Opens (words : List ℕ) (old : Option Mounted) (fault : Fault) (code : ℕ) (new : Option Mounted) (new_fault : Fault) : Type 0 where
-  opened : old ≡ None → IsSized words → IsFileSystem words → code ≡ 0 →
+  opened : old ≡ None → IsSized words → IsFileSystem (by_roles words) → code ≡ 0 →
       new ≡ Some (mounted_of (region_of words)) → new_fault ≡ fault →
       Opens words old fault code new new_fault
   holding : (held : Mounted) → old ≡ Some held → code ≡ 33 → new ≡ old → new_fault ≡ fault →
       Opens words old fault code new new_fault
-  odd : old ≡ None → ¬ IsSized words → IsMountFault (odd_size words) fault code new_fault → new ≡ None →
+  odd : old ≡ None → ¬ IsSized words → ReportsFault (odd_size words) fault code new_fault → new ≡ None →
       Opens words old fault code new new_fault
-  faulty : (why : MountFault) → old ≡ None → IsSized words → IsFault words why → ¬ IsFileSystem words →
-      IsMountFault why fault code new_fault → new ≡ None → Opens words old fault code new new_fault
+  faulty : (why : MountFault) → old ≡ None → IsSized words → IsMountFault words why → ¬ IsFileSystem (by_roles words) →
+      ReportsFault why fault code new_fault → new ≡ None → Opens words old fault code new new_fault
   short : old ≡ None → IsSized words → code ≡ 12 → new ≡ None → new_fault ≡ fault →
       Opens words old fault code new new_fault
 
@@ -77,8 +78,8 @@ abbrev pub ReportsWhetherHeld : Option Mounted → ℕ → Type 0
 ReportsWhetherHeld None code = code ≡ 32
 ReportsWhetherHeld (Some held) code = code ≡ 0
 
--- The volume is over these words, and they are a file system. Else the words come back, and the fault names the cause
--- as for `Mounts`.
+-- The volume is over these words, and to a mount they are a file system. Else the words come back, and the fault names
+-- the cause as for `Mounts`.
 abbrev pub MountsAt : List ℕ → Result Memory (List ℕ × MountFault) → Type 0
 MountsAt words (Ok volume) = Mounts words (Ok volume)
 MountsAt words (Err (again, fault)) = (again ≡ words) × Mounts words (Err fault)

@@ -6,7 +6,9 @@ use Rattle.pm_region.specs.Memory.{Memory, room_in}
 use Rattle.bp_limits.specs.Limits.{call_room}
 use Rattle.bp_plain.specs.Calls.{Call, Answer}
 use Rattle.bp_plain.specs.declared.errors.FsError.{FsError}
+use Rattle.bp_roles.specs.Mounted.{served_words}
 use Rattle.bp_volume.specs.FileCall.{FileCall}
+use Rattle.bp_volume.specs.Queries.{Answers}
 use Rattle.bp_volume.specs.Seen.{unit_answer}
 use Rattle.bpfs_c.specs.Listings.{listing_after}
 use Rattle.bpfs_c.specs.declared.mounted.Mounted.{Mounted}
@@ -39,3 +41,10 @@ pub data Exported (old : Option Mounted) (call : Call) (Reported : Answer → Ty
 pub data Looked (old : Option Mounted) (Reported : Mounted → Type 0) (Same : Type 0) (code : ℕ) (new : Option Mounted) : Type 0 where
   closed : old ≡ None → code ≡ 32 → new ≡ None → Same → Looked old Reported Same code new
   looked : (held : Mounted) → old ≡ Some held → new ≡ Some held → Reported held → Looked old Reported Same code new
+
+-- The effect of an export that asks what a call would answer. If the handle holds no volume (32), it does nothing.
+-- Otherwise the caller's variables have a possible answer of the call, and nothing is added to the log.
+pub data Asks (old : Option Mounted) (call : Call) (Reported : Answer → Type 0) (Same : Type 0) (code : ℕ) (new : Option Mounted) : Type 0 where
+  closed : old ≡ None → code ≡ 32 → new ≡ None → Same → Asks old call Reported Same code new
+  asked : (held : Mounted) (answer : Answer) → old ≡ Some held → Answers (served_words held.volume) call answer →
+      new ≡ Some (record held { listing = listing_after answer held.listing }) → Reported answer → Asks old call Reported Same code new

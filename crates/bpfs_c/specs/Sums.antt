@@ -1,14 +1,15 @@
 -- Block counts and totals of a volume, as C sees them.
 use Rattle.std.specs.Prelude.{◌≡◌, ◌^◌, ◌%◌, ◌/◌}
-use Rattle.pm_region.specs.Memory.{Memory, current_words}
+use Rattle.pm_region.specs.Memory.{Memory}
 use Rattle.bp_layout.specs.Whole.{HasSpace}
+use Rattle.bp_roles.specs.Mounted.{served_words}
 use Rattle.bp_scan.specs.Totals.{HasLive, HasTotals}
 use Rattle.bp_scan.specs.declared.totals.Totals.{Totals}
 use Rattle.bpfs_c.specs.declared.space.Blocks.{Blocks}
 use Rattle.bpfs_c.specs.declared.space.Sums.{Sums}
 
 abbrev pub HasBlockCounts : Memory → Blocks → Type 0
-HasBlockCounts memory blocks = HasSpace (current_words memory) blocks.free × HasLive (current_words memory) blocks.live
+HasBlockCounts memory blocks = HasSpace (served_words memory) blocks.free × HasLive (served_words memory) blocks.live
 
 -- The totals as C gets them. Only the sum of all bytes may exceed 64 bits: it is split into its quotient and its
 -- remainder by 2^64.
@@ -22,4 +23,4 @@ sums_of totals = record {
 }
 
 abbrev pub HasSums : Memory → Sums → Type 0
-HasSums memory sums = (totals : Totals) × HasTotals (current_words memory) totals × (sums ≡ sums_of totals)
+HasSums memory sums = (totals : Totals) × HasTotals (served_words memory) totals × (sums ≡ sums_of totals)

@@ -4,18 +4,19 @@ use Rattle.bp_calls.specs.Cleared.{IsNextToClear, cleared_inodes}
 use Rattle.bp_limits.specs.Limits.{call_room}
 use Rattle.bp_plain.specs.Calls.{Answer}
 use Rattle.bp_plain.specs.Calls.Call.{upgrade_to_three}
+use Rattle.bp_roles.specs.Mounted.{served_words}
 use Rattle.bp_volume.specs.Called.{CanUpgrade, ClearsSome}
 use Rattle.bp_volume.specs.FileCall.{FileCall}
 use Rattle.bpfs_c.specs.Codes.{IsEndedBy}
 use Rattle.bpfs_c.specs.declared.mounted.Mounted.{Mounted}
-use Rattle.pm_region.specs.Memory.{Memory, current_words, room_in}
+use Rattle.pm_region.specs.Memory.{Memory, room_in}
 
 -- The image can be upgraded, and words of inodes were set that version 3 makes attributes. From the first such inode on,
 -- those of at most 65,536 inodes are 0 now.
 pub record Clears (old new : Memory) : Type 0 where
-  pub can : CanUpgrade (current_words old)
+  pub can : CanUpgrade (served_words old)
   pub first : ℕ
-  pub next : IsNextToClear (current_words old) 0 first
+  pub next : IsNextToClear (served_words old) 0 first
   pub clears : ClearsSome old first cleared_inodes new
 
 -- The call upgrade was made, and the number says how it ended.

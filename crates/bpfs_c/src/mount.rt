@@ -3,7 +3,7 @@
 ghost use Rattle.std.specs.Prelude.{[], ◌≡◌, IfOk, None};
 ghost use Rattle.bp_layout.specs.Formatted.{IsSized};
 ghost use Rattle.bp_limits.specs.Limits.{log_events};
-ghost use Rattle.bpfs_c.specs.Opens.{Holds, IsMountFault, IsSizedOr, Mounts, Opens, ReportsWhetherHeld};
+ghost use Rattle.bpfs_c.specs.Opens.{Holds, IsSizedOr, Mounts, Opens, ReportsFault, ReportsWhetherHeld};
 
 use crate::codes::{BAD_SIZE, CLOSED, DAMAGED, NO_MEMORY, NOT_FORMATTED, OK, OPEN};
 use crate::handle::Handle;
@@ -22,7 +22,7 @@ use std::alloc::{AllocError, Global};
 pub struct Fault {
     /// The number of the check.
     pub check: u32,
-    /// The index of the word, from the start of the image.
+    /// The index at which the word is stored, from the start of the image.
     pub place: u64,
     /// The length of the words in bytes, at most `u64::MAX`.
     pub found: u64,
@@ -33,7 +33,7 @@ pub struct Fault {
 
 /// Returns the number of a mount fault, and stores its details.
 pub(crate) fn faulty(fault: MountFault, reported: &mut Fault) -> u32
-    ensures { IsMountFault fault reported.old result reported.new }
+    ensures { ReportsFault fault reported.old result reported.new }
 {
     match fault {
         MountFault::NotFormatted => NOT_FORMATTED,

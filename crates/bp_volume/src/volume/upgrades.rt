@@ -7,11 +7,11 @@ ghost use Rattle.bp_layout.specs.Trees.{has_snapshot};
 ghost use Rattle.bp_limits.specs.CallLimits.{allows_attributes};
 ghost use Rattle.bp_plain.specs.Calls.Answer.{done};
 ghost use Rattle.bp_plain.specs.Calls.Call.{upgrade, upgrade_to_three};
+ghost use Rattle.bp_roles.specs.Mounted.{served_words};
 ghost use Rattle.bp_volume.specs.Called.{Called, ClearsSome, ClearsStep};
 ghost use Rattle.bp_volume.specs.FileCall.{FileCall};
 ghost use Rattle.bp_volume.specs.Seen.{unit_answer};
 ghost use Rattle.bp_volume.specs.Upgraded.{ClearsFirst};
-ghost use Rattle.pm_region.specs.Memory.{current_words};
 
 use super::Volume;
 use crate::upgrade::{is_before_three, upgrade_region, upgrade_region_to_three};
@@ -79,8 +79,8 @@ impl<R: Region> Volume<R> {
 
     /// Clears the words that version 3 makes attributes in some inodes, from inode `first` on.
     fn clear_from(&mut self, first: u32)
-        requires early { allows_attributes (version_of (current_words self.old)) ≡ false }
-        requires single { has_snapshot (current_words self.old) ≡ false }
+        requires early { allows_attributes (version_of (served_words self.old)) ≡ false }
+        requires single { has_snapshot (served_words self.old) ≡ false }
         ensures { ClearsSome self.old first cleared_inodes self.new }
     {
         self.make_room();
@@ -92,11 +92,11 @@ impl<R: Region> Volume<R> {
     fn clear_all(&mut self)
         ensures { ClearsFirst self.old self.new }
     {
-        let Ok(true) = is_before_three(self.region()) else {
+        let Ok(true) = is_before_three(&self.parts.region) else {
             return;
         };
         let mut first = 0;
-        while let Some(ino) = next_to_clear(self.region(), first) {
+        while let Some(ino) = next_to_clear(&self.parts.region, first) {
             self.clear_from(ino);
             self.sync();
             first = ino.saturating_add(CLEARED_INODES);

@@ -4,11 +4,11 @@ use Rattle.bp_plain.specs.Export.{export_calls, without_snapshot}
 use Rattle.bp_plain.specs.PlainTree.{FileTree, empty_tree}
 use Rattle.bp_plain.specs.Stands.{Stands}
 use Rattle.bp_plain.proofs.Exported.{export_done}
+use Rattle.bp_roles.specs.Mounted.{served_words}
 use Rattle.bp_script.specs.Commands.{Command}
 use Rattle.bp_session.specs.PlainSession.{PlainSession, ReportsNoSpace, fresh}
 use Rattle.bp_session.proofs.ExportedLines.{calls_done, export_asks}
 use Rattle.bp_session.proofs.PlainLaws.{follows_fresh, plain_session}
-use Rattle.pm_region.specs.Memory.{current_words}
 use Rattle.bp_session.proofs.laws.exports_make_their_trees.Goals as goal
 
 pub returns : goal.returns
@@ -17,4 +17,4 @@ returns c = λ old new tree replies can of_bytes empty stands session never.
     let calls = subst (λ (commands : List Command). PlainSession (fresh (empty_tree tree.version)) commands replies run.plain) (export_asks tree can of_bytes) run.session in
     let is = calls_done (export_calls tree) (fresh (empty_tree tree.version)) run.plain replies (empty_tree tree.version) (without_snapshot tree) refl (export_done tree can)
     calls (recursion_from_All (λ reply. ¬ ReportsNoSpace reply) replies never) in
-    subst (λ (t : FileTree). Stands (current_words new.memory) t) is run.follows.now
+    subst (λ (t : FileTree). Stands (served_words new.memory) t) is run.follows.now

@@ -1,6 +1,6 @@
 use Rattle.std.proofs.Common.{inl, inr, rules, refl, subst}
 use Rattle.bp_scan.specs.declared.fault.MountFault.{MountFault}
-use Rattle.bpfs_c.specs.Opens.{IsMountFault}
+use Rattle.bpfs_c.specs.Opens.{ReportsFault}
 use Rattle.bpfs_c.specs.Opens.Opens.{faulty, holding, odd, opened, short}
 use Rattle.bpfs_c.proofs.mount.bpfs_mount.Goals as goal
 
@@ -15,7 +15,7 @@ returns-in-Ok c = elim c.hold.ensures [
 
 pub returns-in-Err : goal.returns-in-Err
 returns-in-Err c =
-    let Reports = λ (why : MountFault). IsMountFault why c.args.fault.now c.faulty.result c.faulty.new.reported in
+    let Reports = λ (why : MountFault). ReportsFault why c.args.fault.now c.faulty.result c.faulty.new.reported in
     elim c.in-Err.ensures [
       | inl missized ↦ odd (search rules) missized.0 (subst Reports missized.1 c.faulty.ensures) (search rules)
       | inr whole ↦ elim whole.1 [

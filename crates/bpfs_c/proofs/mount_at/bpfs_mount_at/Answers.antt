@@ -2,7 +2,7 @@ use Rattle.std.proofs.Common.{◌∙◌, ap, inl, inr, refl, rules, subst}
 use Rattle.std.specs.Prelude.{Some}
 use Rattle.bp_scan.specs.declared.fault.MountFault.{MountFault}
 use Rattle.pm_region.specs.Memory.{Memory, current_words}
-use Rattle.bpfs_c.specs.Opens.{IsMountFault, Opens}
+use Rattle.bpfs_c.specs.Opens.{Opens, ReportsFault}
 use Rattle.bpfs_c.specs.Opens.Opens.{faulty, odd, opened, short}
 use Rattle.bpfs_c.specs.Opens.OpensAt.{busy, opened_at, refused}
 use Rattle.bpfs_c.proofs.mount_at.bpfs_mount_at.Goals as goal
@@ -25,7 +25,7 @@ returns-in-Ok c =
 pub returns-in-Err : goal.returns-in-Err
 returns-in-Err c =
     let words = c.in-Some-of_lent.words in
-    let Reports = λ (why : MountFault). IsMountFault why c.args.fault.now c.faulty.result c.faulty.new.reported in
+    let Reports = λ (why : MountFault). ReportsFault why c.args.fault.now c.faulty.result c.faulty.new.reported in
     let opens : Opens words c.args.handle.now.held c.args.fault.now c.faulty.result c.take.new.self.held c.faulty.new.reported = elim c.in-Err.ensures.1 [
       | inl missized ↦ odd (search rules) missized.0 (subst Reports missized.1 c.faulty.ensures) (search rules)
       | inr whole ↦ elim whole.1 [

@@ -1,5 +1,5 @@
 use Rattle.std.proofs.Common.{rules, refl, subst}
-use Rattle.pm_region.specs.Memory.{current_words}
+use Rattle.bp_roles.specs.Mounted.{served_words}
 use Rattle.bp_scan.specs.Totals.{HasTotals}
 use Rattle.bpfs_c.specs.Serves.Looked.{looked}
 use Rattle.bpfs_c.specs.declared.mounted.Mounted.{Mounted}
@@ -9,5 +9,5 @@ pub returns : goal.returns
 returns c =
     looked c.in-Some.mounted.value (search rules) (search rules) (
       refl,
-      (c.totals.result, subst (λ (m : Mounted). HasTotals (current_words m.volume) c.totals.result) c.deref_mut.ensures.value c.totals.ensures.totals, c.seen.ensures),
+      (c.totals.result, subst (λ (m : Mounted). HasTotals (served_words m.volume) c.totals.result) c.deref_mut.ensures.value c.totals.ensures.totals, c.seen.ensures),
     )

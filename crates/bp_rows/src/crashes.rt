@@ -2,6 +2,7 @@
 //! abstract tree.
 
 use crate::comparison::Comparison;
+use crate::exchange::has_magic_b;
 use crate::row::Row;
 use crate::show::put_short;
 use bp_io::{FairSource, MemFiles, MemSink, NullSink, Sink};
@@ -53,6 +54,8 @@ struct Cuts<'a> {
     alloc: Global,
     version: Version,
     image: &'a [u8],
+    /// Whether the image has the magic number `BPFSRS3B`.
+    is_exchanged: bool,
     script: &'a str,
     asks: &'a str,
     /// How many of the first lines of the script are durable after it.
@@ -63,6 +66,8 @@ struct Cuts<'a> {
     choice: Choice,
     /// The kind of each event of the log.
     events: Vec<EventKind>,
+    /// The answers of the abstract tree after this number of calls, for each number.
+    expected: Vec<String>,
     /// Whether some crash kept this number of calls, for each number.
     kept: Vec<bool>,
 }
@@ -172,6 +177,7 @@ impl<'a> Cuts<'a> {
             alloc,
             version: row.version,
             image,
+            is_exchanged: has_magic_b(image),
             script: row.script.as_str(),
             asks: row.asks.as_str(),
             durable: row.durable.min(LINES) as usize,
@@ -179,6 +185,7 @@ impl<'a> Cuts<'a> {
             work,
             choice,
             events: Vec::new(alloc),
+            expected: Vec::new(alloc),
             kept: Vec::new(alloc),
         })
     }
@@ -210,6 +217,7 @@ impl<'a> Cuts<'a> {
         if !self.read_log()? {
             return report.push_str("  the script can't be run, or has a line that is no call\n");
         }
+        self.expect_all()?;
         if self.cut_at_all(report)? {
             self.finish(report)?;
         }
@@ -320,6 +328,9 @@ impl<'a> Cuts<'a> {
         calls: usize,
         report: &mut String,
     ) -> Result<bool, AllocError> {
+        if self.is_exchanged && !has_magic_b(left) {
+            return self.differ("another magic number", report);
+        }
         if !self.is_as_plain(left, calls)? {
             return self.differ("another tree", report);
         }
@@ -332,8 +343,10 @@ impl<'a> Cuts<'a> {
     /// Whether the answers over the remaining bytes are those of the abstract tree after this number of calls.
     fn is_as_plain(&mut self, left: &[u8], calls: usize) -> Result<bool, AllocError> {
         let reported = self.asked(left)?;
-        let expected = self.expected(calls)?;
-        Ok(reported.as_slice() == expected.as_bytes())
+        Ok(match self.expected.get(calls) {
+            Some(expected) => reported.as_slice() == expected.as_bytes(),
+            None => false,
+        })
     }
 
     /// Returns the answers over the remaining bytes.
@@ -350,6 +363,15 @@ impl<'a> Cuts<'a> {
     fn ask(&mut self, left: &[u8], sink: &mut MemSink<'_>) -> Result<bool, AllocError> {
         let volume = serve_over(self.alloc, &mut self.work, left, self.asks, sink)?;
         Ok(volume.is_some())
+    }
+
+    /// Asks the abstract tree after each number of calls.
+    fn expect_all(&mut self) -> Result<(), AllocError> {
+        for calls in 0..self.kept.len() {
+            let answers = self.expected(calls)?;
+            self.expected.push(answers)?;
+        }
+        Ok(())
     }
 
     /// Returns the answers of the abstract tree after the durable lines of the script and this number of calls.

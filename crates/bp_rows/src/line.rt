@@ -39,6 +39,8 @@ pub enum Versions {
     Third,
     /// All versions.
     All,
+    /// Versions 1 and 3.
+    FirstAndThird,
 }
 
 impl Versions {
@@ -48,6 +50,7 @@ impl Versions {
             "2" => Some(Versions::Later),
             "3" => Some(Versions::Third),
             "1 2" => Some(Versions::All),
+            "1 3" => Some(Versions::FirstAndThird),
             _ => None,
         }
     }
@@ -60,7 +63,7 @@ pub enum InputLine<'a> {
     Nothing,
     /// A row of this name begins: FILE is missing, the script is empty, and no device fails.
     Row(&'a str),
-    /// The row runs in these versions, each over images of its own. Without such a line it runs in version 1.
+    /// The row runs in these versions, each over images of its own. Without such a line it runs in versions 1 and 3.
     Versions(Versions),
     /// FILE is a format of this number of blocks.
     Format(&'a str),

@@ -5,6 +5,7 @@
 
 mod comparison;
 mod crashes;
+mod exchange;
 mod image;
 mod line;
 mod parts;

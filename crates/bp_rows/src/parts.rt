@@ -6,6 +6,9 @@ ghost use Rattle.bp_limits.specs.Limits.{log_events};
 ghost use Rattle.bp_session.specs.Files.{CanSave};
 ghost use Rattle.std.specs.Prelude.{◌≡◌, ◌≤◌};
 
+use crate::exchange::exchanged;
+use crate::row::Row;
+use crate::runs::format_words;
 use crate::stage::{serve_bytes, serve_script};
 use bp_io::{FairFiles, FairSource, NullSink};
 use bp_limits::MAX_LINE;
@@ -109,24 +112,22 @@ fn serve_file(alloc: Global, files: &mut FairFiles, report: &mut String) -> Resu
     }
 }
 
-/// Formats and checks a file, and between serves scripts and lines over it.
-fn serve_new_file(
-    alloc: Global,
-    files: &mut FairFiles,
-    report: &mut String,
-) -> Result<(), AllocError> {
-    count(
-        alloc,
-        &["bpfs", "format", "f", "--blocks", "8"],
-        files,
-        report,
-    )?;
-    serve_file(alloc, files, report)?;
-    count(alloc, &["bpfs", "check", "f"], files, report)
+/// Formats a file of the version of a row, and writes the result. Returns a file with these bytes, under the magic number
+/// `BPFSRS3B` if the row asks for it.
+fn new_file(alloc: Global, row: &Row, report: &mut String) -> Result<FairFiles, AllocError> {
+    let mut files = FairFiles::new(alloc, &[])?;
+    count(alloc, &format_words("8", row.version), &mut files, report)?;
+    if row.is_exchanged
+        && let Some(bytes) = exchanged(alloc, Some(files.image()))?
+    {
+        return FairFiles::new(alloc, &bytes);
+    }
+    Ok(files)
 }
 
 /// Formats and checks a file, and between serves lines and scripts over it. Writes the result of each.
-pub fn serve_parts(alloc: Global, report: &mut String) -> Result<(), AllocError> {
-    let mut files = FairFiles::new(alloc, &[])?;
-    serve_new_file(alloc, &mut files, report)
+pub fn serve_parts(alloc: Global, row: &Row, report: &mut String) -> Result<(), AllocError> {
+    let mut files = new_file(alloc, row, report)?;
+    serve_file(alloc, &mut files, report)?;
+    count(alloc, &["bpfs", "check", "f"], &mut files, report)
 }

@@ -50,6 +50,8 @@ impl Failing {
 pub struct Row {
     /// The version of the formats that are made for the row, and of the abstract tree compared with it.
     pub version: Version,
+    /// Whether the program gets FILE with the magic number `BPFSRS3B`, if it has a magic number of version 3.
+    pub is_exchanged: bool,
     /// FILE, if there is one.
     pub file: Option<Vec<u8>>,
     /// The arguments that are run, if a line gives them.
@@ -77,9 +79,10 @@ fn add_line(text: &str, script: &mut String) -> Result<bool, AllocError> {
 
 impl Row {
     /// Makes a row with `run` over a missing file and no script, in which no call fails.
-    pub fn new(alloc: Global, version: Version) -> Row {
+    pub fn new(alloc: Global, version: Version, is_exchanged: bool) -> Row {
         Row {
             version,
+            is_exchanged,
             file: None,
             words: None,
             script: String::new(alloc),
@@ -93,7 +96,7 @@ impl Row {
 
     /// Begins the next run of the row: over the contents of FILE, with an empty script.
     pub fn go_on(&mut self, alloc: Global, file: Option<Vec<u8>>) {
-        *self = Row::new(alloc, self.version);
+        *self = Row::new(alloc, self.version, self.is_exchanged);
         self.file = file;
     }
 

@@ -1,12 +1,11 @@
 //! Rows, line by line, and the report of their runs.
 
 use crate::line::{InputLine, Versions, read};
-use crate::parts::serve_parts;
 use crate::side::{Side, refuse};
 use bp_limits::Version;
 use std::alloc::{AllocError, Global};
 
-/// The row that is being read, in each version of the format.
+/// The row that is being read, in each version of the format, and in version 3 under its other magic number too.
 #[derive(Drop)]
 struct Rows {
     alloc: Global,
@@ -14,6 +13,7 @@ struct Rows {
     first: Side,
     second: Side,
     third: Side,
+    exchanged: Side,
 }
 
 /// Does what each line of a text asks, and writes the results.
@@ -27,10 +27,11 @@ impl Rows {
     fn new(alloc: Global) -> Rows {
         Rows {
             alloc,
-            versions: Versions::First,
-            first: Side::new(alloc, Version::One),
-            second: Side::new(alloc, Version::Two),
-            third: Side::new(alloc, Version::Three),
+            versions: Versions::FirstAndThird,
+            first: Side::new(alloc, Version::One, false),
+            second: Side::new(alloc, Version::Two, false),
+            third: Side::new(alloc, Version::Three, false),
+            exchanged: Side::new(alloc, Version::Three, true),
         }
     }
 
@@ -52,19 +53,20 @@ impl Rows {
                 self.versions = versions;
                 Ok(())
             }
-            InputLine::Parts => serve_parts(self.alloc, report),
             _ => self.take_in_versions(text, line, report),
         }
     }
 
     fn begin(&mut self, name: &str, report: &mut String) -> Result<(), AllocError> {
-        self.versions = Versions::First;
+        self.versions = Versions::FirstAndThird;
         self.first.begin();
         self.second.begin();
         self.third.begin();
+        self.exchanged.begin();
         writeln!(report, "== {name}")
     }
 
+    /// Does what a line asks in the versions of the row. A result that is the same in two versions is written once.
     fn take_in_versions(
         &mut self,
         text: &str,
@@ -74,12 +76,12 @@ impl Rows {
         match self.versions {
             Versions::First => self.first.take(text, line, report),
             Versions::Later => self.take_in_later(text, line, report),
-            Versions::Third => self.third.take(text, line, report),
+            Versions::Third => self.take_in_third(text, line, report),
             Versions::All => self.take_in_all(text, line, report),
+            Versions::FirstAndThird => self.take_in_first_and_third(text, line, report),
         }
     }
 
-    /// Does what a line asks in versions 2 and 3. A result that is the same in both is written once.
     fn take_in_later(
         &mut self,
         text: &str,
@@ -89,10 +91,21 @@ impl Rows {
         let mut second = String::new(self.alloc);
         self.second.take(text, line, &mut second)?;
         report.push_str(second.as_str())?;
-        self.take_in_third(text, line, second.as_str(), report)
+        self.compare_third(text, line, second.as_str(), report)
     }
 
-    /// Does what a line asks in all versions. A result that is the same in two of them is written once.
+    fn take_in_third(
+        &mut self,
+        text: &str,
+        line: InputLine<'_>,
+        report: &mut String,
+    ) -> Result<(), AllocError> {
+        let mut third = String::new(self.alloc);
+        self.third.take(text, line, &mut third)?;
+        report.push_str(third.as_str())?;
+        self.compare_exchanged(text, line, third.as_str(), report)
+    }
+
     fn take_in_all(
         &mut self,
         text: &str,
@@ -104,24 +117,54 @@ impl Rows {
         let mut second = String::new(self.alloc);
         self.second.take(text, line, &mut second)?;
         report_both(first.as_str(), second.as_str(), report)?;
-        self.take_in_third(text, line, second.as_str(), report)
+        self.compare_third(text, line, second.as_str(), report)
     }
 
-    /// Does what a line asks in version 3, and writes the result if it is not that in version 2.
-    fn take_in_third(
+    fn take_in_first_and_third(
         &mut self,
         text: &str,
         line: InputLine<'_>,
-        second: &str,
+        report: &mut String,
+    ) -> Result<(), AllocError> {
+        let mut first = String::new(self.alloc);
+        self.first.take(text, line, &mut first)?;
+        report.push_str(first.as_str())?;
+        self.compare_third(text, line, first.as_str(), report)
+    }
+
+    /// Does what a line asks in version 3, and writes the result if it is not that in an earlier version.
+    fn compare_third(
+        &mut self,
+        text: &str,
+        line: InputLine<'_>,
+        earlier: &str,
         report: &mut String,
     ) -> Result<(), AllocError> {
         let mut third = String::new(self.alloc);
         self.third.take(text, line, &mut third)?;
-        if third.as_str() == second {
-            return Ok(());
+        if third.as_str() != earlier {
+            report.push_str("version 3\n")?;
+            report.push_str(third.as_str())?;
         }
-        report.push_str("version 3\n")?;
-        report.push_str(third.as_str())
+        self.compare_exchanged(text, line, third.as_str(), report)
+    }
+
+    /// Does what a line asks under the other magic number of version 3, and writes the result if it is not that under
+    /// the first one.
+    fn compare_exchanged(
+        &mut self,
+        text: &str,
+        line: InputLine<'_>,
+        third: &str,
+        report: &mut String,
+    ) -> Result<(), AllocError> {
+        let mut exchanged = String::new(self.alloc);
+        self.exchanged.take(text, line, &mut exchanged)?;
+        if exchanged.as_str() != third {
+            report.push_str("version 3 under BPFSRS3B\n")?;
+            report.push_str(exchanged.as_str())?;
+        }
+        Ok(())
     }
 }
 

@@ -1,5 +1,6 @@
 //! Runs over the devices in memory.
 
+use crate::exchange::{exchange, exchanged};
 use crate::row::Row;
 use bp_io::{FairSource, MemFiles, MemSink, MemSource, NullSink};
 use bp_limits::Version;
@@ -27,18 +28,14 @@ fn image_of(alloc: Global, files: &MemFiles<'_>) -> Result<Option<Vec<u8>>, Allo
     }
 }
 
-/// Returns the bytes of a format of this number of blocks and of a version, `None` if the program refuses the number.
-pub fn formatted(
-    alloc: Global,
-    blocks: &str,
-    version: Version,
-) -> Result<Option<Vec<u8>>, AllocError> {
+/// Returns the arguments of a format of FILE with this number of blocks, in a version.
+pub fn format_words(blocks: &str, version: Version) -> [&str; 7] {
     let number = match version {
         Version::One => "1",
         Version::Two => "2",
         Version::Three => "3",
     };
-    let words = [
+    [
         "bpfs",
         "format",
         "f",
@@ -46,9 +43,17 @@ pub fn formatted(
         blocks,
         "--version",
         number,
-    ];
+    ]
+}
+
+/// Returns the bytes of a format of this number of blocks and of a version, `None` if the program refuses the number.
+pub fn formatted(
+    alloc: Global,
+    blocks: &str,
+    version: Version,
+) -> Result<Option<Vec<u8>>, AllocError> {
     let mut files = MemFiles::new(alloc, None, &[])?;
-    format_over(alloc, &words, &mut files)
+    format_over(alloc, &format_words(blocks, version), &mut files)
 }
 
 /// Runs a format over these devices. Returns the bytes that it makes, `None` if it refuses.
@@ -95,14 +100,36 @@ fn play_over(
     left(alloc, status.code(), &sink, files)
 }
 
-/// Runs these arguments over a row's devices.
-fn play_words(alloc: Global, row: &Row, words: &[&str]) -> Result<Ran, AllocError> {
-    let mut files = MemFiles::new(alloc, row.file.as_deref(), &row.failing.files)?;
+/// Runs these arguments over a row's devices, with this FILE.
+fn play_words(
+    alloc: Global,
+    row: &Row,
+    words: &[&str],
+    file: Option<&[u8]>,
+) -> Result<Ran, AllocError> {
+    let mut files = MemFiles::new(alloc, file, &row.failing.files)?;
     play_over(alloc, row, words, &mut files)
+}
+
+/// Runs these arguments over FILE with the magic number `BPFSRS3B`, and exchanges it again after the run. A FILE without
+/// a magic number of version 3 stays as it is, before and after.
+fn play_exchanged(alloc: Global, row: &Row, words: &[&str]) -> Result<Ran, AllocError> {
+    let Some(file) = exchanged(alloc, row.file.as_deref())? else {
+        return play_words(alloc, row, words, row.file.as_deref());
+    };
+    let mut ran = play_words(alloc, row, words, Some(file.as_slice()))?;
+    if let Some(left) = &mut ran.file {
+        exchange(left);
+    }
+    Ok(ran)
 }
 
 /// Runs a row.
 pub fn play(alloc: Global, row: &Row) -> Result<Ran, AllocError> {
     let words: Vec<&str> = row.words().split_whitespace().collect(alloc)?;
-    play_words(alloc, row, &words)
+    if row.is_exchanged {
+        play_exchanged(alloc, row, &words)
+    } else {
+        play_words(alloc, row, &words, row.file.as_deref())
+    }
 }

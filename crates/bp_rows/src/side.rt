@@ -1,15 +1,17 @@
-//! A row in one version of the format.
+//! A row in one version of the format, under one magic number.
 
 use crate::comparison::compare;
 use crate::crashes::cut_all_over;
+use crate::exchange::exchange;
 use crate::line::{Device, InputLine};
+use crate::parts::serve_parts;
 use crate::row::{Failing, Row};
 use crate::runs::{formatted, play};
 use crate::show::{show, show_short};
 use bp_limits::Version;
 use std::alloc::{AllocError, Global};
 
-/// The row that is being read, in one version, and the image of that version that is kept for later ones.
+/// The row that is being read, in one version, and the image of that version that is kept for later rows.
 #[derive(Drop)]
 pub struct Side {
     alloc: Global,
@@ -31,17 +33,17 @@ pub fn refuse(text: &str, report: &mut String) -> Result<(), AllocError> {
 
 impl Side {
     /// Makes the state before the first row, with no image.
-    pub fn new(alloc: Global, version: Version) -> Side {
+    pub fn new(alloc: Global, version: Version, is_exchanged: bool) -> Side {
         Side {
             alloc,
-            row: Row::new(alloc, version),
+            row: Row::new(alloc, version, is_exchanged),
             kept: None,
         }
     }
 
     /// Begins a row.
     pub fn begin(&mut self) {
-        self.row = Row::new(self.alloc, self.row.version);
+        self.row = Row::new(self.alloc, self.row.version, self.row.is_exchanged);
     }
 
     /// Does what a line of the row asks, and writes the result.
@@ -64,6 +66,7 @@ impl Side {
             InputLine::Plain(blocks) => self.plain(text, blocks, report),
             InputLine::Cuts(blocks) => self.cut(text, blocks, report),
             InputLine::Sweep(device, count) => self.sweep(device, count, report),
+            InputLine::Parts => serve_parts(self.alloc, &self.row, report),
             _ => {
                 if self.row.set(self.alloc, line)? {
                     Ok(())
@@ -105,7 +108,12 @@ impl Side {
             _ => formatted(self.alloc, blocks, self.row.version)?,
         };
         match image {
-            Some(image) => cut_all_over(self.alloc, &self.row, &image, report),
+            Some(mut image) => {
+                if self.row.is_exchanged {
+                    exchange(&mut image);
+                }
+                cut_all_over(self.alloc, &self.row, &image, report)
+            }
             None => refuse(text, report),
         }
     }

@@ -1,9 +1,10 @@
 -- The whole of a tree, and the inodes of its paths.
 use Rattle.std.proofs.Common.{◌≡◌, ℕ, zero, suc, ◌*◌, ◌/◌, ◌<◌, ◌≤◌, List, [], ◌∷◌, ◌++◌, flat_map, None, Some, refl, sym, ◌∙◌, ap, subst, arith, append-nil}
-use Rattle.std.specs.Prelude.{All, Result, Ok, Err}
+use Rattle.std.specs.Prelude.{All, Bool, Result, Ok, Err}
 use Rattle.std.specs.FinMap.{entries}
 use Rattle.bp_io.specs.Views.{SinkView}
 use Rattle.bp_io.specs.declared.faults.Failed.{Failed}
+use Rattle.bp_layout.specs.Formatted.{version_of}
 use Rattle.bp_layout.specs.Inode.{IsDirectory, IsFile, attributes_of, inode_count, root_of, size_of}
 use Rattle.bp_layout.specs.Lookup.{lookup, node_of}
 use Rattle.bp_layout.specs.Paths.{Path}
@@ -17,6 +18,7 @@ use Rattle.bp_layout.proofs.FewLeaves.{few_inodes}
 use Rattle.bp_layout.proofs.Paths.{ByLast, LastStep, by_last, last_step}
 use Rattle.bp_layout.proofs.Paths.ByLast.{none, more}
 use Rattle.bp_layout.proofs.View.{lookup_from-reached}
+use Rattle.bp_limits.specs.CallLimits.{allows_attributes}
 use Rattle.bp_plain.specs.Calls.{Call}
 use Rattle.bp_plain.specs.Export.{HasShortPaths, IsExportable, IsOfBytes, calls_at, export_calls, root_text, sets_of}
 use Rattle.bp_plain.specs.Plain.{attributes_at, attributes_in}
@@ -27,7 +29,7 @@ use Rattle.bp_script.specs.Export.{FitsText}
 use Rattle.bp_script.proofs.ExportLines.{export_short}
 use Rattle.bp_export.specs.Exports.{Goes}
 use Rattle.bp_export.specs.Firsts.{first_text}
-use Rattle.bp_export.specs.Report.{Reports}
+use Rattle.bp_export.specs.Report.{Reports, WritesInode}
 use Rattle.bp_export.specs.Walking.{CanExport, WalkStandsAt, inside}
 use Rattle.bp_export.specs.declared.fault.Fault.{Fault}
 use Rattle.bp_export.specs.declared.fault.Fault.TheVariants.{Sink}
@@ -54,6 +56,9 @@ module _ (image : Image) (wf : IsWellFormed image) (path : Path) (i : ℕ) (foun
       go (more {path = prefix} before name) at =
           let step : LastStep image wf prefix name i = last_step image wf prefix name i at in
           not_zero i step.shows.entry.not_empty
+
+  pub written_here : (attributes : Bool) → attributes ≡ allows_attributes (version_of image) → WritesInode image i attributes
+  written_here attributes known = record { well_formed = wf; reached = found_reached; some = found_low; known = known }
 
 -- the counts of names have one for each inode
 pub has_count : (image : Image) → IsWellFormed image → (i n : ℕ) → i < inode_count image → n ≡ 64 * block_count image → i < n

@@ -1,10 +1,12 @@
 -- The output of a walk, in terms of its working memory: the current path, the waiting lines and the first paths.
-use Rattle.std.specs.Prelude.{ℕ, List, Result}
+use Rattle.std.specs.Prelude.{◌≡◌, ℕ, List, Result}
 use Rattle.bp_io.specs.Views.{SinkView}
+use Rattle.bp_layout.specs.Formatted.{version_of}
 use Rattle.bp_layout.specs.Inode.{attributes_of}
 use Rattle.bp_layout.specs.Paths.{Node, Path}
 use Rattle.bp_layout.specs.Paths.Node.{dir, file}
 use Rattle.bp_layout.specs.Words.{Image}
+use Rattle.bp_limits.specs.CallLimits.{allows_attributes}
 use Rattle.bp_plain.specs.Calls.{Call}
 use Rattle.bp_plain.specs.Export.{calls_for}
 use Rattle.bp_plain.specs.PlainTree.{PathMap}
@@ -19,6 +21,15 @@ use Rattle.pm_region.specs.Memory.{Memory, current_words}
 -- The lines that no sink has taken yet.
 abbrev pub held_lines : Work → List ℕ
 held_lines work = waiting work.replies
+
+-- The walk knows whether inodes have attributes in the version of the image.
+abbrev pub KnowsAttributes : Image → Work → Type 0
+KnowsAttributes image work = work.attributes ≡ allows_attributes (version_of image)
+
+-- The walk is back at its path, and knows the same about attributes.
+pub record IsBack (old new : Work) : Type 0 where
+  pub path : new.path.items ≡ old.path.items
+  pub attributes : new.attributes ≡ old.attributes
 
 -- The calls that make file i, which has this tree, at the current path.
 abbrev pub file_calls : Memory → ℕ → Tree → Work → List Call

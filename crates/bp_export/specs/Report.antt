@@ -1,9 +1,14 @@
 -- The output of the lines of calls, one list after the other.
-use Rattle.std.specs.Prelude.{ℕ, ◌+◌, ◌*◌, min, List, [], ◌∷◌, ◌++◌, ◌==◌, Option, None, Some, Result, OnErr, OnOk, if◌then◌else◌}
+use Rattle.std.specs.Prelude.{◌≡◌, ℕ, ◌+◌, ◌*◌, ◌≤◌, min, Bool, List, [], ◌∷◌, ◌++◌, ◌==◌, Option, None, Some, Result, OnErr, OnOk, if◌then◌else◌}
 use Rattle.bp_io.specs.Causes.{HasCause}
 use Rattle.bp_io.specs.Views.{SinkView}
 use Rattle.bp_io.specs.declared.faults.Failed.{Failed}
+use Rattle.bp_layout.specs.Formatted.{version_of}
+use Rattle.bp_layout.specs.Reached.{IsReached}
 use Rattle.bp_layout.specs.Tree.{content}
+use Rattle.bp_layout.specs.WellFormed.{IsWellFormed}
+use Rattle.bp_layout.specs.Words.{Image}
+use Rattle.bp_limits.specs.CallLimits.{allows_attributes}
 use Rattle.bp_limits.specs.Limits.{block_size}
 use Rattle.bp_plain.specs.Calls.{Call}
 use Rattle.bp_plain.specs.Calls.Call.{create, set_attribute, truncate}
@@ -47,6 +52,13 @@ abbrev pub size_after : List ℕ → ℕ → ℕ → List Call
 size_after text noted size = if noted == size then [] else truncate text size ∷ []
 
 -- ---- attributes
+
+-- A walk writes inode i, which is reachable and not the inode file. The walk knows whether inodes have attributes.
+pub record WritesInode (image : Image) (i : ℕ) (attributes : Bool) : Type 0 where
+  pub well_formed : IsWellFormed image
+  pub reached : IsReached image i
+  pub some : 1 ≤ i
+  pub known : attributes ≡ allows_attributes (version_of image)
 
 -- The call that gives an attribute this value, unless the value is 0.
 abbrev pub attribute_call : List ℕ → ℕ → ℕ → List Call

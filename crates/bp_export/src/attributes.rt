@@ -1,11 +1,9 @@
 //! The lines of attributes.
 
-ghost use Rattle.std.specs.Prelude.{All, true, ◌<◌, ◌≡◌, ◌≤◌, length};
-ghost use Rattle.bp_export.specs.Report.{ReportsAmong, attribute_call};
+ghost use Rattle.std.specs.Prelude.{All, true, ◌<◌, ◌≡◌, length};
+ghost use Rattle.bp_export.specs.Report.{ReportsAmong, WritesInode, attribute_call};
 ghost use Rattle.bp_layout.specs.Formatted.{version_of};
 ghost use Rattle.bp_layout.specs.Inode.{attributes_of};
-ghost use Rattle.bp_layout.specs.Reached.{IsReached};
-ghost use Rattle.bp_layout.specs.WellFormed.{IsWellFormed};
 ghost use Rattle.bp_limits.specs.CallLimits.{allows_attributes};
 ghost use Rattle.bp_plain.specs.Export.{sets_of};
 ghost use Rattle.bp_script.specs.Export.{FitsText};
@@ -20,7 +18,7 @@ use bp_replies::Replies;
 use pm_region::Region;
 
 /// Returns whether inodes have attributes in the version of the image.
-fn has_attributes<R: Region>(region: &R) -> bool
+pub(crate) fn has_attributes<R: Region>(region: &R) -> bool
     requires { 0 < length (words_in R.memory region.now) }
     ensures { result ≡ allows_attributes (version_of (words_in R.memory region.now)) }
 {
@@ -61,10 +59,7 @@ fn export_each<R: Region, K: Sink>(
     replies: &mut Replies,
     out: &mut K,
 ) -> Result<(), Failed>
-    requires well_formed { IsWellFormed (words_in R.memory region.now) }
-    requires reached { IsReached (words_in R.memory region.now) ino }
-    requires some { 1 ≤ ino }
-    requires version { allows_attributes (version_of (words_in R.memory region.now)) ≡ true }
+    requires inode { WritesInode (words_in R.memory region.now) ino true }
     requires short { All FitsText (sets_of path.now (attributes_of (words_in R.memory region.now) ino)) }
     ensures { ReportsAmong (sets_of path.now (attributes_of (words_in R.memory region.now) ino))
         result replies.old (K.view out.old) replies.new (K.view out.new) }
@@ -79,8 +74,8 @@ fn export_each<R: Region, K: Sink>(
     Ok(())
 }
 
-/// Writes the lines that set the attributes of an inode at its path, except those that are 0. Before version 3 there are
-/// no attributes, and no word of the inode is read.
+/// Writes the lines that set the attributes of an inode at its path, except those that are 0. `attributes` says whether
+/// inodes have attributes; if not, no word of the inode is read.
 ///
 /// # Errors
 ///
@@ -90,18 +85,17 @@ fn export_each<R: Region, K: Sink>(
 pub(crate) fn export_attributes<R: Region, K: Sink>(
     region: &R,
     ino: u32,
+    attributes: bool,
     path: &[u8],
     replies: &mut Replies,
     out: &mut K,
 ) -> Result<(), Failed>
-    requires well_formed { IsWellFormed (words_in R.memory region.now) }
-    requires reached { IsReached (words_in R.memory region.now) ino }
-    requires some { 1 ≤ ino }
+    requires inode { WritesInode (words_in R.memory region.now) ino attributes }
     requires short { All FitsText (sets_of path.now (attributes_of (words_in R.memory region.now) ino)) }
     ensures { ReportsAmong (sets_of path.now (attributes_of (words_in R.memory region.now) ino))
         result replies.old (K.view out.old) replies.new (K.view out.new) }
 {
-    if !has_attributes(region) {
+    if !attributes {
         return Ok(());
     }
     export_each(region, ino, path, replies, out)

@@ -2,12 +2,12 @@
 
 ghost use Rattle.std.specs.Prelude.{◌*◌, ◌++◌, ◌≡◌, ◌≤◌, ◌∷◌, All, IfOk, OnOk, length};
 ghost use Rattle.bp_export.specs.Exports.{EndsExport, Goes};
-ghost use Rattle.bp_export.specs.Held.{StandsHeld, ToursHeld, ToursItself, directory_calls, file_calls, held_lines};
+ghost use Rattle.bp_export.specs.Held.{IsBack, KnowsAttributes, StandsHeld, ToursHeld, ToursItself, directory_calls, file_calls, held_lines};
+ghost use Rattle.bp_export.specs.Report.{WritesInode};
 ghost use Rattle.bp_export.specs.Walking.{Place, inside, itself};
 ghost use Rattle.bp_layout.specs.Fields.{kind_word};
 ghost use Rattle.bp_layout.specs.Inode.{IsDirectory, IsFile, kind_of, root_of, size_of};
 ghost use Rattle.bp_layout.specs.Names.{AreCounts};
-ghost use Rattle.bp_layout.specs.Reached.{IsReached};
 ghost use Rattle.bp_layout.specs.Tree.{IsSound};
 ghost use Rattle.bp_layout.specs.WellFormed.{IsWellFormed};
 ghost use Rattle.bp_layout.specs.Whole.{IsFileSystem};
@@ -18,7 +18,7 @@ ghost use Rattle.bp_plain.specs.Stands.{Stands};
 ghost use Rattle.bp_script.specs.Export.{FitsText};
 ghost use Rattle.pm_region.specs.Memory.{words_in};
 
-use crate::attributes::export_attributes;
+use crate::attributes::{export_attributes, has_attributes};
 use crate::depth::has_long_path;
 use crate::entries::Entries;
 use crate::fault::Fault;
@@ -55,14 +55,12 @@ fn export_new<R: Region, K: Sink>(
     work: &mut Work,
     out: &mut K,
 ) -> Result<(), Fault>
-    requires well_formed { IsWellFormed (words_in R.memory region.now) }
-    requires reached { IsReached (words_in R.memory region.now) ino }
-    requires some { 1 ≤ ino }
+    requires inode { WritesInode (words_in R.memory region.now) ino work.old.attributes }
     requires sound { IsSound (words_in R.memory region.now) tree.root tree.size }
     requires short { All FitsText (file_calls (R.memory region.now) ino tree work.old) }
     ensures goes { Goes (file_calls (R.memory region.now) ino tree work.old) result
         (held_lines work.old) (held_lines work.new) (K.view out.old) (K.view out.new) }
-    ensures path { work.new.path.items ≡ work.old.path.items }
+    ensures back { IsBack work.old work.new }
     ensures firsts { work.new.firsts ≡ work.old.firsts }
 {
     export_file(
@@ -73,7 +71,14 @@ fn export_new<R: Region, K: Sink>(
         &mut work.replies,
         out,
     )?;
-    export_attributes(region, ino, &work.path, &mut work.replies, out)?;
+    export_attributes(
+        region,
+        ino,
+        work.attributes,
+        &work.path,
+        &mut work.replies,
+        out,
+    )?;
     Ok(())
 }
 
@@ -88,17 +93,22 @@ fn export_directory<R: Region, K: Sink>(
     work: &mut Work,
     out: &mut K,
 ) -> Result<(), Fault>
-    requires well_formed { IsWellFormed (words_in R.memory region.now) }
-    requires reached { IsReached (words_in R.memory region.now) ino }
-    requires some { 1 ≤ ino }
+    requires inode { WritesInode (words_in R.memory region.now) ino work.old.attributes }
     requires short { All FitsText (directory_calls (R.memory region.now) ino work.old) }
     ensures goes { Goes (directory_calls (R.memory region.now) ino work.old) result
         (held_lines work.old) (held_lines work.new) (K.view out.old) (K.view out.new) }
-    ensures path { work.new.path.items ≡ work.old.path.items }
+    ensures back { IsBack work.old work.new }
     ensures firsts { work.new.firsts ≡ work.old.firsts }
 {
     report(Call::Mkdir(&work.path), &mut work.replies, out)?;
-    export_attributes(region, ino, &work.path, &mut work.replies, out)?;
+    export_attributes(
+        region,
+        ino,
+        work.attributes,
+        &work.path,
+        &mut work.replies,
+        out,
+    )?;
     Ok(())
 }
 
@@ -124,12 +134,13 @@ fn export_name<R: Region, K: Sink>(
     requires size { tree.size ≡ size_of (words_in R.memory region.now) ino }
     requires counts { AreCounts (words_in R.memory region.now) counts.now }
     requires inodes { length counts.now ≡ block_inodes * block_count (words_in R.memory region.now) }
+    requires attributes { KnowsAttributes (words_in R.memory region.now) work.old }
     requires below { 1 ≤ length work.old.path.items }
     requires stands { let words = words_in R.memory region.now in
         (place : Place) × StandsHeld words counts.now (itself words ino) ino work.old place }
     ensures tours { ToursItself (words_in R.memory region.now) counts.now ino result
         work.old (K.view out.old) work.new (K.view out.new) }
-    ensures path { work.new.path.items ≡ work.old.path.items }
+    ensures back { IsBack work.old work.new }
 {
     if counts.names(ino) <= 1 {
         return export_new(region, ino, tree, work, out);
@@ -162,13 +173,14 @@ fn export_entry<R: Region, K: Sink>(
     requires well_formed { IsWellFormed (words_in R.memory region.now) }
     requires counts { AreCounts (words_in R.memory region.now) counts.now }
     requires inodes { length counts.now ≡ block_inodes * block_count (words_in R.memory region.now) }
+    requires attributes { KnowsAttributes (words_in R.memory region.now) work.old }
     requires below { 1 ≤ length work.old.path.items }
     requires stands { let words = words_in R.memory region.now in
         (place : Place) × StandsHeld words counts.now (itself words ino) ino work.old place }
     ensures tours { ToursItself (words_in R.memory region.now) counts.now ino result
         work.old (K.view out.old) work.new (K.view out.new) }
     ensures kind { IfOk result (λ kind. kind_word kind ≡ kind_of (words_in R.memory region.now) ino) }
-    ensures path { work.new.path.items ≡ work.old.path.items }
+    ensures back { IsBack work.old work.new }
 {
     let inode = get(region, ino);
     match inode.kind {
@@ -196,10 +208,11 @@ fn export_below<R: Region, K: Sink>(
     requires directory { IsDirectory (words_in R.memory region.now) ino }
     requires counts { AreCounts (words_in R.memory region.now) counts.now }
     requires inodes { length counts.now ≡ block_inodes * block_count (words_in R.memory region.now) }
+    requires attributes { KnowsAttributes (words_in R.memory region.now) work.old }
     requires stands { (place : Place) × StandsHeld (words_in R.memory region.now) counts.now inside ino work.old place }
     ensures tours { ToursHeld (words_in R.memory region.now) counts.now inside ino result
         work.old (K.view out.old) work.new (K.view out.new) }
-    ensures path { OnOk result (work.new.path.items ≡ work.old.path.items) }
+    ensures back { OnOk result (IsBack work.old work.new) }
 {
     let entries = Entries::of(alloc, region, ino)?;
     let here = work.path.len();
@@ -239,8 +252,9 @@ pub fn export<R: Region, K: Sink>(
     if has_long_path(region, ROOT_INO, MAX_PATH) {
         return Err(Fault::Deep);
     }
-    let mut work = Work::new(alloc)?;
-    export_attributes(region, ROOT_INO, b"/", &mut work.replies, out)?;
+    let attributes = has_attributes(region);
+    let mut work = Work::new(alloc, attributes)?;
+    export_attributes(region, ROOT_INO, attributes, b"/", &mut work.replies, out)?;
     export_below(alloc, region, ROOT_INO, counts, &mut work, out)?;
     work.replies.hand_over(out)?;
     Ok(())

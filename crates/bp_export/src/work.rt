@@ -21,18 +21,22 @@ pub(crate) struct Work {
     pub(crate) replies: Replies,
     /// The first paths of files with several links.
     pub(crate) firsts: Firsts,
+    /// Whether inodes have attributes in the version of the image. It is read once, and not again for each inode.
+    pub(crate) attributes: bool,
     ghost room: { vec_len stretch ≡ block_size },
 }
 
 impl Work {
-    /// Makes the working memory of a walk at the root, with no line written.
+    /// Makes the working memory of a walk at the root, with no line written. `attributes` says whether inodes have
+    /// attributes.
     ///
     /// # Errors
     ///
     /// * `AllocError`: allocation fails.
-    pub(crate) fn new(alloc: Global) -> Result<Work, AllocError>
+    pub(crate) fn new(alloc: Global, attributes: bool) -> Result<Work, AllocError>
         ensures path { IfOk result (λ work. work.path.items ≡ []) }
         ensures waits { IfOk result (λ work. waiting work.replies ≡ []) }
+        ensures attributes { IfOk result (λ work. work.attributes ≡ attributes) }
         ensures firsts { IfOk result (λ work. (i : ℕ) → first_text work.firsts i ≡ None) }
     {
         Ok(Work {
@@ -40,6 +44,7 @@ impl Work {
             stretch: vec![in alloc; 0; BLOCK_SIZE as usize]?,
             replies: Replies::new(alloc)?,
             firsts: Firsts::new(alloc),
+            attributes,
         })
     }
 }

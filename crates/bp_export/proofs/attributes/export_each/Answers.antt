@@ -15,18 +15,18 @@ use Rattle.bp_export.proofs.ReportLaws.{fails_before, reports_as, reports_same, 
 use Rattle.bp_export.proofs.attributes.export_each.Goals as goal
 
 pub place-first-requires-clause-sound : goal.place-first-requires-clause-sound
-place-first-requires-clause-sound g c = c.requires.well_formed.sound 0 inode_file
+place-first-requires-clause-sound g c = c.requires.inode.well_formed.sound 0 inode_file
 
 pub place-first-requires-clause-there : goal.place-first-requires-clause-there
-place-first-requires-clause-there g c = reached-in_file (current_words (g.R.Region.memory c.args.region.now)) c.requires.well_formed c.args.ino c.requires.reached
+place-first-requires-clause-there g c = reached-in_file (current_words (g.R.Region.memory c.args.region.now)) c.requires.inode.well_formed c.args.ino c.requires.inode.reached
 
 pub load-value-requires : goal.load-value-requires
 load-value-requires g c =
     let image = current_words (g.R.Region.memory c.args.region.now) in
-    let there = reached-in_file image c.requires.well_formed c.args.ino c.requires.reached in
+    let there = reached-in_file image c.requires.inode.well_formed c.args.ino c.requires.inode.reached in
     omega (
       arith,
-      place_low image c.args.ino c.place-first.result c.place-first.ensures.place (c.requires.well_formed.sound 0 inode_file) there c.loop-number.number (omega (arith, c.loop-number-test.true)),
+      place_low image c.args.ino c.place-first.result c.place-first.ensures.place (c.requires.inode.well_formed.sound 0 inode_file) there c.loop-number.number (omega (arith, c.loop-number-test.true)),
       length-current_words (g.R.Region.memory c.args.region.now),
     )
 
@@ -34,7 +34,7 @@ pub export_attribute-requires : goal.export_attribute-requires
 export_attribute-requires g c =
     let image = current_words (g.R.Region.memory c.args.region.now) in
     let value : c.load-value.result ≡ slice_index (attributes_of image c.args.ino) c.loop-number.number =
-    loaded image c.args.ino c.place-first.result c.loop-number.number c.load-value.result c.place-first.ensures.place c.requires.some (omega (arith, c.loop-number-test.true)) c.requires.version c.load-value.ensures (omega arith) in
+    loaded image c.args.ino c.place-first.result c.loop-number.number c.load-value.result c.place-first.ensures.place c.requires.inode.some (omega (arith, c.loop-number-test.true)) (sym c.requires.inode.known) c.load-value.ensures (omega arith) in
     subst (λ w. All FitsText (attribute_call c.args.path.now c.loop-number.number w)) (sym value)
     (all_at (set_of c.args.path.now (attributes_of image c.args.ino)) FitsText c.loop-number.number 3 (omega (arith, c.loop-number-test.true)) c.requires.short)
 
@@ -44,7 +44,7 @@ returns-in_err-export_attribute g c =
     let sets = set_of c.args.path.now (attributes_of image c.args.ino) in
     let k = c.loop-number.number in
     let value : c.load-value.result ≡ slice_index (attributes_of image c.args.ino) c.loop-number.number =
-    loaded image c.args.ino c.place-first.result k c.load-value.result c.place-first.ensures.place c.requires.some (omega (arith, c.loop-number-test.true)) c.requires.version c.load-value.ensures (omega arith) in
+    loaded image c.args.ino c.place-first.result k c.load-value.result c.place-first.ensures.place c.requires.inode.some (omega (arith, c.loop-number-test.true)) (sym c.requires.inode.known) c.load-value.ensures (omega arith) in
     let p = err_from_is_err_and c.from_residual.result c.from_residual.ensures.1 in
     rw p.1 (
     reports_same _ _ _ _ _ _ _ (split_round sets k 3 (omega (arith, c.loop-number-test.true)))
@@ -59,7 +59,7 @@ loop-number-preserved g c =
     let sets = set_of c.args.path.now (attributes_of image c.args.ino) in
     let k = c.loop-number.number in
     let value : c.load-value.result ≡ slice_index (attributes_of image c.args.ino) c.loop-number.number =
-    loaded image c.args.ino c.place-first.result k c.load-value.result c.place-first.ensures.place c.requires.some (omega (arith, c.loop-number-test.true)) c.requires.version c.load-value.ensures (omega arith) in
+    loaded image c.args.ino c.place-first.result k c.load-value.result c.place-first.ensures.place c.requires.inode.some (omega (arith, c.loop-number-test.true)) (sym c.requires.inode.known) c.load-value.ensures (omega arith) in
     reports_same _ _ _ _ _ _ _ (sym (one_more sets k))
     (reports_then _ _ (calls_until sets k) (sets k) _ _ _ _ _ _ c.loop-number.invariant
     (reports_as _ _ _ _ _ _ _ (reports_same _ _ _ _ _ _ _ (ap (attribute_call c.args.path.now k) value) c.in_ok-export_attribute.ensures)))

@@ -31,14 +31,14 @@ returns-in_err-entries-clause-tours g t c place stands =
     let p = err_from_is_err_and c.from_residual.result c.from_residual.ensures.1 in
     rw p.1 (ends_at_once _ _ _ _ _ place stands (waiting c.args.work.now.replies) (g.K.Sink.view c.args.out.now) (Unit {0}) p.0 p.2 c.args.work.now.firsts)
 
-pub returns-in_err-entries-clause-path : goal.returns-in_err-entries-clause-path
-returns-in_err-entries-clause-path g t c =
+pub returns-in_err-entries-clause-back : goal.returns-in_err-entries-clause-back
+returns-in_err-entries-clause-back g t c =
     let p = err_from_is_err_and c.from_residual.result c.from_residual.ensures.1 in
     rw p.1 tt
 
 pub loop-k-init : goal.loop-k-init
 loop-k-init g t c = record {
-  path = refl;
+  back = record { path = refl; attributes = refl };
   tours = λ place stands. none_reported _ _ _ _ _ place stands (waiting c.args.work.now.replies) (g.K.Sink.view c.args.out.now);
 }
 
@@ -53,8 +53,8 @@ returns-in_err-go_down-clause-tours g t c place stands =
     c.loop-k.k c.at-inode.result.0 c.at-inode.result.1.now c.at-inode.ensures.entry c.loop-k.work.firsts (waiting c.loop-k.work.replies) (g.K.Sink.view c.loop-k.out) (c.loop-k.invariant.tours place stands)
     (Unit {0}) p.0 p.2 c.loop-k.work.firsts)
 
-pub returns-in_err-go_down-clause-path : goal.returns-in_err-go_down-clause-path
-returns-in_err-go_down-clause-path g t c =
+pub returns-in_err-go_down-clause-back : goal.returns-in_err-go_down-clause-back
+returns-in_err-go_down-clause-back g t c =
     let p = err_from_is_err_and c.from_residual-in_err-go_down.result c.from_residual-in_err-go_down.ensures.1 in
     rw p.1 tt
 
@@ -67,6 +67,9 @@ export_entry-requires-clause-counts g t c = c.requires.counts
 pub export_entry-requires-clause-inodes : goal.export_entry-requires-clause-inodes
 export_entry-requires-clause-inodes g t c = c.requires.inodes
 
+pub export_entry-requires-clause-attributes : goal.export_entry-requires-clause-attributes
+export_entry-requires-clause-attributes g t c = c.loop-k.invariant.back.attributes ∙ c.requires.attributes
+
 pub export_entry-requires-clause-below : goal.export_entry-requires-clause-below
 export_entry-requires-clause-below g t c =
     omega (arith, ap length c.in_ok-go_down.ensures, length-append c.loop-k.work.path.items (47 ∷ c.at-inode.result.1.now))
@@ -75,7 +78,7 @@ pub export_entry-requires-clause-stands : goal.export_entry-requires-clause-stan
 export_entry-requires-clause-stands g t c =
     let place = c.requires.stands.0 in
     let stands = c.requires.stands.1 in
-    let is : c.go_down.new.path.items ≡ c.args.work.now.path.items ++ 47 ∷ c.at-inode.result.1.now = c.in_ok-go_down.ensures ∙ ap (λ l. l ++ 47 ∷ c.at-inode.result.1.now) c.loop-k.invariant.path in (
+    let is : c.go_down.new.path.items ≡ c.args.work.now.path.items ++ 47 ∷ c.at-inode.result.1.now = c.in_ok-go_down.ensures ∙ ap (λ l. l ++ 47 ∷ c.at-inode.result.1.now) c.loop-k.invariant.back.path in (
       child_place _ _ _ _ _ place stands c.in_ok-entries.entries c.in_ok-entries.ensures c.loop-k.k c.at-inode.result.0 c.at-inode.result.1.now c.at-inode.ensures.entry,
       rw is (stands_at_child _ _ _ _ _ place stands c.in_ok-entries.entries c.in_ok-entries.ensures c.loop-k.k c.at-inode.result.0 c.at-inode.result.1.now c.at-inode.ensures.entry c.loop-k.work.firsts (c.loop-k.invariant.tours place stands).remembers),
     )
@@ -83,7 +86,7 @@ export_entry-requires-clause-stands g t c =
 pub returns-in_err-export_entry-clause-tours : goal.returns-in_err-export_entry-clause-tours
 returns-in_err-export_entry-clause-tours g t c place stands =
     let p = err_from_is_err_and c.from_residual-in_err-export_entry.result c.from_residual-in_err-export_entry.ensures.1 in
-    let is : c.go_down.new.path.items ≡ c.args.work.now.path.items ++ 47 ∷ c.at-inode.result.1.now = c.in_ok-go_down.ensures ∙ ap (λ l. l ++ 47 ∷ c.at-inode.result.1.now) c.loop-k.invariant.path in
+    let is : c.go_down.new.path.items ≡ c.args.work.now.path.items ++ 47 ∷ c.at-inode.result.1.now = c.in_ok-go_down.ensures ∙ ap (λ l. l ++ 47 ∷ c.at-inode.result.1.now) c.loop-k.invariant.back.path in
     let noted = c.loop-k.invariant.tours place stands in
     let child = child_place _ _ _ _ _ place stands c.in_ok-entries.entries c.in_ok-entries.ensures c.loop-k.k c.at-inode.result.0 c.at-inode.result.1.now c.at-inode.ensures.entry in
     let there : WalkStandsAt (current_words (g.R.Region.memory c.args.region.now)) c.args.counts.now (itself (current_words (g.R.Region.memory c.args.region.now)) c.at-inode.result.0) c.at-inode.result.0 c.go_down.new.path.items c.loop-k.work.firsts child =
@@ -94,8 +97,8 @@ returns-in_err-export_entry-clause-tours g t c place stands =
     (waiting c.export_entry.new.work.replies) (g.K.Sink.view c.export_entry.new.out) _ (Unit {0}) c.in_err-export_entry.field-0.0 p.0 p.2 c.export_entry.new.work.firsts
     (c.in_err-export_entry.ensures.tours child there))
 
-pub returns-in_err-export_entry-clause-path : goal.returns-in_err-export_entry-clause-path
-returns-in_err-export_entry-clause-path g t c =
+pub returns-in_err-export_entry-clause-back : goal.returns-in_err-export_entry-clause-back
+returns-in_err-export_entry-clause-back g t c =
     let p = err_from_is_err_and c.from_residual-in_err-export_entry.result c.from_residual-in_err-export_entry.ensures.1 in
     rw p.1 tt
 
@@ -104,8 +107,8 @@ export_below-requires g t c κs within =
     let image = current_words (g.R.Region.memory c.args.region.now) in
     let place = c.requires.stands.0 in
     let stands = c.requires.stands.1 in
-    let is : c.go_down.new.path.items ≡ c.args.work.now.path.items ++ 47 ∷ c.at-inode.result.1.now = c.in_ok-go_down.ensures ∙ ap (λ l. l ++ 47 ∷ c.at-inode.result.1.now) c.loop-k.invariant.path in
-    let path_is : c.export_entry.new.work.path.items ≡ c.args.work.now.path.items ++ 47 ∷ c.at-inode.result.1.now = c.in_ok-export_entry.ensures.path ∙ is in
+    let is : c.go_down.new.path.items ≡ c.args.work.now.path.items ++ 47 ∷ c.at-inode.result.1.now = c.in_ok-go_down.ensures ∙ ap (λ l. l ++ 47 ∷ c.at-inode.result.1.now) c.loop-k.invariant.back.path in
+    let path_is : c.export_entry.new.work.path.items ≡ c.args.work.now.path.items ++ 47 ∷ c.at-inode.result.1.now = c.in_ok-export_entry.ensures.back.path ∙ is in
     let noted = c.loop-k.invariant.tours place stands in
     let child = child_place _ _ _ _ _ place stands c.in_ok-entries.entries c.in_ok-entries.ensures c.loop-k.k c.at-inode.result.0 c.at-inode.result.1.now c.at-inode.ensures.entry in
     let there : WalkStandsAt image c.args.counts.now (itself image c.at-inode.result.0) c.at-inode.result.0 c.go_down.new.path.items c.loop-k.work.firsts child =
@@ -114,17 +117,18 @@ export_below-requires g t c κs within =
     let inner = inner_place _ _ _ _ _ place stands c.in_ok-entries.entries c.in_ok-entries.ensures c.loop-k.k c.at-inode.result.0 c.at-inode.result.1.now c.at-inode.ensures.entry in
     let below : WalkStandsAt image c.args.counts.now inside c.at-inode.result.0 c.export_entry.new.work.path.items c.export_entry.new.work.firsts inner =
     rw path_is (stands_in_child _ _ _ _ _ place stands c.in_ok-entries.entries c.in_ok-entries.ensures c.loop-k.k c.at-inode.result.0 c.at-inode.result.1.now c.at-inode.ensures.entry kind c.export_entry.new.work.firsts (c.in_ok-export_entry.ensures.tours child there).remembers) in
+    let known_is : c.export_entry.new.work.attributes ≡ c.args.work.now.attributes = c.in_ok-export_entry.ensures.back.attributes ∙ c.loop-k.invariant.back.attributes in
     let short : length (c.args.work.now.path.items ++ 47 ∷ c.at-inode.result.1.now) ≤ 4096 = child_short _ _ _ _ _ place stands c.in_ok-entries.entries c.in_ok-entries.ensures c.loop-k.k c.at-inode.result.0 c.at-inode.result.1.now c.at-inode.ensures.entry in (
       omega (arith, c.decreases, short, ap length path_is, length-append c.args.work.now.path.items (47 ∷ c.at-inode.result.1.now)),
-      (within.0, (within.1, (c.requires.well_formed, (kind, (c.requires.counts, (c.requires.inodes, (inner, below))))))),
+      (within.0, (within.1, (c.requires.well_formed, (kind, (c.requires.counts, (c.requires.inodes, (known_is ∙ c.requires.attributes, (inner, below)))))))),
     )
 
 pub returns-in_err-export_below-in-Dir-clause-tours : goal.returns-in_err-export_below-in-Dir-clause-tours
 returns-in_err-export_below-in-Dir-clause-tours g t c place stands =
     let p = err_from_is_err_and c.from_residual-in_err-export_below-in-Dir.result c.from_residual-in_err-export_below-in-Dir.ensures.1 in
     let image = current_words (g.R.Region.memory c.args.region.now) in
-    let is : c.go_down.new.path.items ≡ c.args.work.now.path.items ++ 47 ∷ c.at-inode.result.1.now = c.in_ok-go_down.ensures ∙ ap (λ l. l ++ 47 ∷ c.at-inode.result.1.now) c.loop-k.invariant.path in
-    let path_is : c.export_entry.new.work.path.items ≡ c.args.work.now.path.items ++ 47 ∷ c.at-inode.result.1.now = c.in_ok-export_entry.ensures.path ∙ is in
+    let is : c.go_down.new.path.items ≡ c.args.work.now.path.items ++ 47 ∷ c.at-inode.result.1.now = c.in_ok-go_down.ensures ∙ ap (λ l. l ++ 47 ∷ c.at-inode.result.1.now) c.loop-k.invariant.back.path in
+    let path_is : c.export_entry.new.work.path.items ≡ c.args.work.now.path.items ++ 47 ∷ c.at-inode.result.1.now = c.in_ok-export_entry.ensures.back.path ∙ is in
     let noted = c.loop-k.invariant.tours place stands in
     let child = child_place _ _ _ _ _ place stands c.in_ok-entries.entries c.in_ok-entries.ensures c.loop-k.k c.at-inode.result.0 c.at-inode.result.1.now c.at-inode.ensures.entry in
     let there : WalkStandsAt image c.args.counts.now (itself image c.at-inode.result.0) c.at-inode.result.0 c.go_down.new.path.items c.loop-k.work.firsts child =
@@ -139,19 +143,23 @@ returns-in_err-export_below-in-Dir-clause-tours g t c place stands =
     (waiting c.export_entry.new.work.replies) (g.K.Sink.view c.export_entry.new.out) c.in_ok-export_entry.field-0 c.export_entry.new.work.firsts entry kind
     (waiting c.export_below.new.work.replies) (g.K.Sink.view c.export_below.new.out) c.export_below.new.work.firsts (Unit {0}) (Unit {0}) c.in_err-export_below-in-Dir.field-0.0 p.0 p.2 (c.in_err-export_below-in-Dir.ensures.tours inner below))
 
-pub returns-in_err-export_below-in-Dir-clause-path : goal.returns-in_err-export_below-in-Dir-clause-path
-returns-in_err-export_below-in-Dir-clause-path g t c =
+pub returns-in_err-export_below-in-Dir-clause-back : goal.returns-in_err-export_below-in-Dir-clause-back
+returns-in_err-export_below-in-Dir-clause-back g t c =
     let p = err_from_is_err_and c.from_residual-in_err-export_below-in-Dir.result c.from_residual-in_err-export_below-in-Dir.ensures.1 in
     rw p.1 tt
 
 pub loop-k-preserved : goal.loop-k-preserved
 loop-k-preserved g t c =
     let image = current_words (g.R.Region.memory c.args.region.now) in
-    let is : c.go_down.new.path.items ≡ c.args.work.now.path.items ++ 47 ∷ c.at-inode.result.1.now = c.in_ok-go_down.ensures ∙ ap (λ l. l ++ 47 ∷ c.at-inode.result.1.now) c.loop-k.invariant.path in
-    let path_is : c.export_entry.new.work.path.items ≡ c.args.work.now.path.items ++ 47 ∷ c.at-inode.result.1.now = c.in_ok-export_entry.ensures.path ∙ is in
+    let is : c.go_down.new.path.items ≡ c.args.work.now.path.items ++ 47 ∷ c.at-inode.result.1.now = c.in_ok-go_down.ensures ∙ ap (λ l. l ++ 47 ∷ c.at-inode.result.1.now) c.loop-k.invariant.back.path in
+    let path_is : c.export_entry.new.work.path.items ≡ c.args.work.now.path.items ++ 47 ∷ c.at-inode.result.1.now = c.in_ok-export_entry.ensures.back.path ∙ is in
+    let known_is : c.export_entry.new.work.attributes ≡ c.args.work.now.attributes = c.in_ok-export_entry.ensures.back.attributes ∙ c.loop-k.invariant.back.attributes in
     elim c.match-branch-4.branch [
       | in-File w ↦ record {
-        path = cut_back _ c.args.work.now.path.items (47 ∷ c.at-inode.result.1.now) _ _ c.truncate.ensures.items (search (rules, c.len-here.ensures)) (ap (λ (work : Work). work.path.items) w.work-is ∙ path_is);
+        back = record {
+          path = cut_back _ c.args.work.now.path.items (47 ∷ c.at-inode.result.1.now) _ _ c.truncate.ensures.items (search (rules, c.len-here.ensures)) (ap (λ (work : Work). work.path.items) w.work-is ∙ path_is);
+          attributes = ap (λ (work : Work). work.attributes) w.work-is ∙ known_is;
+        };
         tours = λ place stands.
             let noted = c.loop-k.invariant.tours place stands in
             let child = child_place _ _ _ _ _ place stands c.in_ok-entries.entries c.in_ok-entries.ensures c.loop-k.k c.at-inode.result.0 c.at-inode.result.1.now c.at-inode.ensures.entry in
@@ -163,7 +171,10 @@ loop-k-preserved g t c =
             (waiting c.export_entry.new.work.replies) (g.K.Sink.view c.export_entry.new.out) c.in_ok-export_entry.field-0 c.export_entry.new.work.firsts entry (sym c.in_ok-export_entry.ensures.kind ∙ ap kind_word w.in-File.is));
       }
       | in-Dir+in_ok-export_below-in-Dir w ↦ record {
-        path = cut_back _ c.args.work.now.path.items (47 ∷ c.at-inode.result.1.now) _ _ c.truncate.ensures.items (search (rules, c.len-here.ensures)) (ap (λ (work : Work). work.path.items) w.work-is ∙ w.in_ok-export_below-in-Dir.ensures.path ∙ path_is);
+        back = record {
+          path = cut_back _ c.args.work.now.path.items (47 ∷ c.at-inode.result.1.now) _ _ c.truncate.ensures.items (search (rules, c.len-here.ensures)) (ap (λ (work : Work). work.path.items) w.work-is ∙ w.in_ok-export_below-in-Dir.ensures.back.path ∙ path_is);
+          attributes = ap (λ (work : Work). work.attributes) w.work-is ∙ w.in_ok-export_below-in-Dir.ensures.back.attributes ∙ known_is;
+        };
         tours = λ place stands.
             let noted = c.loop-k.invariant.tours place stands in
             let child = child_place _ _ _ _ _ place stands c.in_ok-entries.entries c.in_ok-entries.ensures c.loop-k.k c.at-inode.result.0 c.at-inode.result.1.now c.at-inode.ensures.entry in
@@ -186,5 +197,5 @@ returns-clause-tours g t c place stands =
     all_reported _ _ _ _ _ place stands (waiting c.args.work.now.replies) (g.K.Sink.view c.args.out.now) c.in_ok-entries.entries c.in_ok-entries.ensures c.loop-k.k (omega (arith, c.len-k-end.ensures, c.loop-k-test.false))
     c.loop-k.work.firsts (waiting c.loop-k.work.replies) (g.K.Sink.view c.loop-k.out) (c.loop-k.invariant.tours place stands)
 
-pub returns-clause-path : goal.returns-clause-path
-returns-clause-path g t c = c.loop-k.invariant.path
+pub returns-clause-back : goal.returns-clause-back
+returns-clause-back g t c = c.loop-k.invariant.back

@@ -1,4 +1,4 @@
-use Rattle.std.proofs.Common.{[], sym, ◌∙◌, true≢false}
+use Rattle.std.proofs.Common.{[], sym, ◌∙◌, true≢false, arith}
 use Rattle.std.specs.Prelude.{Err, Ok}
 use Rattle.std.proofs.lemmas.Result.{err_from_is_err_and}
 use Rattle.bp_layout.specs.Reached.IsReached.{root_directory}
@@ -40,11 +40,9 @@ returns-in_err-work g c tree stands =
 
 -- ---- the attributes of the root
 
-pub export_attributes-requires-clause-well_formed : goal.export_attributes-requires-clause-well_formed
-export_attributes-requires-clause-well_formed g c = c.requires.file_system.first
-
-pub export_attributes-requires-clause-reached : goal.export_attributes-requires-clause-reached
-export_attributes-requires-clause-reached g c = root_directory
+pub export_attributes-requires-clause-inode : goal.export_attributes-requires-clause-inode
+export_attributes-requires-clause-inode g c =
+    record { well_formed = c.requires.file_system.first; reached = root_directory; some = omega arith; known = c.has_attributes-attributes.ensures }
 
 pub export_attributes-requires-clause-short : goal.export_attributes-requires-clause-short
 export_attributes-requires-clause-short g c =
@@ -76,6 +74,9 @@ export_below-requires-clause-counts g c = c.requires.counts
 
 pub export_below-requires-clause-inodes : goal.export_below-requires-clause-inodes
 export_below-requires-clause-inodes g c = c.requires.inodes
+
+pub export_below-requires-clause-attributes : goal.export_below-requires-clause-attributes
+export_below-requires-clause-attributes g c = c.in_ok-work.ensures.attributes ∙ c.has_attributes-attributes.ensures
 
 pub export_below-requires-clause-stands : goal.export_below-requires-clause-stands
 export_below-requires-clause-stands g c =

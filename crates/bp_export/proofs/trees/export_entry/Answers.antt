@@ -11,7 +11,7 @@ use Rattle.bp_export.specs.Walking.{RemembersFirsts, itself}
 use Rattle.bp_export.specs.declared.firsts.Firsts.{Firsts}
 use Rattle.bp_export.proofs.NameLaws.{directory_here, directory_remembered, fails_so, fits_directory, inode_found, toured_so, tours_end}
 use Rattle.bp_export.proofs.RowLaws.{inode_file_sound}
-use Rattle.bp_export.proofs.TreeLaws.{found_low, found_reached}
+use Rattle.bp_export.proofs.TreeLaws.{found_low, written_here}
 use Rattle.bp_export.proofs.trees.export_entry.Goals as goal
 
 pub get-inode-requires-clause-sound : goal.get-inode-requires-clause-sound
@@ -32,11 +32,8 @@ pub get-inode-requires-clause-most : goal.get-inode-requires-clause-most
 get-inode-requires-clause-most g c =
     (inode_found (current_words (g.R.Region.memory c.args.region.now)) c.requires.well_formed c.args.counts.now c.args.ino c.args.work.now.path.items c.args.work.now.firsts c.requires.stands.0 c.requires.stands.1).most
 
-pub export_directory-requires-clause-reached : goal.export_directory-requires-clause-reached
-export_directory-requires-clause-reached g c = found_reached (current_words (g.R.Region.memory c.args.region.now)) c.requires.well_formed c.requires.stands.0.path c.args.ino c.requires.stands.1.found
-
-pub export_directory-requires-clause-some : goal.export_directory-requires-clause-some
-export_directory-requires-clause-some g c = found_low (current_words (g.R.Region.memory c.args.region.now)) c.requires.well_formed c.requires.stands.0.path c.args.ino c.requires.stands.1.found
+pub export_directory-requires-clause-inode : goal.export_directory-requires-clause-inode
+export_directory-requires-clause-inode g c = written_here _ c.requires.well_formed c.requires.stands.0.path c.args.ino c.requires.stands.1.found c.args.work.now.attributes c.requires.attributes
 
 pub export_directory-requires-clause-short : goal.export_directory-requires-clause-short
 export_directory-requires-clause-short g c =

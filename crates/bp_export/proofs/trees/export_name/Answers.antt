@@ -12,7 +12,7 @@ use Rattle.pm_region.specs.Memory.{current_words}
 use Rattle.bp_export.proofs.FirstTexts.{remembers_first, remembers_later, remembers_single}
 use Rattle.bp_export.proofs.NameLaws.{at, counted, fits_from, fits_link, link_here, none_known, none_single, sound_here, toured, toured_from, tours_end, unremembered, untoured}
 use Rattle.bp_export.proofs.ReportLaws.{reports_same}
-use Rattle.bp_export.proofs.TreeLaws.{found_reached}
+use Rattle.bp_export.proofs.TreeLaws.{written_here}
 use Rattle.bp_export.proofs.trees.export_name.Goals as goal
 
 pub names-requires : goal.names-requires
@@ -21,8 +21,8 @@ names-requires g c =
 
 -- ---- a file with one name
 
-pub export_new-requires-clause-reached : goal.export_new-requires-clause-reached
-export_new-requires-clause-reached g c = found_reached (current_words (g.R.Region.memory c.args.region.now)) c.requires.well_formed c.requires.stands.0.path c.args.ino c.requires.stands.1.found
+pub export_new-requires-clause-inode : goal.export_new-requires-clause-inode
+export_new-requires-clause-inode g c = written_here _ c.requires.well_formed c.requires.stands.0.path c.args.ino c.requires.stands.1.found c.args.work.now.attributes c.requires.attributes
 
 pub export_new-requires-clause-sound : goal.export_new-requires-clause-sound
 export_new-requires-clause-sound g c =
@@ -95,8 +95,8 @@ returns-in_err-add-clause-tours g c place stands =
     let p = err_from_is_err_and c.from_residual-in_err-add.result c.from_residual-in_err-add.ensures.1 in
     tours_end image c.requires.well_formed c.args.counts.now c.args.ino c.args.work.now.path.items c.args.work.now.firsts place stands _ p.0 p.1 _ _ _ _ _ (unremembered image c.requires.well_formed c.args.counts.now c.args.ino c.args.work.now.path.items c.args.work.now.firsts place stands _ p.0 p.2 _ _ _)
 
-pub export_new-requires-2-clause-reached : goal.export_new-requires-2-clause-reached
-export_new-requires-2-clause-reached g c = found_reached (current_words (g.R.Region.memory c.args.region.now)) c.requires.well_formed c.requires.stands.0.path c.args.ino c.requires.stands.1.found
+pub export_new-requires-2-clause-inode : goal.export_new-requires-2-clause-inode
+export_new-requires-2-clause-inode g c = written_here _ c.requires.well_formed c.requires.stands.0.path c.args.ino c.requires.stands.1.found c.args.work.now.attributes c.requires.attributes
 
 pub export_new-requires-2-clause-sound : goal.export_new-requires-2-clause-sound
 export_new-requires-2-clause-sound g c =

@@ -130,7 +130,7 @@ static void update_uncarried(uint64_t at, const uint8_t *bytes, uint32_t size) {
     bpfs_drain(&uncarried.fs);
 }
 
-static void end_uncarried(void) { MUST(bpfs_close(&uncarried.fs) == BPFS_OK && bpfs_file_close(&unused) == 0); }
+static void end_uncarried(void) { MUST(bpfs_discard(&uncarried.fs) == BPFS_OK && bpfs_file_close(&unused) == 0); }
 
 static void begin_file(void) {
     bpfs_fault fault;

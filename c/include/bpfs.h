@@ -47,9 +47,9 @@
  *
  * OWNERSHIP
  *   You own the handle: initialize it with BPFS_CLOSED, and never copy one that is open. bpfs_mount
- *   allocates a volume for it, and bpfs_close frees that volume. Closing twice is harmless and
- *   returns BPFS_HAS_NONE. You own all other memory. The library uses it only during the call,
- *   except what bpfs_mount_at lends. It may overlap with no other argument of the call.
+ *   allocates a volume for it, and bpfs_close or bpfs_discard frees that volume. Closing twice is
+ *   harmless and returns BPFS_HAS_NONE. You own all other memory. The library uses it only during
+ *   the call, except what bpfs_mount_at lends. It may overlap with no other argument of the call.
  *
  * POINTERS
  *   A pointer that comes with a length may be NULL if the length is 0. A pointer to a single result
@@ -80,21 +80,21 @@
  *                   stores to one word keep their order.
  *     BPFS_MARK     is the end-of-call marker. There is nothing to carry.
  *   A call that stores has a barrier between its last store and its marker. So a call is durable
- *   once everything before its marker is.
+ *   once everything before its marker is. Only calls that may change the tree add events.
  *
  *   If power fails at any point while you carry, the durable words are an image that mounts and
  *   shows the tree after a prefix of the calls. Each call that was durable is in that prefix. You
  *   may carry many calls at once (a group commit): only the order matters.
  *
- *   Carry before bpfs_drain, bpfs_close and bpfs_close_at, which discard the events; no other
- *   call does. Never change an image in any way except by the events of one volume: that would
- *   damage it. (No image uses the two words of the superblock that carry.h reserves, such as
- *   BPFS_NOTE_WORD.)
+ *   Carry before bpfs_drain, bpfs_discard and bpfs_close_at, which discard the events; no other
+ *   call does. bpfs_close refuses while there are any (BPFS_PENDING). Never change an image in any
+ *   way except by the events of one volume: that would damage it. (No image uses the two words of
+ *   the superblock that carry.h reserves, such as BPFS_NOTE_WORD.)
  *
  * A FULL LOG
- *   A call that finds room for fewer than BPFS_LOG_ROOM (262,144) events in the log returns
- *   BPFS_LOG_FULL and does nothing, whatever it would need. Carry, drain, and call again. To avoid
- *   that, carry when bpfs_event_count exceeds BPFS_LOG_ROOM.
+ *   A call that may change the tree returns BPFS_LOG_FULL and does nothing if the log has room for
+ *   fewer than BPFS_LOG_ROOM (262,144) events, whatever it would need. Carry, drain, and call
+ *   again. To avoid that, carry when bpfs_event_count exceeds BPFS_LOG_ROOM. Reads need no room.
  */
 #ifndef BPFS_H
 #define BPFS_H
@@ -137,11 +137,12 @@ enum {
     BPFS_HAS_NONE = 32,      /* the handle is closed: it has no volume */
     BPFS_HAS_ONE = 33,       /* the handle is open: it has a volume already */
     BPFS_LOG_FULL = 34,      /* carry the events, drain, and call again */
-    BPFS_NOT_FORMATTED = 35, /* word 0 is not the magic number of a version */
+    BPFS_NOT_FORMATTED = 35, /* word 0 is not a magic number of a version */
     BPFS_BAD_SIZE = 36,      /* no image has this size, or this image has another: see bpfs_fault */
     BPFS_DAMAGED = 37,       /* a check of the format fails: see bpfs_fault */
     BPFS_OUT_OF_RANGE = 38,  /* no such word, index, attribute, version or block; short array */
     BPFS_AGAIN = 39,         /* a part of an upgrade is done: carry the events, drain, call again */
+    BPFS_PENDING = 40,       /* the log has events: carry them and drain, or call bpfs_discard */
 };
 
 enum {
@@ -180,9 +181,10 @@ typedef struct bpfs_lack {
 } bpfs_lack;
 
 /* BPFS_DAMAGED sets `check`, the number of a check that fails (docs/format.md), and `place`, the
- * word at which it fails. BPFS_BAD_SIZE sets `found`, the size in bytes, and `wanted`: the size
- * that the image says that it has or, if no image has the size `found`, that of the next larger
- * image, or of the largest one. The other fields keep their values. */
+ * index of the word at which it fails: words[place] of the words that were passed or lent.
+ * BPFS_BAD_SIZE sets `found`, the size in bytes, and `wanted`: the size that the image says that it
+ * has or, if no image has the size `found`, that of the next larger image, or of the largest one.
+ * The other fields keep their values. */
 typedef struct bpfs_fault {
     uint32_t check;
     uint64_t place;
@@ -224,6 +226,14 @@ typedef struct bpfs_blocks {
     uint32_t free, live;
 } bpfs_blocks;
 
+/* Properties of a volume: the version of the format (1 to 3), the number of blocks, how many events
+ * the log can hold (`capacity`), for how many it has room now, and whether there is a snapshot. */
+typedef struct bpfs_about {
+    uint32_t version, blocks;
+    size_t capacity, room;
+    bool has_snapshot;
+} bpfs_about;
+
 /* Totals of a volume: its files, its directories including the root, the bytes of all files
  * (bytes_above * 2^64 + bytes), and the blocks in use except the superblock. */
 typedef struct bpfs_sums {
@@ -247,18 +257,22 @@ uint32_t bpfs_mount(bpfs *fs, const uint64_t *words, size_t count, bpfs_fault *f
 
 /* Opens the handle as bpfs_mount does, but over the words where they are. It copies none, and reads
  * only blocks that are in use, so a large image in a sparse mapping costs what its files cost. On
- * BPFS_OK, lent->is_there becomes false, and the library has the memory until bpfs_close_at or
- * bpfs_close: do not read, write or free it. On any other result it stays yours, unchanged. Calls
- * change the words at once, before a barrier, so do not lend the medium: lend anonymous memory or
- * a private mapping, and carry the events to the medium. BPFS_OUT_OF_RANGE: lent->is_there is
- * false. Other results are those of bpfs_mount. */
+ * BPFS_OK, lent->is_there becomes false, and the library has the memory until the handle is closed:
+ * do not read, write or free it. On any other result it stays yours, unchanged. Calls change the
+ * words at once, before a barrier, so do not lend the medium: lend anonymous memory or a private
+ * mapping, and carry the events to the medium. BPFS_OUT_OF_RANGE: lent->is_there is false. Other
+ * results are those of bpfs_mount. */
 uint32_t bpfs_mount_at(bpfs *fs, bpfs_lent *lent, bpfs_fault *fault);
+
+/* Frees the volume and closes the handle, if the log is empty. Memory that was lent is not freed,
+ * and is yours again. BPFS_HAS_NONE. BPFS_PENDING: the log has events; the handle stays open. */
+uint32_t bpfs_close(bpfs *fs);
 
 /* Frees the volume and closes the handle. Events that were not carried are lost. Memory that was
  * lent is not freed, and is yours again. BPFS_HAS_NONE. */
-uint32_t bpfs_close(bpfs *fs);
+uint32_t bpfs_discard(bpfs *fs);
 
-/* Closes the handle as bpfs_close does, and sets *lent to the memory with the words as they are
+/* Closes the handle as bpfs_discard does, and sets *lent to the memory with the words as they are
  * now, which is yours then. If bpfs_mount allocated it, free lent->words. BPFS_HAS_NONE. */
 uint32_t bpfs_close_at(bpfs *fs, bpfs_lent *lent);
 
@@ -332,9 +346,8 @@ uint32_t bpfs_unsnap(bpfs *fs);
 
 /* ---- calls that change nothing --------------------------------------------------------------- */
 
-/* The first eight (read, stat, links, attribute, list, and the three of the snapshot) add one
- * end-of-call marker to the log and may return BPFS_LOG_FULL. Each call may return BPFS_HAS_NONE;
- * each with a path may return BPFS_BAD_PATH, BPFS_NOT_FOUND and BPFS_NOT_DIR. */
+/* They add nothing to the log, and need no room there. Each call may return BPFS_HAS_NONE; each
+ * with a path may return BPFS_BAD_PATH, BPFS_NOT_FOUND and BPFS_NOT_DIR. */
 
 /* Reads at most `capacity` bytes of a file from `offset` on, and sets *count to the number of bytes
  * that were read. The rest of `into` is unchanged. BPFS_IS_DIR. */
@@ -346,13 +359,18 @@ uint32_t bpfs_stat(bpfs *fs, const uint8_t *path, size_t length, bpfs_found *fou
 /* Gets the number of links of a file. BPFS_IS_DIR. */
 uint32_t bpfs_links(bpfs *fs, const uint8_t *path, size_t length, uint32_t *count);
 
+/* Gets the number of the inode of a file or directory, at least 1. All links of a file have the
+ * same one, and no two files that exist at one time. A new file may get that of a removed one. */
+uint32_t bpfs_inode(bpfs *fs, const uint8_t *path, size_t length, uint32_t *ino);
+
 /* Gets attribute number `number` of the file or directory at a path (bpfs_set_attribute).
- * BPFS_OUT_OF_RANGE: no attribute has this number (it adds nothing). BPFS_OLD_VERSION. */
+ * BPFS_OUT_OF_RANGE: no attribute has this number. BPFS_OLD_VERSION. */
 uint32_t bpfs_attribute(bpfs *fs, const uint8_t *path, size_t length, uint64_t number, uint64_t *value);
 
 /* Lists a directory in the byte order of its names, and sets *count to the number of names. The
  * handle keeps the listing, whatever happens to the directory, until the next bpfs_list or
- * bpfs_snap_list that succeeds, or bpfs_close. Get the names by bpfs_listed. BPFS_NO_MEMORY. */
+ * bpfs_snap_list that succeeds, or until it is closed. Get the names by bpfs_listed.
+ * BPFS_NO_MEMORY. */
 uint32_t bpfs_list(bpfs *fs, const uint8_t *path, size_t length, size_t *count);
 
 /* As bpfs_read, bpfs_stat and bpfs_list, for the tree of the snapshot. BPFS_NO_SNAP. */
@@ -364,6 +382,10 @@ uint32_t bpfs_snap_list(bpfs *fs, const uint8_t *path, size_t length, size_t *co
  * it is a directory. The name is not NUL-terminated; a buffer of BPFS_MAX_NAME bytes always
  * suffices. BPFS_OUT_OF_RANGE: there is no listing or no such entry, or the buffer is too small. */
 uint32_t bpfs_listed(bpfs *fs, size_t index, uint8_t *name, size_t capacity, size_t *length, bool *is_dir);
+
+/* Gets the version and the size of the image, whether there is a snapshot, and how many events the
+ * log can hold and still has room for. */
+uint32_t bpfs_info(bpfs *fs, bpfs_about *about);
 
 /* Gets the numbers of free blocks and of blocks in use, also by the snapshot. They are exact. */
 uint32_t bpfs_space(bpfs *fs, bpfs_blocks *blocks);
@@ -505,6 +527,11 @@ static inline uint32_t bpfs_links_any(bpfs *fs, const uint8_t *path, size_t leng
     return bpfs_links(fs, BPFS_BYTES(path, length), length, count ? count : &unused);
 }
 
+static inline uint32_t bpfs_inode_any(bpfs *fs, const uint8_t *path, size_t length, uint32_t *ino) {
+    uint32_t unused;
+    return bpfs_inode(fs, BPFS_BYTES(path, length), length, ino ? ino : &unused);
+}
+
 static inline uint32_t bpfs_attribute_any(bpfs *fs, const uint8_t *path, size_t length, uint64_t number, uint64_t *value) {
     uint64_t unused;
     return bpfs_attribute(fs, BPFS_BYTES(path, length), length, number, value ? value : &unused);
@@ -536,6 +563,11 @@ static inline uint32_t bpfs_listed_any(bpfs *fs, size_t index, uint8_t *name, si
     bool is_dir_unused;
     return bpfs_listed(fs, index, (uint8_t *)bpfs_some(name, capacity), capacity, length ? length : &length_unused,
                        is_dir ? is_dir : &is_dir_unused);
+}
+
+static inline uint32_t bpfs_info_any(bpfs *fs, bpfs_about *about) {
+    bpfs_about unused;
+    return bpfs_info(fs, about ? about : &unused);
 }
 
 static inline uint32_t bpfs_space_any(bpfs *fs, bpfs_blocks *blocks) {
@@ -578,12 +610,14 @@ static inline size_t bpfs_run_at_any(bpfs *fs, size_t first, bpfs_run *run, uint
 #define bpfs_read(...) bpfs_read_any(__VA_ARGS__)
 #define bpfs_stat(...) bpfs_stat_any(__VA_ARGS__)
 #define bpfs_links(...) bpfs_links_any(__VA_ARGS__)
+#define bpfs_inode(...) bpfs_inode_any(__VA_ARGS__)
 #define bpfs_attribute(...) bpfs_attribute_any(__VA_ARGS__)
 #define bpfs_list(...) bpfs_list_any(__VA_ARGS__)
 #define bpfs_snap_read(...) bpfs_snap_read_any(__VA_ARGS__)
 #define bpfs_snap_stat(...) bpfs_snap_stat_any(__VA_ARGS__)
 #define bpfs_snap_list(...) bpfs_snap_list_any(__VA_ARGS__)
 #define bpfs_listed(...) bpfs_listed_any(__VA_ARGS__)
+#define bpfs_info(...) bpfs_info_any(__VA_ARGS__)
 #define bpfs_space(...) bpfs_space_any(__VA_ARGS__)
 #define bpfs_totals(...) bpfs_totals_any(__VA_ARGS__)
 #define bpfs_words(...) bpfs_words_any(__VA_ARGS__)

@@ -28,6 +28,7 @@ const char *bpfs_strerror(uint32_t result) {
     case BPFS_DAMAGED: return "the image is damaged";
     case BPFS_OUT_OF_RANGE: return "an argument is out of range, or an array is too short";
     case BPFS_AGAIN: return "a part is done: carry, drain, and call again";
+    case BPFS_PENDING: return "the log has events: carry them and drain, or discard them";
     default: return "unknown result";
     }
 }

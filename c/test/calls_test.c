@@ -73,6 +73,7 @@ static void mounts(void) {
     IS(BPFS_HAS_ONE, bpfs_mount(&fs, words, WORDS, &fault));
     IS(BPFS_OK, bpfs_close(&fs));
     IS(BPFS_HAS_NONE, bpfs_close(&fs));
+    IS(BPFS_HAS_NONE, bpfs_discard(&fs));
     IS(BPFS_BAD_SIZE, bpfs_mount(&fs, words, WORDS - 1, &fault));
     IS((WORDS - 1) * 8, fault.found);
     IS(WORDS * 8, fault.wanted);
@@ -89,6 +90,73 @@ static void mounts(void) {
     words[0] = 0;
     IS(BPFS_NOT_FORMATTED, bpfs_mount(&fs, words, WORDS, &fault));
     IS(false, fs.is_open);
+}
+
+/* A handle keeps its volume while the log has events, also where they are the marker of a refused call. */
+static void closes(void) {
+    bpfs_about about = {0, 0, 0, 0, true};
+    make(2);
+    IS(BPFS_OK, bpfs_info(&fs, &about));
+    IS(true, about.version == 2 && about.blocks == BLOCKS && !about.has_snapshot);
+    IS(2 * BPFS_LOG_ROOM, about.capacity);
+    IS(about.capacity, about.room);
+    IS(BPFS_EXISTS, bpfs_create(&fs, PATH("/"), &lack));
+    IS(1, bpfs_event_count(&fs));
+    IS(BPFS_PENDING, bpfs_close(&fs));
+    IS(BPFS_OK, bpfs_create(&fs, PATH("/a"), &lack));
+    IS(BPFS_PENDING, bpfs_close(&fs));
+    IS(true, fs.is_open);
+    IS(BPFS_OK, bpfs_stat(&fs, PATH("/a"), NULL));
+    IS(BPFS_OK, bpfs_snap(&fs));
+    IS(BPFS_OK, bpfs_info(&fs, &about));
+    IS(true, about.has_snapshot);
+    IS(about.capacity - bpfs_event_count(&fs), about.room);
+    IS(0, bpfs_carry(&fs, &carrier));
+    IS(BPFS_OK, bpfs_stat(&fs, PATH("/a"), NULL)); /* adds no event */
+    IS(BPFS_OK, bpfs_close(&fs));
+    IS(false, fs.is_open);
+    IS(BPFS_OK, bpfs_mount(&fs, words, WORDS, &fault));
+    IS(BPFS_OK, bpfs_stat(&fs, PATH("/a"), NULL));
+    IS(BPFS_OK, bpfs_create(&fs, PATH("/b"), &lack));
+    IS(BPFS_OK, bpfs_discard(&fs)); /* so /b is lost */
+    IS(false, fs.is_open);
+    IS(BPFS_HAS_NONE, bpfs_info(&fs, &about));
+    IS(BPFS_OK, bpfs_mount(&fs, words, WORDS, &fault));
+    IS(BPFS_NOT_FOUND, bpfs_stat(&fs, PATH("/b"), NULL));
+    IS(BPFS_OK, bpfs_discard(&fs));
+}
+
+/* The number of the inode at a path, which has to be there. */
+static uint32_t inode(const char *path) {
+    uint32_t ino = 0;
+    IS(BPFS_OK, bpfs_inode(&fs, (const uint8_t *)path, strlen(path), &ino));
+    return ino;
+}
+
+/* All links of a file have one number, which stays. */
+static void inodes(void) {
+    uint32_t ino = 99;
+    make(2);
+    IS(BPFS_OK, bpfs_mkdir(&fs, PATH("/d"), &lack));
+    IS(BPFS_OK, bpfs_create(&fs, PATH("/a"), &lack));
+    IS(BPFS_OK, bpfs_create(&fs, PATH("/b"), &lack));
+    IS(BPFS_OK, bpfs_link(&fs, PATH("/a"), PATH("/d/a"), &lack));
+    size_t events = bpfs_event_count(&fs);
+    uint32_t a = inode("/a"), b = inode("/b"), d = inode("/d"), root = inode("/");
+    IS(true, a && b && d && root && a != b && a != d && b != d && root != a && root != b && root != d);
+    IS(a, inode("/d/a"));
+    IS(BPFS_NOT_FOUND, bpfs_inode(&fs, PATH("/none"), &ino));
+    IS(BPFS_NOT_DIR, bpfs_inode(&fs, PATH("/a/b"), &ino));
+    IS(BPFS_BAD_PATH, bpfs_inode(&fs, PATH("a"), &ino));
+    IS(BPFS_OK, bpfs_inode(&fs, PATH("/a"), NULL));
+    IS(99, ino);
+    IS(events, bpfs_event_count(&fs));
+    IS(BPFS_OK, bpfs_unlink(&fs, PATH("/a"), &lack));
+    IS(BPFS_OK, bpfs_rename(&fs, PATH("/d"), PATH("/e"), &lack));
+    IS(BPFS_OK, bpfs_rename(&fs, PATH("/e/a"), PATH("/c"), &lack));
+    IS(a, inode("/c"));
+    IS(d, inode("/e"));
+    IS(BPFS_OK, bpfs_discard(&fs));
 }
 
 /* The memory is ours, and it is this. */
@@ -168,6 +236,7 @@ static void closed_handles(void) {
     IS(BPFS_HAS_NONE, bpfs_read(&fs, PATH("/a"), 0, bytes, sizeof bytes, &count));
     IS(BPFS_HAS_NONE, bpfs_stat(&fs, PATH("/a"), &found));
     IS(BPFS_HAS_NONE, bpfs_links(&fs, PATH("/a"), &names));
+    IS(BPFS_HAS_NONE, bpfs_inode(&fs, PATH("/a"), &names));
     IS(BPFS_HAS_NONE, bpfs_attribute(&fs, PATH("/a"), 0, &value));
     IS(BPFS_OUT_OF_RANGE, bpfs_attribute(&fs, PATH("/a"), BPFS_ATTRIBUTES, &value));
     IS(99, value);
@@ -433,32 +502,42 @@ static void full_snapshots(void) {
     IS(BPFS_NO_SPACE, bpfs_unlink(&fs, PATH("/b"), &lack));
     IS(BPFS_OK, bpfs_unsnap(&fs));
     IS(BPFS_OK, bpfs_unlink(&fs, PATH("/b"), &lack));
-    IS(BPFS_OK, bpfs_close(&fs));
+    IS(BPFS_OK, bpfs_discard(&fs));
 }
 
 static void full_logs(void) {
     static uint8_t bytes[BPFS_MAX_WRITE];
-    uint32_t code = BPFS_OK;
+    uint32_t code = BPFS_OK, number;
+    bpfs_about about;
+    bpfs_found found;
     uint64_t value;
     size_t count;
     while (code == BPFS_OK) code = bpfs_write(&fs, PATH("/d/a"), 0, bytes, sizeof bytes, &lack);
     IS(BPFS_LOG_FULL, code);
     size_t events = bpfs_event_count(&fs);
     IS(true, events > BPFS_LOG_ROOM);
-    IS(BPFS_LOG_FULL, bpfs_read(&fs, PATH("/d/a"), 0, bytes, 1, &count));
     IS(BPFS_LOG_FULL, bpfs_unlink(&fs, PATH("/none"), &lack));
     IS(BPFS_LOG_FULL, bpfs_set_attribute(&fs, PATH("/none"), 0, 1, &lack));
-    IS(BPFS_LOG_FULL, bpfs_attribute(&fs, PATH("/none"), 0, &value));
-    IS(BPFS_OUT_OF_RANGE, bpfs_attribute(&fs, PATH("/none"), BPFS_ATTRIBUTES, &value));
-    IS(BPFS_LOG_FULL, bpfs_list(&fs, PATH("/"), &count));
     IS(BPFS_LOG_FULL, bpfs_snap(&fs));
     IS(BPFS_LOG_FULL, bpfs_unsnap(&fs));
-    IS(BPFS_LOG_FULL, bpfs_snap_read(&fs, PATH("/d/a"), 0, bytes, 1, &count));
+    IS(BPFS_OK, bpfs_read(&fs, PATH("/d/a"), 0, bytes, 1, &count)); /* reads need no room */
+    IS(BPFS_OK, bpfs_stat(&fs, PATH("/d/a"), &found));
+    IS(BPFS_OK, bpfs_links(&fs, PATH("/d/a"), &number));
+    IS(BPFS_OK, bpfs_inode(&fs, PATH("/d/a"), &number));
+    IS(BPFS_OLD_VERSION, bpfs_attribute(&fs, PATH("/d/a"), 0, &value));
+    IS(BPFS_OUT_OF_RANGE, bpfs_attribute(&fs, PATH("/none"), BPFS_ATTRIBUTES, &value));
+    IS(BPFS_OK, bpfs_list(&fs, PATH("/"), &count));
+    IS(BPFS_NO_SNAP, bpfs_snap_read(&fs, PATH("/d/a"), 0, bytes, 1, &count));
+    IS(BPFS_NO_SNAP, bpfs_snap_stat(&fs, PATH("/d/a"), &found));
+    IS(BPFS_NO_SNAP, bpfs_snap_list(&fs, PATH("/"), &count));
+    IS(BPFS_OK, bpfs_info(&fs, &about));
+    IS(2 * BPFS_LOG_ROOM - events, about.room);
     IS(events, bpfs_event_count(&fs));
+    IS(BPFS_PENDING, bpfs_close(&fs));
     IS(0, bpfs_carry(&fs, &carrier));
     IS(BPFS_OK, bpfs_write(&fs, PATH("/d/a"), 0, bytes, sizeof bytes, &lack));
     IS(-1, bpfs_copy_image(&fs, &carrier));
-    IS(BPFS_OK, bpfs_close(&fs));
+    IS(BPFS_OK, bpfs_discard(&fs));
 }
 
 /* The attribute of a path, which has to be there. */
@@ -483,12 +562,12 @@ static void no_attributes(uint32_t version) {
     IS(BPFS_OLD_VERSION, bpfs_attribute(&fs, PATH("/none"), 0, &value));
     IS(BPFS_BAD_PATH, bpfs_attribute(&fs, PATH("a"), 0, &value));
     IS(BPFS_OUT_OF_RANGE, bpfs_attribute(&fs, PATH("a"), UINT64_MAX, &value));
-    IS(6, bpfs_event_count(&fs));
+    IS(3, bpfs_event_count(&fs)); /* reads add none */
     IS(99, value);
     are_carried(); /* no word has changed */
     IS(BPFS_OK, bpfs_upgrade(&fs)); /* makes version 2 */
     IS(BPFS_OLD_VERSION, bpfs_set_attribute(&fs, PATH("/a"), 0, 1, &lack));
-    IS(BPFS_OK, bpfs_close(&fs));
+    IS(BPFS_OK, bpfs_discard(&fs));
 }
 
 /* Each has attributes of its own, which all other calls keep. */
@@ -602,7 +681,7 @@ static void full_attributes(void) {
     IS(BPFS_OK, bpfs_unsnap(&fs));
     IS(BPFS_OK, bpfs_set_attribute(&fs, PATH("/c"), 0, 6, &lack));
     IS(6, attribute("/c", 0));
-    IS(BPFS_OK, bpfs_close(&fs));
+    IS(BPFS_OK, bpfs_discard(&fs));
 }
 
 /* The words of a block of inodes that version 3 makes attributes are dead before, and may be anything. */
@@ -672,17 +751,21 @@ static void unwanted_results(void) {
     IS(BPFS_OK, bpfs_space(&fs, NULL));
     IS(BPFS_OK, bpfs_totals(&fs, NULL));
     IS(true, bpfs_run_at(&fs, 0, NULL, words, 8) > 0);
-    IS(BPFS_OK, bpfs_close(&fs));
+    IS(BPFS_OK, bpfs_info(&fs, NULL));
+    IS(BPFS_OK, bpfs_inode(&fs, PATH("/a"), NULL));
+    IS(BPFS_OK, bpfs_discard(&fs));
     IS(BPFS_HAS_NONE, bpfs_stat(&fs, PATH("/a"), NULL));
     make(3);
     IS(BPFS_OK, bpfs_set_attribute(&fs, PATH("/"), 0, 1, NULL));
     IS(BPFS_OK, bpfs_attribute(&fs, PATH("/"), 0, NULL));
-    IS(BPFS_OK, bpfs_close(&fs));
+    IS(BPFS_OK, bpfs_discard(&fs));
 }
 
 int main(void) {
     formats();
     mounts();
+    closes();
+    inodes();
     mounts_lent_words();
     closed_handles();
     changes();

@@ -105,7 +105,8 @@ static void bindings(void) {
     IS(BPFS_OK, bpfs_mount(&fs, one.words, WORDS, &fault));
     IS(BPFS_OK, bpfs_create(&fs, PATH("/b"), &lack));
     FAILS(EINVAL, bpfs_carry(&fs, &one.carrier)); /* mounted again: another volume */
-    IS(BPFS_OK, bpfs_close(&fs));
+    IS(BPFS_PENDING, bpfs_close(&fs));
+    IS(BPFS_OK, bpfs_discard(&fs));
     IS(BPFS_OK, bpfs_close(&more));
 }
 
@@ -223,7 +224,7 @@ static void read_files(void) {
     IS(BPFS_OK, bpfs_stat(&fs, PATH("/a"), &found));
     IS(BPFS_OK, bpfs_create(&fs, PATH("/b"), &lack));
     FAILS(EROFS, bpfs_carry(&fs, &file.carrier));
-    IS(BPFS_OK, bpfs_close(&fs));
+    IS(BPFS_OK, bpfs_discard(&fs));
     IS(0, bpfs_file_close(&file));
     IS(0, bpfs_file_close(&second));
 }
@@ -277,7 +278,7 @@ static void carry_one(bpfs *fs, bpfs_carrier *carrier, const uint8_t *path) {
 
 /* What a killed process leaves: handles and memory are gone, the image keeps its journal. */
 static void drop(bpfs *fs, bpfs_redo *redo) {
-    IS(BPFS_OK, bpfs_close(fs));
+    IS(BPFS_OK, bpfs_discard(fs));
     redo->carrier.error = EIO;
     FAILS(EIO, bpfs_redo_close(redo));
 }
@@ -503,7 +504,7 @@ static void mapped_files(void) {
     IS(BPFS_OK, bpfs_pmem_mount(&fs, &pmem, &fault));
     IS(true, has_file(&fs, (const uint8_t *)"/1"));
     FAILS(EROFS, bpfs_carry(&fs, &pmem.carrier));
-    IS(BPFS_OK, bpfs_close(&fs));
+    IS(BPFS_OK, bpfs_discard(&fs));
     IS(0, bpfs_pmem_close(&pmem));
     IS(0, bpfs_pmem_close(&second));
     IS(BLOCKS * 4096, size_of(image));

@@ -75,7 +75,7 @@ static turn carry_other(check *c) {
     if (bpfs_format(&carrier, OTHER_BLOCKS, 2)) return c->code = 2, IS_WRONG;
     if (bpfs_mount(&other, other_words, sizeof other_words / 8, &fault) || model_begin(&other)) return c->code = 2, IS_WRONG;
     int code = bpfs_carry(&other, c->it);
-    bpfs_close(&other);
+    bpfs_discard(&other);
     return code ? GOES_ON : wrong(c, "the events of another volume were carried");
 }
 
@@ -200,7 +200,7 @@ static void plan(check *c, uint32_t most) {
 
 /* Ends the process if it has not ended yet: closed, or not. */
 static turn end_life(check *c, turn t) {
-    bpfs_close(&c->fs);
+    bpfs_discard(&c->fs);
     bool can_close = t == GOES_ON && !medium_has_ended() && !medium_has_failed();
     if (can_close && chance(c, 1, 2)) {
         int code = c->of->close(c->it);

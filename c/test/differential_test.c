@@ -32,7 +32,7 @@ enum {
     MOST_TEXT = 80000, /* of a batch */
     FEW_NODES = 8,     /* no new node if the tree may have fewer more */
     MOST_BARRIERS = 10,
-    RESULTS = 40,
+    RESULTS = 41,
 };
 
 /* The trees after a call, of which `end` is the number of events since the last drain. */
@@ -75,6 +75,7 @@ static bool is_listed;
 static guarded in_path, in_other, in_bytes, in_pieces, in_words;
 static guarded out_handle, out_temporary, out_bytes, out_words, out_values, out_events, out_lent;
 static guarded out_count, out_lack, out_fault, out_found, out_flag, out_sums, out_blocks, out_links, out_attribute, out_run, out_lent_words;
+static guarded out_ino, out_about;
 
 /* ---- memory that lacks ---- */
 
@@ -171,6 +172,7 @@ static void fronts_are_kept(void) {
         {&out_count, sizeof(size_t)}, {&out_lack, sizeof(bpfs_lack)}, {&out_fault, sizeof(bpfs_fault)}, {&out_found, sizeof(bpfs_found)},
         {&out_flag, sizeof(bool)}, {&out_sums, sizeof(bpfs_sums)}, {&out_blocks, sizeof(bpfs_blocks)}, {&out_links, sizeof(uint32_t)},
         {&out_attribute, sizeof(uint64_t)}, {&out_run, sizeof(bpfs_run)}, {&out_handle, sizeof(bpfs)}, {&out_lent, sizeof(bpfs_lent)},
+        {&out_ino, sizeof(uint32_t)}, {&out_about, sizeof(bpfs_about)},
     };
     for (size_t i = 0; i < sizeof results / sizeof *results; i++)
         holds("the bytes before a result are unchanged", guarded_front(results[i].memory, results[i].size));
@@ -664,14 +666,14 @@ static void call_upgrade_to_three(void) {
 /* The node that a call has to find, or its result. */
 static uint32_t look(const tree *t, const path *p, int *node) {
     static tree_path names;
-    if (is_full()) return BPFS_LOG_FULL;
     if (!tree_parse(&names, p->bytes, p->length)) return BPFS_BAD_PATH;
     return t ? tree_find(t, &names, node) : BPFS_NO_SNAP;
 }
 
+/* Compares the result of such a call, which adds no event, also where the log is full. */
 static void looked(uint32_t code, uint32_t wanted) {
     returns(code, wanted);
-    follow(code != BPFS_LOG_FULL, false);
+    follow(false, false);
 }
 
 static void call_read(void) {
@@ -731,6 +733,27 @@ static void call_links(void) {
     else is("the number of links", *links, present.now->nodes[node]->links);
 }
 
+/* Of two paths. The numbers are one if the paths find one node. */
+static void call_inode(void) {
+    uint32_t found[2] = {0, 0};
+    int nodes[2] = {-1, -1};
+    for (int i = 0; i < 2; i++) {
+        path p;
+        int node = 0;
+        bool no_ino = unwanted();
+        draw_path(&p, present.now, any(2));
+        uint32_t wanted = look(present.now, &p, &node);
+        uint32_t *ino = RESULT(uint32_t, out_ino);
+        uint32_t code = bpfs_inode(fs, given(&in_path, &p), p.length, UNLESS(no_ino, ino));
+        looked(code, wanted);
+        if (code || no_ino) keeps(&out_ino, sizeof *ino);
+        else found[i] = *ino, nodes[i] = node;
+    }
+    if (nodes[0] < 0 || nodes[1] < 0) return;
+    holds("the number of an inode", found[0] >= 1 && found[1] >= 1);
+    is("two inodes have one number", found[0] == found[1], nodes[0] == nodes[1]);
+}
+
 static void call_attribute(void) {
     path p;
     int node = 0;
@@ -738,12 +761,11 @@ static void call_attribute(void) {
     uint64_t number = any_attribute();
     draw_path(&p, present.now, any(2));
     uint32_t wanted = look(present.now, &p, &node);
-    if (wanted != BPFS_LOG_FULL && wanted != BPFS_BAD_PATH && !tree_has_attributes(present.version)) wanted = BPFS_OLD_VERSION;
+    if (wanted != BPFS_BAD_PATH && !tree_has_attributes(present.version)) wanted = BPFS_OLD_VERSION;
     if (number >= BPFS_ATTRIBUTES) wanted = BPFS_OUT_OF_RANGE;
     uint64_t *value = RESULT(uint64_t, out_attribute);
     uint32_t code = bpfs_attribute(fs, given(&in_path, &p), p.length, number, UNLESS(no_value, value));
-    returns(code, wanted);
-    follow(code != BPFS_LOG_FULL && code != BPFS_OUT_OF_RANGE, false);
+    looked(code, wanted);
     if (code || no_value) keeps(&out_attribute, sizeof *value);
     else is("the value of the attribute", *value, present.now->nodes[node]->attributes[number]);
 }
@@ -799,6 +821,23 @@ static void call_listed(void) {
     if (!fits || no_kind) keeps(&out_flag, sizeof *is_dir);
     else is("the kind", *is_dir, listed_dirs[index]);
     if (fits) holds("the name", memcmp(into, name->bytes, name->length) == 0);
+}
+
+/* What a volume is, and its log. */
+static void shows_info(bpfs *of, const moment *m) {
+    bpfs_about *about = RESULT(bpfs_about, out_about);
+    is("bpfs_info", bpfs_info(of, about), BPFS_OK);
+    is("the version", about->version, m->version);
+    is("the number of blocks", about->blocks, blocks);
+    is("whether there is a snapshot", about->has_snapshot, m->kept != NULL);
+    is("the events that the log can hold", about->capacity, LOG_EVENTS);
+    is("the room of the log", about->room, LOG_EVENTS - bpfs_event_count(of));
+}
+
+static void call_info(void) {
+    shows_info(fs, &present);
+    is("bpfs_info", bpfs_info(fs, NULL), BPFS_OK);
+    follow(false, false);
 }
 
 /* Both kinds of numbers of blocks, and the totals of the tree. */
@@ -951,6 +990,7 @@ typedef struct view {
     uint32_t version;
     bool of_snap;
     path p;
+    uint32_t inos[TREE_NODES]; /* the numbers of the inodes of the nodes that were shown; 0: not yet */
 } view;
 
 static void shows_file(view *v, int node) {
@@ -1013,6 +1053,16 @@ static void shows_attributes(view *v, const tree_node *it) {
     }
 }
 
+/* All links of a file have one number, and no other file or directory has it. */
+static void shows_inode(view *v, int node) {
+    uint32_t ino = 0;
+    is("bpfs_inode of the whole tree", bpfs_inode(v->fs, v->p.bytes, v->p.length, &ino), BPFS_OK);
+    for (int i = 0; i < TREE_NODES; i++)
+        if (v->inos[i]) is("two inodes of the whole tree have one number", v->inos[i] == ino, i == node);
+    v->inos[node] = ino;
+    holds("the number of an inode of the whole tree", ino >= 1);
+}
+
 static void shows_node(view *v, int node) {
     const tree_node *it = v->t->nodes[node];
     bpfs_found found;
@@ -1021,13 +1071,14 @@ static void shows_node(view *v, int node) {
     is("the kind in the whole tree", found.is_dir, it->is_dir);
     is("the size in the whole tree", found.size, it->is_dir ? it->count : it->size);
     if (!v->of_snap) shows_attributes(v, it);
+    if (!v->of_snap) shows_inode(v, node);
     if (it->is_dir) shows_dir(v, node);
     else shows_file(v, node);
 }
 
 /* The volume shows these trees and nothing else, and so do its words. */
 static void shows(bpfs *of, const moment *m, const uint64_t *image) {
-    view v = {of, m->now, m->version, false, {"/", 1}};
+    view v = {of, m->now, m->version, false, {"/", 1}, {0}};
     uint32_t live, free_blocks;
     uint64_t magic;
     bpfs_found unused;
@@ -1038,6 +1089,7 @@ static void shows(bpfs *of, const moment *m, const uint64_t *image) {
     v.of_snap = true;
     if (m->kept) shows_node(&v, 0);
     else is("bpfs_snap_stat with no snapshot", bpfs_snap_stat(of, (const uint8_t *)"/", 1, &unused), BPFS_NO_SNAP);
+    shows_info(of, m);
     shows_totals(of, m, &free_blocks);
     holds("the words are those of the tree", reader_shows(image, blocks, m->version, m->now, m->kept, &live));
     is("the free blocks", free_blocks, blocks - 1 - live);
@@ -1061,9 +1113,15 @@ static uint32_t open_words(bpfs *of, const uint64_t *image, size_t count, bool l
     return code;
 }
 
-/* Closes a handle whose words are these. */
+/* Closes a handle whose words are these. While its log has events, bpfs_close does nothing. */
 static void close_words(bpfs *of, const uint64_t *image, bool was_lent) {
     bpfs_lent *lent = RESULT(bpfs_lent, out_lent);
+    size_t pending = bpfs_event_count(of);
+    if (pending && any(2)) {
+        is("bpfs_close with events", bpfs_close(of), BPFS_PENDING);
+        is("the events are kept", bpfs_event_count(of), pending);
+        holds("the handle is open", of->is_open);
+    }
     if (any(2)) {
         is("bpfs_close_at", bpfs_close_at(of, lent), BPFS_OK);
         is("the memory is there", lent->is_there, true);
@@ -1071,11 +1129,13 @@ static void close_words(bpfs *of, const uint64_t *image, bool was_lent) {
         if (was_lent) holds("the memory is that which was lent", lent->words == words_at(&out_lent_words, words));
         holds("the words are those of the volume", memcmp(lent->words, image, 8 * words) == 0);
         if (!was_lent) free(lent->words);
-    } else is("bpfs_close", bpfs_close(of), BPFS_OK);
+    } else if (pending || any(2)) is("bpfs_discard", bpfs_discard(of), BPFS_OK);
+    else is("bpfs_close", bpfs_close(of), BPFS_OK);
     holds("the handle is closed", !of->is_open);
     guarded_out(&out_lent, sizeof *lent);
     is("bpfs_close_at of a closed handle", bpfs_close_at(of, lent), BPFS_HAS_NONE);
     is("bpfs_close of a closed handle", bpfs_close(of), BPFS_HAS_NONE);
+    is("bpfs_discard of a closed handle", bpfs_discard(of), BPFS_HAS_NONE);
     keeps(&out_lent, sizeof *lent);
 }
 
@@ -1201,6 +1261,7 @@ static void is_closed(void) {
         bpfs_list(fs, p, 1, count), bpfs_snap_read(fs, p, 2, 0, into, 8, count),
         bpfs_snap_stat(fs, p, 2, NULL), bpfs_snap_list(fs, p, 1, count), bpfs_listed(fs, 0, into, 8, count, NULL), bpfs_space(fs, NULL),
         bpfs_totals(fs, NULL), bpfs_words(fs, 0, NULL, 0), bpfs_drain(fs), bpfs_set_tag(fs, 1),
+        bpfs_inode(fs, p, 2, NULL), bpfs_info(fs, NULL), bpfs_close(fs), bpfs_discard(fs),
     };
     for (size_t i = 0; i < sizeof codes / sizeof *codes; i++) is("a call of a closed handle", codes[i], BPFS_HAS_NONE);
     is("counts of a closed handle", bpfs_event_count(fs) + bpfs_events(fs, 0, NULL, 0) + bpfs_run_at(fs, 0, NULL, NULL, 0), 0);
@@ -1245,7 +1306,6 @@ static void begin(void) {
 /* The end of a volume, which shows its tree once more. */
 static void finish(void) {
     run.name = "the end of a volume";
-    if (is_full()) call_drain();
     shows(fs, &present, shadow);
     close_words(fs, shadow, is_lent);
 }
@@ -1273,9 +1333,9 @@ static const struct {
     {"bpfs_set_attribute", call_set_attribute, 50, false},
     {"bpfs_batch", call_batch, 70, false}, {"bpfs_snap", call_snap, 8, false}, {"bpfs_unsnap", call_unsnap, 6, false},
     {"bpfs_upgrade", call_upgrade, 1, false}, {"bpfs_upgrade_to_three", call_upgrade_to_three, 1, false}, {"bpfs_read", call_read, 90, false}, {"bpfs_stat", call_stat, 60, false},
-    {"bpfs_links", call_links, 30, false}, {"bpfs_attribute", call_attribute, 30, false},
+    {"bpfs_links", call_links, 30, false}, {"bpfs_inode", call_inode, 30, false}, {"bpfs_attribute", call_attribute, 30, false},
     {"bpfs_list", call_list, 30, false}, {"bpfs_listed", call_listed, 40, false},
-    {"bpfs_totals", call_totals, 10, false}, {"bpfs_words", call_words, 20, false}, {"bpfs_events", call_events, 20, false},
+    {"bpfs_totals", call_totals, 10, false}, {"bpfs_info", call_info, 10, false}, {"bpfs_words", call_words, 20, false}, {"bpfs_events", call_events, 20, false},
     {"bpfs_run_at", call_run, 50, false}, {"bpfs_tag", call_tag, 6, false}, {"bpfs_drain", call_drain, 12, true},
     {"bpfs_strerror", call_texts, 3, false},
     {"bpfs_format_events", call_format, 6, false}, {"bpfs_mount of an open handle", call_mount, 3, false}, {"a second mount", call_remount, 2, false},
@@ -1308,7 +1368,7 @@ static void print_met(void) {
 
 static bool make_memory(void) {
     guarded *small[] = {&out_handle, &out_temporary, &out_lent, &out_count, &out_lack, &out_fault, &out_found, &out_flag, &out_sums,
-                        &out_blocks, &out_links, &out_attribute, &out_run, &in_pieces};
+                        &out_blocks, &out_links, &out_attribute, &out_run, &out_ino, &out_about, &in_pieces};
     bool made = true;
     for (size_t i = 0; i < sizeof small / sizeof *small; i++) {
         made = made && guarded_make(small[i], 1000);

@@ -55,6 +55,13 @@ HAS(bpfs_blocks, 8);
 AT(bpfs_blocks, free, 0);
 AT(bpfs_blocks, live, 4);
 
+HAS(bpfs_about, 32);
+AT(bpfs_about, version, 0);
+AT(bpfs_about, blocks, 4);
+AT(bpfs_about, capacity, 8);
+AT(bpfs_about, room, 16);
+AT(bpfs_about, has_snapshot, 24);
+
 HAS(bpfs_sums, 40);
 AT(bpfs_sums, files, 0);
 AT(bpfs_sums, dirs, 8);
@@ -79,6 +86,7 @@ IS(0, BPFS_OK);
 IS(16, BPFS_PAST_END);
 IS(32, BPFS_HAS_NONE);
 IS(38, BPFS_OUT_OF_RANGE);
+IS(40, BPFS_PENDING);
 
 /* A closed handle, at file scope and within structures. */
 bpfs layout_static = BPFS_CLOSED;

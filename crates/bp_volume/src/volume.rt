@@ -27,6 +27,7 @@ ghost use Rattle.bp_volume.specs.FileCall.{FileCall};
 ghost use Rattle.bp_volume.specs.Laid.{formatted_memory};
 ghost use Rattle.bp_volume.specs.Seen.{attribute_answer, links_answer, list_answer_of, read_answer_of, stat_answer_of, unit_answer};
 
+mod looks;
 mod upgrades;
 
 use crate::attributes::{do_attribute, do_set_attribute};

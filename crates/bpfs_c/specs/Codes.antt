@@ -1,12 +1,16 @@
 -- The numbers that an export returns to C for the end of a call, and the results that it writes with them. Each
 -- definition takes the old contents of the caller's variables, then the returned number, and then the new contents.
-use Rattle.std.specs.Prelude.{◌≡◌, ◌≤◌, ℕ, List, Result, Ok, Err, true, false, drop, length, take}
+use Rattle.std.specs.Prelude.{◌≡◌, ◌≤◌, ◌⊎◌, ℕ, List, Result, Ok, Err, true, false, drop, length, take}
 use Rattle.bp_plain.specs.declared.errors.FsError.{FsError}
 use Rattle.bp_plain.specs.Calls.{Answer, Refusal}
 use Rattle.bp_plain.specs.Calls.Answer.{done, bytes, file_of, dir_of, names, links_of, attribute_of, refused}
 use Rattle.bp_plain.specs.Calls.Refusal.{no_space}
 use Rattle.bp_plain.specs.Refusals.{refusal_number}
 use Rattle.bp_plain.specs.Seen.{refusal_of}
+use Rattle.bp_roles.specs.Mounted.{served_words}
+use Rattle.bp_volume.specs.Queries.{StopsWalk}
+use Rattle.bp_volume.specs.Step.{PathFinds}
+use Rattle.pm_region.specs.Memory.{Memory}
 use Rattle.bpfs_c.specs.declared.queries.Found.{Found}
 use Rattle.bpfs_c.specs.declared.codes.Lack.{Lack}
 
@@ -55,6 +59,13 @@ abbrev pub ReportsLinks : Answer → ℕ → ℕ → ℕ → Type 0
 ReportsLinks (links_of count) old code new = (code ≡ 0) × (new ≡ count)
 ReportsLinks (refused why) old code new = (code ≡ refusal_number why) × (new ≡ old)
 ReportsLinks answer old code new = ⊥
+
+-- The number of the inode that a path finds, as written to the caller's variable. Else the number is that of the refusal
+-- of the walk, and the variable keeps its contents.
+abbrev pub ReportsInode : Memory → List ℕ → ℕ → ℕ → ℕ → Type 0
+ReportsInode volume path old code new =
+    ((code ≡ 0) × PathFinds (served_words volume) path new)
+    ⊎ ((why : Refusal) × StopsWalk (served_words volume) path why × (code ≡ refusal_number why) × (new ≡ old))
 
 -- The value of an attribute, as written to the caller's variable.
 abbrev pub ReportsAttribute : Answer → ℕ → ℕ → ℕ → Type 0

@@ -4,7 +4,7 @@ use Rattle.std.specs.Prelude.{◌≡◌, ℕ, Bool, List, Option}
 use Rattle.bp_plain.specs.Calls.{Call}
 use Rattle.bpfs_c.specs.Codes.{IsEndedAs, IsRead, ReportsAttribute, ReportsFound}
 use Rattle.bpfs_c.specs.Listings.{ReportsName, entry_at}
-use Rattle.bpfs_c.specs.Serves.{Exported, Looked}
+use Rattle.bpfs_c.specs.Serves.{Asks, Exported, Looked}
 use Rattle.bpfs_c.specs.declared.queries.Found.{Found}
 use Rattle.bpfs_c.specs.declared.codes.Lack.{Lack}
 use Rattle.bpfs_c.specs.declared.mounted.Mounted.{Mounted}
@@ -14,21 +14,21 @@ abbrev pub ExportsChange : Option Mounted → Call → Lack → ℕ → Lack →
 ExportsChange held call lack code new_lack new_held =
     Exported held call (λ answer. IsEndedAs answer lack code new_lack) (new_lack ≡ lack) code new_held
 
--- A call that reads bytes into the caller's array and their number into `count`.
-abbrev pub ExportsRead : Option Mounted → Call → List ℕ → ℕ → ℕ → List ℕ → ℕ → Option Mounted → Type 0
-ExportsRead held call into count code new_into new_count new_held =
-    Exported held call (λ answer. IsRead answer into count code new_into new_count)
+-- A read of bytes into the caller's array, and of their number into `count`.
+abbrev pub AsksRead : Option Mounted → Call → List ℕ → ℕ → ℕ → List ℕ → ℕ → Option Mounted → Type 0
+AsksRead held call into count code new_into new_count new_held =
+    Asks held call (λ answer. IsRead answer into count code new_into new_count)
     ((new_into ≡ into) × (new_count ≡ count)) code new_held
 
--- A call that looks up a path, and writes its size and whether it is a directory to the caller's `Found`.
-abbrev pub ExportsFound : Option Mounted → Call → Found → ℕ → Found → Option Mounted → Type 0
-ExportsFound held call found code new_found new_held =
-    Exported held call (λ answer. ReportsFound answer found code new_found) (new_found ≡ found) code new_held
+-- A look at a path, which writes its size and whether it is a directory to the caller's `Found`.
+abbrev pub AsksFound : Option Mounted → Call → Found → ℕ → Found → Option Mounted → Type 0
+AsksFound held call found code new_found new_held =
+    Asks held call (λ answer. ReportsFound answer found code new_found) (new_found ≡ found) code new_held
 
--- A call that asks for an attribute, and writes its value to the caller's variable.
-abbrev pub ExportsAttribute : Option Mounted → Call → ℕ → ℕ → ℕ → Option Mounted → Type 0
-ExportsAttribute held call value code new_value new_held =
-    Exported held call (λ answer. ReportsAttribute answer value code new_value) (new_value ≡ value) code new_held
+-- A look at an attribute, which writes its value to the caller's variable.
+abbrev pub AsksAttribute : Option Mounted → Call → ℕ → ℕ → ℕ → Option Mounted → Type 0
+AsksAttribute held call value code new_value new_held =
+    Asks held call (λ answer. ReportsAttribute answer value code new_value) (new_value ≡ value) code new_held
 
 -- A look at one entry of the listing that the handle keeps, by its index: the name, its length in bytes, and whether
 -- the entry is a directory's.

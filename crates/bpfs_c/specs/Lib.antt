@@ -5,6 +5,7 @@ pub mod Kinds
 pub mod Listings
 pub mod Serves
 pub mod Sums
+pub mod Infos
 pub mod Events
 pub mod Runs
 pub mod Words

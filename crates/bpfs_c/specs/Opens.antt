@@ -1,5 +1,5 @@
 -- How a handle gets a volume, and how it loses it, with its memory or without.
-use Rattle.std.specs.Prelude.{◌≡◌, ◌⊎◌, ℕ, ◌*◌, ◌^◌, ◌-◌, List, [], length, min, Option, None, Some, Result, Ok, Err}
+use Rattle.std.specs.Prelude.{◌≡◌, ◌≢◌, ◌⊎◌, ℕ, ◌*◌, ◌^◌, ◌-◌, List, [], length, min, Option, None, Some, Result, Ok, Err}
 use Rattle.bp_layout.specs.Checks.{number_of}
 use Rattle.bp_layout.specs.Formatted.{IsSized}
 use Rattle.bp_layout.specs.Whole.{IsFileSystem}
@@ -73,7 +73,13 @@ pub data Opens (words : List ℕ) (old : Option Mounted) (fault : Fault) (code :
   short : old ≡ None → IsSized words → code ≡ 12 → new ≡ None → new_fault ≡ fault →
       Opens words old fault code new new_fault
 
--- The number that `bpfs_close` returns: 32 if the handle held no volume, else 0.
+-- The handle loses its volume if the log has no event. Else it keeps the volume, and the number is 40.
+pub data Closes (old : Option Mounted) (code : ℕ) (new : Option Mounted) : Type 0 where
+  closed : old ≡ None → code ≡ 32 → new ≡ None → Closes old code new
+  pending : (held : Mounted) → old ≡ Some held → held.volume.events ≢ [] → code ≡ 40 → new ≡ old → Closes old code new
+  freed : (held : Mounted) → old ≡ Some held → held.volume.events ≡ [] → code ≡ 0 → new ≡ None → Closes old code new
+
+-- The number that `bpfs_discard` and `bpfs_close_at` return: 32 if the handle held no volume, else 0.
 abbrev pub ReportsWhetherHeld : Option Mounted → ℕ → Type 0
 ReportsWhetherHeld None code = code ≡ 32
 ReportsWhetherHeld (Some held) code = code ≡ 0

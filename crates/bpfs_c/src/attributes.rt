@@ -5,7 +5,7 @@ ghost use Rattle.bp_limits.specs.Limits.{attributes};
 ghost use Rattle.bp_plain.specs.Calls.Call.{attribute, set_attribute};
 ghost use Rattle.bp_volume.specs.Seen.{attribute_answer};
 ghost use Rattle.bpfs_c.specs.Codes.{ReportsAttribute};
-ghost use Rattle.bpfs_c.specs.Exports.{ExportsAttribute, ExportsChange};
+ghost use Rattle.bpfs_c.specs.Exports.{AsksAttribute, ExportsChange};
 
 use crate::codes::{CLOSED, LOG_FULL, Lack, OK, OUT_OF_RANGE, ended, number_of};
 use crate::handle::Handle;
@@ -57,7 +57,7 @@ fn report_attribute(ending: Result<u64, FsError>, value: &mut u64) -> u32
     }
 }
 
-/// Looks up an attribute of a file or directory.
+/// Looks up an attribute of a file or directory. It adds nothing to the log.
 #[unsafe(no_mangle)]
 pub extern "C" fn bpfs_attribute(
     alloc: Global,
@@ -67,7 +67,7 @@ pub extern "C" fn bpfs_attribute(
     value: &mut u64,
 ) -> u32
     ensures fit { number < attributes →
-        ExportsAttribute handle.old.held (attribute path.now number) value.old result value.new handle.new.held }
+        AsksAttribute handle.old.held (attribute path.now number) value.old result value.new handle.new.held }
     ensures unfit { attributes ≤ number →
         (result ≡ 38) × (handle.new.held ≡ handle.old.held) × (value.new ≡ value.old) }
 {
@@ -77,11 +77,7 @@ pub extern "C" fn bpfs_attribute(
     let Some(mut mounted) = handle.take(alloc) else {
         return CLOSED;
     };
-    let code = if has_room(&mounted) {
-        report_attribute(mounted.volume.attribute(path, number), value)
-    } else {
-        LOG_FULL
-    };
+    let code = report_attribute(mounted.volume.look_attribute(path, number), value);
     handle.put(alloc, mounted);
     code
 }

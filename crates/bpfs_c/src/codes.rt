@@ -38,6 +38,9 @@ pub const OUT_OF_RANGE: u32 = 38;
 /// A part of an upgrade is done: carry the events, and call again.
 pub const AGAIN: u32 = 39;
 
+/// The log has events: carry them, then drain it.
+pub const PENDING: u32 = 40;
+
 /// The blocks that a call needs and those that are free, after a refusal for lack of space.
 #[repr(C)]
 #[derive(Clone, Copy, Drop)]

@@ -8,6 +8,7 @@ pub mod calls;
 pub mod codes;
 pub mod format_events;
 pub mod handle;
+pub mod info;
 pub mod listing;
 pub mod log;
 mod loose;

@@ -6,11 +6,10 @@ ghost use Rattle.bp_volume.specs.Seen.{list_answer_of};
 ghost use Rattle.bpfs_c.specs.Codes.{IsListed};
 ghost use Rattle.bpfs_c.specs.Exports.{LooksAtName};
 ghost use Rattle.bpfs_c.specs.Listings.{ReportsName, entry_at, listing_after};
-ghost use Rattle.bpfs_c.specs.Serves.{Exported};
+ghost use Rattle.bpfs_c.specs.Serves.{Asks};
 
-use crate::codes::{CLOSED, LOG_FULL, OK, OUT_OF_RANGE, number_of};
+use crate::codes::{CLOSED, OK, OUT_OF_RANGE, number_of};
 use crate::handle::Handle;
-use crate::mounted::has_room;
 use bp_layout::{Kind, Listing};
 use bp_plain::FsError;
 use std::alloc::Global;
@@ -42,18 +41,14 @@ pub extern "C" fn bpfs_list(
     path: &[u8],
     count: &mut usize,
 ) -> u32
-    ensures { Exported handle.old.held (list path.now) (λ answer. IsListed answer count.old result count.new)
+    ensures { Asks handle.old.held (list path.now) (λ answer. IsListed answer count.old result count.new)
         (count.new ≡ count.old) result handle.new.held }
 {
     let Some(mut mounted) = handle.take(alloc) else {
         return CLOSED;
     };
-    let code = if has_room(&mounted) {
-        let ending = mounted.volume.list(alloc, path);
-        keep(&mut mounted.listing, ending, count)
-    } else {
-        LOG_FULL
-    };
+    let ending = mounted.volume.look_list(alloc, path);
+    let code = keep(&mut mounted.listing, ending, count);
     handle.put(alloc, mounted);
     code
 }

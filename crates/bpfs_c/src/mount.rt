@@ -3,15 +3,16 @@
 ghost use Rattle.std.specs.Prelude.{[], ◌≡◌, IfOk, None};
 ghost use Rattle.bp_layout.specs.Formatted.{IsSized};
 ghost use Rattle.bp_limits.specs.Limits.{log_events};
-ghost use Rattle.bpfs_c.specs.Opens.{Holds, IsSizedOr, Mounts, Opens, ReportsFault, ReportsWhetherHeld};
+ghost use Rattle.bpfs_c.specs.Opens.{Closes, Holds, IsSizedOr, Mounts, Opens, ReportsFault, ReportsWhetherHeld};
 
-use crate::codes::{BAD_SIZE, CLOSED, DAMAGED, NO_MEMORY, NOT_FORMATTED, OK, OPEN};
+use crate::codes::{BAD_SIZE, CLOSED, DAMAGED, NO_MEMORY, NOT_FORMATTED, OK, OPEN, PENDING};
 use crate::handle::Handle;
 use crate::mounted::Mounted;
 use bp_limits::{LOG_EVENTS, MAX_BLOCKS};
 use bp_scan::image_length;
 use bp_volume::{MountFault, Volume};
 use pm_raw::RawArray;
+use pm_region::Region;
 use pm_runs::RedoRegion;
 use std::alloc::{AllocError, Global};
 
@@ -140,9 +141,24 @@ pub extern "C" fn bpfs_mount(
     }
 }
 
-/// Frees the volume of a handle.
+/// Frees the volume of a handle, if its log is empty. Else the handle keeps it, so that no event is lost.
 #[unsafe(no_mangle)]
 pub extern "C" fn bpfs_close(alloc: Global, handle: &mut Handle) -> u32
+    ensures { Closes handle.old.held result handle.new.held }
+{
+    let Some(mounted) = handle.take(alloc) else {
+        return CLOSED;
+    };
+    if mounted.volume.region().event_count() != 0 {
+        handle.put(alloc, mounted);
+        return PENDING;
+    }
+    OK
+}
+
+/// Frees the volume of a handle, whatever its log has: events that were not carried are lost.
+#[unsafe(no_mangle)]
+pub extern "C" fn bpfs_discard(alloc: Global, handle: &mut Handle) -> u32
     ensures code { ReportsWhetherHeld handle.old.held result }
     ensures closed { handle.new.held ≡ None }
 {

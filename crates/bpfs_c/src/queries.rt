@@ -1,15 +1,14 @@
-//! Exports that look up a path: `bpfs_read`, `bpfs_stat`, `bpfs_links`.
+//! Exports that look up a path: `bpfs_read`, `bpfs_stat`, `bpfs_links`, `bpfs_inode`. They add nothing to the log.
 
 ghost use Rattle.std.specs.Prelude.{◌≡◌, length};
 ghost use Rattle.bp_plain.specs.Calls.Call.{links, read, stat};
 ghost use Rattle.bp_volume.specs.Seen.{links_answer, stat_answer_of};
-ghost use Rattle.bpfs_c.specs.Codes.{ReportsCount, ReportsFound, ReportsLinks};
-ghost use Rattle.bpfs_c.specs.Exports.{ExportsFound, ExportsRead};
-ghost use Rattle.bpfs_c.specs.Serves.{Exported};
+ghost use Rattle.bpfs_c.specs.Codes.{ReportsCount, ReportsFound, ReportsInode, ReportsLinks};
+ghost use Rattle.bpfs_c.specs.Exports.{AsksFound, AsksRead};
+ghost use Rattle.bpfs_c.specs.Serves.{Asks, Looked};
 
-use crate::codes::{CLOSED, LOG_FULL, OK, number_of};
+use crate::codes::{CLOSED, OK, number_of};
 use crate::handle::Handle;
-use crate::mounted::has_room;
 use bp_layout::Stat;
 use bp_plain::FsError;
 use std::alloc::Global;
@@ -47,17 +46,13 @@ pub extern "C" fn bpfs_read(
     into: &mut [u8],
     count: &mut usize,
 ) -> u32
-    ensures { ExportsRead handle.old.held (read path.now offset (length into.old)) into.old count.old
+    ensures { AsksRead handle.old.held (read path.now offset (length into.old)) into.old count.old
         result into.new count.new handle.new.held }
 {
     let Some(mut mounted) = handle.take(alloc) else {
         return CLOSED;
     };
-    let code = if has_room(&mounted) {
-        report_count(mounted.volume.read(path, offset, into), count)
-    } else {
-        LOG_FULL
-    };
+    let code = report_count(mounted.volume.look_read(path, offset, into), count);
     handle.put(alloc, mounted);
     code
 }
@@ -93,16 +88,12 @@ pub extern "C" fn bpfs_stat(
     path: &[u8],
     found: &mut Found,
 ) -> u32
-    ensures { ExportsFound handle.old.held (stat path.now) found.old result found.new handle.new.held }
+    ensures { AsksFound handle.old.held (stat path.now) found.old result found.new handle.new.held }
 {
     let Some(mut mounted) = handle.take(alloc) else {
         return CLOSED;
     };
-    let code = if has_room(&mounted) {
-        report_found(mounted.volume.stat(path), found)
-    } else {
-        LOG_FULL
-    };
+    let code = report_found(mounted.volume.look_stat(path), found);
     handle.put(alloc, mounted);
     code
 }
@@ -128,17 +119,40 @@ pub extern "C" fn bpfs_links(
     path: &[u8],
     count: &mut u32,
 ) -> u32
-    ensures { Exported handle.old.held (links path.now) (λ answer. ReportsLinks answer count.old result count.new)
+    ensures { Asks handle.old.held (links path.now) (λ answer. ReportsLinks answer count.old result count.new)
         (count.new ≡ count.old) result handle.new.held }
 {
     let Some(mut mounted) = handle.take(alloc) else {
         return CLOSED;
     };
-    let code = if has_room(&mounted) {
-        report_links(mounted.volume.links(path), count)
-    } else {
-        LOG_FULL
+    let code = report_links(mounted.volume.look_links(path), count);
+    handle.put(alloc, mounted);
+    code
+}
+
+/// Stores the number of an inode, and returns the number of the call's end.
+fn report_inode(ending: Result<u32, FsError>, ino: &mut u32) -> u32
+    ensures { ReportsCount ending ino.old result ino.new }
+{
+    match ending {
+        Ok(found) => {
+            *ino = found;
+            OK
+        }
+        Err(error) => number_of(error),
+    }
+}
+
+/// Gets the number of the inode of the file or directory at a path. All links of a file have the same number.
+#[unsafe(no_mangle)]
+pub extern "C" fn bpfs_inode(alloc: Global, handle: &mut Handle, path: &[u8], ino: &mut u32) -> u32
+    ensures { Looked handle.old.held (λ held. ReportsInode held.volume path.now ino.old result ino.new)
+        (ino.new ≡ ino.old) result handle.new.held }
+{
+    let Some(mut mounted) = handle.take(alloc) else {
+        return CLOSED;
     };
+    let code = report_inode(mounted.volume.look_inode(path), ino);
     handle.put(alloc, mounted);
     code
 }

@@ -1,10 +1,10 @@
-//! Calls on the snapshot.
+//! Calls on the snapshot. Those that read it add nothing to the log.
 
 ghost use Rattle.std.specs.Prelude.{◌≡◌, length};
 ghost use Rattle.bp_plain.specs.Calls.Call.{snap, snap_list, snap_read, snap_stat, unsnap};
 ghost use Rattle.bpfs_c.specs.Codes.{IsEndedBy, IsListed};
-ghost use Rattle.bpfs_c.specs.Exports.{ExportsFound, ExportsRead};
-ghost use Rattle.bpfs_c.specs.Serves.{Exported};
+ghost use Rattle.bpfs_c.specs.Exports.{AsksFound, AsksRead};
+ghost use Rattle.bpfs_c.specs.Serves.{Asks, Exported};
 
 use crate::codes::{CLOSED, LOG_FULL, ended_by};
 use crate::handle::Handle;
@@ -57,17 +57,13 @@ pub extern "C" fn bpfs_snap_read(
     into: &mut [u8],
     count: &mut usize,
 ) -> u32
-    ensures { ExportsRead handle.old.held (snap_read path.now offset (length into.old)) into.old count.old
+    ensures { AsksRead handle.old.held (snap_read path.now offset (length into.old)) into.old count.old
         result into.new count.new handle.new.held }
 {
-    let Some(mut mounted) = handle.take(alloc) else {
+    let Some(mounted) = handle.take(alloc) else {
         return CLOSED;
     };
-    let code = if has_room(&mounted) {
-        report_count(mounted.volume.snap_read(path, offset, into), count)
-    } else {
-        LOG_FULL
-    };
+    let code = report_count(mounted.volume.look_snap_read(path, offset, into), count);
     handle.put(alloc, mounted);
     code
 }
@@ -80,16 +76,12 @@ pub extern "C" fn bpfs_snap_stat(
     path: &[u8],
     found: &mut Found,
 ) -> u32
-    ensures { ExportsFound handle.old.held (snap_stat path.now) found.old result found.new handle.new.held }
+    ensures { AsksFound handle.old.held (snap_stat path.now) found.old result found.new handle.new.held }
 {
-    let Some(mut mounted) = handle.take(alloc) else {
+    let Some(mounted) = handle.take(alloc) else {
         return CLOSED;
     };
-    let code = if has_room(&mounted) {
-        report_found(mounted.volume.snap_stat(path), found)
-    } else {
-        LOG_FULL
-    };
+    let code = report_found(mounted.volume.look_snap_stat(path), found);
     handle.put(alloc, mounted);
     code
 }
@@ -102,18 +94,14 @@ pub extern "C" fn bpfs_snap_list(
     path: &[u8],
     count: &mut usize,
 ) -> u32
-    ensures { Exported handle.old.held (snap_list path.now) (λ answer. IsListed answer count.old result count.new)
+    ensures { Asks handle.old.held (snap_list path.now) (λ answer. IsListed answer count.old result count.new)
         (count.new ≡ count.old) result handle.new.held }
 {
     let Some(mut mounted) = handle.take(alloc) else {
         return CLOSED;
     };
-    let code = if has_room(&mounted) {
-        let ending = mounted.volume.snap_list(alloc, path);
-        keep(&mut mounted.listing, ending, count)
-    } else {
-        LOG_FULL
-    };
+    let ending = mounted.volume.look_snap_list(alloc, path);
+    let code = keep(&mut mounted.listing, ending, count);
     handle.put(alloc, mounted);
     code
 }

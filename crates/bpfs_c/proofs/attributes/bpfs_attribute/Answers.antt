@@ -1,21 +1,12 @@
 use Rattle.std.proofs.Common.{rules, Some, ap, sym, ◌∙◌}
-use Rattle.bpfs_c.specs.Serves.Exported.{full, served}
+use Rattle.bpfs_c.specs.Serves.Asks.{asked}
 use Rattle.bp_volume.specs.Seen.{attribute_answer}
 use Rattle.bpfs_c.proofs.Keeping.{attribute_keeps}
 use Rattle.bpfs_c.proofs.attributes.bpfs_attribute.Goals as goal
-use Rattle.bpfs_c.proofs.attributes.bpfs_attribute.Goals.{then-has_room, else-has_room}
 
 pub returns-clause-fit : goal.returns-clause-fit
 returns-clause-fit c fit =
     let held = c.in-Some.mounted.value in
-    elim c.if-has_room.branch [
-      | then-has_room w ↦ served held (search rules) (search rules) (record {
-        answer = attribute_answer w.attribute.result;
-        volume = w.attribute.new.self;
-        is_call = search rules;
-        held = search rules
-            ∙ ap (λ kept. Some (record held { volume = w.attribute.new.self; listing = kept })) (sym (attribute_keeps held.listing w.attribute.result));
-        reported = search rules;
-      })
-      | else-has_room w ↦ full held (search rules) (search rules) (search rules) (search rules) (search rules)
-    ]
+    asked held (attribute_answer c.look_attribute.result) (search rules) (search rules)
+    (search rules ∙ ap (λ kept. Some (record held { listing = kept })) (sym (attribute_keeps held.listing c.look_attribute.result)))
+    (search rules)

@@ -1,21 +1,12 @@
 use Rattle.std.proofs.Common.{rules, Some, ap, sym, ◌∙◌}
-use Rattle.bpfs_c.specs.Serves.Exported.{full, served}
+use Rattle.bpfs_c.specs.Serves.Asks.{asked}
 use Rattle.bp_volume.specs.Seen.{links_answer}
 use Rattle.bpfs_c.proofs.Keeping.{links_keeps}
 use Rattle.bpfs_c.proofs.queries.bpfs_links.Goals as goal
-use Rattle.bpfs_c.proofs.queries.bpfs_links.Goals.{then-has_room, else-has_room}
 
 pub returns : goal.returns
 returns c =
     let held = c.in-Some.mounted.value in
-    elim c.if-has_room.branch [
-      | then-has_room w ↦ served held (search rules) (search rules) (record {
-        answer = links_answer w.links.result;
-        volume = w.links.new.self;
-        is_call = search rules;
-        held = search rules
-            ∙ ap (λ kept. Some (record held { volume = w.links.new.self; listing = kept })) (sym (links_keeps held.listing w.links.result));
-        reported = search rules;
-      })
-      | else-has_room w ↦ full held (search rules) (search rules) (search rules) (search rules) (search rules)
-    ]
+    asked held (links_answer c.look_links.result) (search rules) (search rules)
+    (search rules ∙ ap (λ kept. Some (record held { listing = kept })) (sym (links_keeps held.listing c.look_links.result)))
+    (search rules)

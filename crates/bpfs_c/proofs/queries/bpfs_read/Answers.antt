@@ -1,25 +1,14 @@
-use Rattle.std.proofs.Common.{rules, Some, ap, subst, sym, ◌∙◌}
-use Rattle.bpfs_c.specs.Serves.Exported.{full, served}
+use Rattle.std.proofs.Common.{rules, Some, ap, sym, ◌∙◌}
+use Rattle.bpfs_c.specs.Serves.Asks.{asked}
 use Rattle.bp_volume.specs.Seen.{read_answer_of}
-use Rattle.bpfs_c.specs.Codes.{IsRead}
 use Rattle.bpfs_c.proofs.Report.{read_reported}
 use Rattle.bpfs_c.proofs.Keeping.{read_keeps}
 use Rattle.bpfs_c.proofs.queries.bpfs_read.Goals as goal
-use Rattle.bpfs_c.proofs.queries.bpfs_read.Goals.{then-has_room, else-has_room}
 
 pub returns : goal.returns
 returns c =
     let held = c.in-Some.mounted.value in
-    elim c.if-has_room.branch [
-      | then-has_room w ↦ served held (search rules) (search rules) (record {
-        answer = read_answer_of w.read.result w.read.new.into;
-        volume = w.read.new.self;
-        is_call = search rules;
-        held = search rules
-            ∙ ap (λ kept. Some (record held { volume = w.read.new.self; listing = kept })) (sym (read_keeps held.listing w.read.result w.read.new.into));
-        reported = subst (λ new. IsRead (read_answer_of w.read.result w.read.new.into) c.args.into.now c.args.count.now c.if-has_room.code new c.if-has_room.count)
-            (sym w.into-is) (read_reported w.read.result c.args.into.now w.read.new.into c.args.count.now c.if-has_room.code c.if-has_room.count
-            (search rules) w.read.ensures.fits w.read.ensures.rest w.read.ensures.unread);
-      })
-      | else-has_room w ↦ full held (search rules) (search rules) (search rules) (search rules) (search rules)
-    ]
+    asked held (read_answer_of c.look_read.result c.look_read.new.into) (search rules) (search rules)
+    (search rules ∙ ap (λ kept. Some (record held { listing = kept })) (sym (read_keeps held.listing c.look_read.result c.look_read.new.into)))
+    (read_reported c.look_read.result c.args.into.now c.look_read.new.into c.args.count.now _ _
+    (search rules) c.look_read.ensures.fits c.look_read.ensures.rest c.look_read.ensures.unread)

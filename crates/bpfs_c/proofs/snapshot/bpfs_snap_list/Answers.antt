@@ -1,19 +1,7 @@
 use Rattle.std.proofs.Common.{rules}
-use Rattle.bpfs_c.specs.Serves.Exported.{full, served}
+use Rattle.bpfs_c.specs.Serves.Asks.{asked}
 use Rattle.bp_volume.specs.Seen.{list_answer_of}
 use Rattle.bpfs_c.proofs.snapshot.bpfs_snap_list.Goals as goal
-use Rattle.bpfs_c.proofs.snapshot.bpfs_snap_list.Goals.{then-has_room, else-has_room}
 
 pub returns : goal.returns
-returns c =
-    let held = c.in-Some.mounted.value in
-    elim c.if-has_room.branch [
-      | then-has_room w ↦ served held (search rules) (search rules) (record {
-        answer = list_answer_of w.snap_list-ending.result;
-        volume = w.snap_list-ending.new.self;
-        is_call = search rules;
-        held = search rules;
-        reported = search rules;
-      })
-      | else-has_room w ↦ full held (search rules) (search rules) (search rules) (search rules) (search rules)
-    ]
+returns c = asked c.in-Some.mounted.value (list_answer_of c.look_snap_list-ending.result) (search rules) (search rules) (search rules) (search rules)

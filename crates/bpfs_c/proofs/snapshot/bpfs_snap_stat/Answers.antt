@@ -1,21 +1,12 @@
 use Rattle.std.proofs.Common.{rules, Some, ap, sym, ◌∙◌}
-use Rattle.bpfs_c.specs.Serves.Exported.{full, served}
+use Rattle.bpfs_c.specs.Serves.Asks.{asked}
 use Rattle.bp_volume.specs.Seen.{stat_answer_of}
 use Rattle.bpfs_c.proofs.Keeping.{stat_keeps}
 use Rattle.bpfs_c.proofs.snapshot.bpfs_snap_stat.Goals as goal
-use Rattle.bpfs_c.proofs.snapshot.bpfs_snap_stat.Goals.{then-has_room, else-has_room}
 
 pub returns : goal.returns
 returns c =
     let held = c.in-Some.mounted.value in
-    elim c.if-has_room.branch [
-      | then-has_room w ↦ served held (search rules) (search rules) (record {
-        answer = stat_answer_of w.snap_stat.result;
-        volume = w.snap_stat.new.self;
-        is_call = search rules;
-        held = search rules
-            ∙ ap (λ kept. Some (record held { volume = w.snap_stat.new.self; listing = kept })) (sym (stat_keeps held.listing w.snap_stat.result));
-        reported = search rules;
-      })
-      | else-has_room w ↦ full held (search rules) (search rules) (search rules) (search rules) (search rules)
-    ]
+    asked held (stat_answer_of c.look_snap_stat.result) (search rules) (search rules)
+    (search rules ∙ ap (λ kept. Some (record held { listing = kept })) (sym (stat_keeps held.listing c.look_snap_stat.result)))
+    (search rules)

@@ -1,8 +1,6 @@
 #define _GNU_SOURCE
 #include "attributes.h"
 #include "calls.h"
-#include "operations.h"
-#include <stdlib.h>
 #include <sys/stat.h>
 
 enum { NUMBER = 0, MODE_BITS = 16, ID_BITS = 24, MODE_MASK = (1 << MODE_BITS) - 1, ID_MASK = (1 << ID_BITS) - 1 };
@@ -22,31 +20,29 @@ static uint64_t word_of(const attributes *it) {
     return it->mode | (uint64_t)it->owner << MODE_BITS | (uint64_t)it->group << (MODE_BITS + ID_BITS);
 }
 
-int attributes_get(const char *path, bool is_dir, attributes *found) {
+int attributes_get(const path *at, bool is_dir, attributes *found) {
     uint64_t word = 0;
-    int code = volume.keeps ? LOOK(path, bpfs_attribute(&volume.fs, P(path), NUMBER, &word)) : 0;
+    int code = volume.keeps ? LOOK(bpfs_attribute(&volume.fs, P(*at), NUMBER, &word)) : 0;
     *found = of_word(word, is_dir);
     return code;
 }
 
-int attributes_of_new(const char *path, mode_t mode, attributes *found) {
-    const struct fuse_context *caller = fuse_get_context();
+int attributes_inherit(const node *dir, attributes *of_new) {
     attributes above;
-    *found = (attributes){mode, caller->uid, caller->gid};
-    char *parent = parent_of(path);
-    int code = parent ? attributes_get(parent, true, &above) : -ENOMEM;
-    free(parent);
+    path at;
+    int code = nodes_path(dir, &at);
+    if (!code) code = attributes_get(&at, true, &above);
     if (code || !(above.mode & S_ISGID)) return code;
-    found->group = above.group;
-    if (S_ISDIR(mode)) found->mode |= S_ISGID;
+    of_new->group = above.group;
+    if (S_ISDIR(of_new->mode)) of_new->mode |= S_ISGID;
     return 0;
 }
 
-int attributes_set(const char *path, const attributes *wanted) {
+int attributes_set(const path *at, const attributes *wanted) {
     attributes usual = defaults(S_ISDIR(wanted->mode));
     bool same = wanted->mode == usual.mode && wanted->owner == usual.owner && wanted->group == usual.group;
     bool fits = wanted->owner <= ID_MASK && wanted->group <= ID_MASK;
-    if (volume.keeps && fits) return CHANGE(path, bpfs_set_attribute(&volume.fs, P(path), NUMBER, word_of(wanted), NULL));
+    if (volume.keeps && fits) return CHANGE(bpfs_set_attribute(&volume.fs, P(*at), NUMBER, word_of(wanted), NULL));
     if (volume.quiet || (same && !volume.keeps)) return 0;
     return volume.keeps ? -EOVERFLOW : -EPERM;
 }

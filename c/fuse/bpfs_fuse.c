@@ -7,11 +7,12 @@
 #define _GNU_SOURCE
 #include <bpfs/redo.h>
 #include <bpfs/stream.h>
+#include "files.h"
+#include "hidden.h"
 #include "operations.h"
 #include "times.h"
 #include "volume.h"
 #include <errno.h>
-#include <fuse3/fuse_lowlevel.h>
 #include <poll.h>
 #include <signal.h>
 #include <stddef.h>
@@ -24,7 +25,9 @@
 #include <unistd.h>
 
 enum { OK = 0, FAILED = 1, USAGE = 2, NO_IMAGE = 7 };
-enum { VERSION = 3, MAGIC_1 = 0x3130, MAGIC_3 = 0x4133 }; /* the last two bytes of magic numbers (docs/format.md) */
+enum { VERSION = 3 };
+/* The last two bytes of magic numbers (docs/format.md). */
+enum { MAGIC_1 = 0x3130, MAGIC_3A = 0x4133, MAGIC_3B = 0x4233 };
 
 static struct options {
     unsigned blocks, version;
@@ -93,7 +96,8 @@ static int open_file(const char *path) {
 }
 
 static int mount_cached(const char *path, bool is_new, bpfs_fault *fault) {
-    int code = is_new ? bpfs_file_create(&file, path, options.blocks, options.version, BPFS_FILE_CACHED) : open_file(path);
+    int code = is_new ? bpfs_file_create(&file, path, options.blocks, options.version, BPFS_FILE_CACHED)
+                      : open_file(path);
     volume.carriers[0] = &file.carrier;
     return code ? code : bpfs_file_mount(&volume.fs, &file, fault);
 }
@@ -134,23 +138,25 @@ static int begin_to_lead(void) {
 static int open_image(const char *path) {
     bpfs_fault fault = {0};
     uint64_t magic = 0;
-    if (options.read_only && (options.blocks || options.follower)) return report("ro excludes format and follower"), USAGE;
+    if (options.read_only && (options.blocks || options.follower))
+        return report("ro excludes format and follower"), USAGE;
     if (options.version && !options.blocks) return report("version needs format"), USAGE;
     if (!options.version) options.version = VERSION;
     int code = options.read_only ? mount_to_read(path, &fault) : mount_to_write(path, &fault);
     if (code < 0) return opening_failed(path);
     if (code == BPFS_OUT_OF_RANGE) {
-        report("format=%u, version=%u: an image has %d to %d blocks, and version 1 to %d", options.blocks, options.version,
-               BPFS_MIN_BLOCKS, BPFS_MAX_BLOCKS, VERSION);
+        report("format=%u, version=%u: an image has %d to %d blocks, and version 1 to %d", options.blocks,
+               options.version, BPFS_MIN_BLOCKS, BPFS_MAX_BLOCKS, VERSION);
         return USAGE;
     }
     if (code) return mounting_failed(path, code, &fault);
     bpfs_words(&volume.fs, 0, &magic, 1);
     volume.max_write = magic >> 48 == MAGIC_1 ? BPFS_MAX_WRITE : BPFS_MAX_WRITE_2;
-    volume.keeps = magic >> 48 == MAGIC_3;
+    volume.keeps = magic >> 48 == MAGIC_3A || magic >> 48 == MAGIC_3B;
     times_begin();
+    if (!options.read_only) hidden_begin();
+    files_begin();
     if (options.read_only) return OK;
-    remove_hidden();
     if (volume_carry()) return NO_IMAGE;
     if (options.follower && begin_to_lead()) {
         report("the follower has not taken its copy: %s", strerror(errno));
@@ -173,7 +179,8 @@ static bool serve_one(struct fuse_session *session, struct fuse_buf *buffer) {
     return true;
 }
 
-/* Serves requests one by one. Between two of them, whether they come or not, the log is carried when its time has come. */
+/* Serves requests one by one. Between two of them, whether they come or not, the log is carried when its time has
+ * come. */
 static void serve(struct fuse_session *session) {
     struct fuse_buf buffer = {0};
     struct pollfd at = {fuse_session_fd(session), POLLIN, 0};
@@ -191,19 +198,19 @@ static void serve(struct fuse_session *session) {
 
 static int serve_at(struct fuse_args *args, const char *mountpoint, bool foreground) {
     if (volume.keeps && fuse_opt_add_arg(args, "-odefault_permissions")) return FAILED; /* the kernel checks them */
-    struct fuse *fuse = fuse_new(args, &operations, sizeof operations, NULL);
-    if (!fuse) return FAILED; /* libfuse has printed why */
-    if (fuse_mount(fuse, mountpoint)) return fuse_destroy(fuse), FAILED;
+    struct fuse_session *session = fuse_session_new(args, &operations, sizeof operations, NULL);
+    if (!session) return FAILED; /* libfuse has printed why */
+    if (fuse_session_mount(session, mountpoint)) return fuse_session_destroy(session), FAILED;
     if (fuse_daemonize(foreground)) {
         report("can't go to the background: %s", strerror(errno));
     } else {
         volume.daemon = !foreground;
-        fuse_set_signal_handlers(fuse_get_session(fuse));
-        serve(fuse_get_session(fuse));
-        fuse_remove_signal_handlers(fuse_get_session(fuse));
+        fuse_set_signal_handlers(session);
+        serve(session);
+        fuse_remove_signal_handlers(session);
     }
-    fuse_unmount(fuse);
-    fuse_destroy(fuse);
+    fuse_session_unmount(session);
+    fuse_session_destroy(session);
     return OK;
 }
 
@@ -212,10 +219,16 @@ static int serve_at(struct fuse_args *args, const char *mountpoint, bool foregro
 /* Carries what is left and closes all. Returns `code`, or FAILED if something is not durable. */
 static int close_image(const char *path, int code) {
     if (volume.fs.is_open && !options.read_only && code == OK) {
-        remove_hidden();
+        times_store();
+        hidden_end();
         if (volume_carry()) code = FAILED;
     }
-    bpfs_close(&volume.fs);
+    nodes_clear();
+    if (code == OK && bpfs_close(&volume.fs)) {
+        report("%s: the last calls are not durable", path);
+        code = FAILED;
+    }
+    bpfs_discard(&volume.fs); /* after a failure: events that could not be carried go with the volume */
     bpfs_stream_close(&stream);
     if (stream.send) close(stream.fd);
     if (bpfs_redo_close(&image) || bpfs_file_close(&file)) {
@@ -239,7 +252,8 @@ static const struct fuse_opt known[] = {
 };
 
 static int usage(void) {
-    fprintf(stderr, "usage: bpfs_fuse IMAGE MOUNTPOINT [-f] [-o format=N,version=N,cached,follower=COMMAND,quiet,ro,..]\n");
+    fprintf(stderr, "usage: bpfs_fuse IMAGE MOUNTPOINT [-f] "
+                    "[-o format=N,version=N,cached,follower=COMMAND,quiet,ro,..]\n");
     return USAGE;
 }
 
@@ -250,7 +264,8 @@ int main(int argc, char **argv) {
     argv[1] = argv[0];
     struct fuse_args args = FUSE_ARGS_INIT(argc - 1, argv + 1);
     struct fuse_cmdline_opts line = {0};
-    if (fuse_opt_parse(&args, &options, known, NULL) || fuse_parse_cmdline(&args, &line) || !line.mountpoint) return usage();
+    if (fuse_opt_parse(&args, &options, known, NULL) || fuse_parse_cmdline(&args, &line) || !line.mountpoint)
+        return usage();
     volume.owner = getuid(), volume.group = getgid(), volume.quiet = options.quiet;
     int code = open_image(path);
     if (code == OK) code = serve_at(&args, line.mountpoint, line.foreground);

@@ -2,16 +2,26 @@
  *
  *     mounted_test calls FOLDER VERSION   a series of system calls; FOLDER is empty, and on a mount of this version
  *     mounted_test others FOLDER          calls of other users, on a mount with allow_other; needs root
- *     mounted_test looks FOLDER COUNT     COUNT times fstat of one file
+ *     mounted_test looks FOLDER COUNT     COUNT times statx of one file, not from the kernel's cache
  *     mounted_test many FOLDER COUNT      makes COUNT files of 1,000 bytes, syncs the last one, and prints both times
+ *     mounted_test appends FOLDER COUNT   two processes append COUNT lines each, by two names of one file
+ *     mounted_test opens FOLDER COUNT     a process opens a file COUNT times, which another one replaces by renames meanwhile
+ *     mounted_test forgets FOLDER COUNT   looks up names COUNT times, and lets the kernel forget them. FOLDER is a mount point.
+ *                                         Without root: makes COUNT files, one after the other, and deletes each
+ *     mounted_test replaces FOLDER SIZE   replaces an open file by renames until a call fails. It has SIZE equal bytes
+ *     mounted_test whole FOLDER SIZE      whether that file has SIZE equal bytes
  */
 #define _GNU_SOURCE
 #include <errno.h>
 #include <fcntl.h>
 #include <grp.h>
+#include <signal.h>
+#include <stdbool.h>
 #include <stdio.h>
 #include <stdlib.h>
 #include <string.h>
+#include <sys/mman.h>
+#include <sys/mount.h>
 #include <sys/stat.h>
 #include <sys/statvfs.h>
 #include <sys/wait.h>
@@ -115,20 +125,43 @@ static void renames(void) {
     WORKS(unlink("b"));
 }
 
+static long inode_of(const char *path) {
+    struct stat it;
+    return stat(path, &it) ? -1 : (long)it.st_ino;
+}
+
+/* All names, descriptors and maps of a file show the same, also those from before a link. */
 static void links(void) {
+    char bytes[8] = {0};
     int fd = make("a", "one");
+    char *map = mmap(NULL, 4096, PROT_READ | PROT_WRITE, MAP_SHARED, fd, 0);
+    IS(1, map != MAP_FAILED);
     WORKS(link("a", "b"));
     FAILS(EEXIST, link("a", "b"));
     IS(2, names_of("a"));
     IS(2, names_of("b"));
+    IS(inode_of("a"), inode_of("b"));
     int other = open("b", O_RDWR);
     IS(3, pwrite(other, "two", 3, 3));
     IS(6, size_of("a"));
     IS(1, has("a", "onetwo"));
-    close(other);
-    close(fd);
+    IS(6, pread(fd, bytes, 8, 0));
+    IS(0, memcmp(bytes, "onetwo", 6));
+    IS(0, memcmp(map, "onetwo", 6));
+    memcpy(map, "ONE", 3);
+    IS(1, has("b", "ONEtwo"));
+    WORKS(msync(map, 4096, MS_SYNC));
+    IS(1, has("b", "ONEtwo"));
+    WORKS(munmap(map, 4096));
+    WORKS(rename("a", "b")); /* POSIX: it does nothing */
+    IS(2, names_of("a"));
+    IS(1, has("b", "ONEtwo"));
     WORKS(unlink("a"));
     IS(1, names_of("b"));
+    IS(3, pwrite(fd, "yes", 3, 0));
+    IS(1, has("b", "yestwo"));
+    close(other);
+    close(fd);
     WORKS(unlink("b"));
     FAILS(EPERM, mknod("p", S_IFIFO | 0644, 0));
 }
@@ -140,7 +173,10 @@ static void long_names(void) {
     close(make(name, "x"));
     IS(1, size_of(name));
     WORKS(unlink(name));
-    name[240] = 'n', name[241] = 0;
+    name[240] = 'n', name[255] = 0;
+    FAILS(ENAMETOOLONG, open(name, O_RDONLY));
+    FAILS(ENAMETOOLONG, open(name, O_WRONLY | O_CREAT, 0644));
+    name[241] = 0;
     FAILS(ENAMETOOLONG, open(name, O_RDONLY));
     FAILS(ENAMETOOLONG, mkdir(name, 0755));
     FAILS(ENAMETOOLONG, stat(name, &(struct stat){0}));
@@ -150,23 +186,67 @@ static void long_names(void) {
     WORKS(unlink("a"));
 }
 
+static long links_of(int fd) {
+    struct stat it;
+    return fstat(fd, &it) ? -1 : (long)it.st_nlink;
+}
+
 static void deleted_while_open(void) {
-    char bytes[8] = {0};
+    char bytes[8] = {0}, again[64];
     int fd = make("a", "kept");
     WORKS(unlink("a"));
     FAILS(ENOENT, stat("a", &(struct stat){0}));
+    IS(0, links_of(fd));
+    snprintf(again, sizeof again, "/proc/self/fd/%d", fd);
+    FAILS(ENOENT, linkat(AT_FDCWD, again, AT_FDCWD, "b", AT_SYMLINK_FOLLOW));
+    IS(1, has(again, "kept"));
     IS(4, pread(fd, bytes, 8, 0));
     IS(0, memcmp(bytes, "kept", 4));
     IS(4, pwrite(fd, "more", 4, 4));
+    WORKS(fchmod(fd, 0644));
+    WORKS(ftruncate(fd, 2));
+    IS(2, pread(fd, bytes, 8, 0));
     close(fd);
     fd = make("a", "old");
     close(make("b", "new"));
     WORKS(rename("b", "a"));
+    IS(0, links_of(fd));
     IS(3, pread(fd, bytes, 8, 0));
     IS(0, memcmp(bytes, "old", 3));
     close(fd);
     IS(1, has("a", "new"));
     WORKS(unlink("a"));
+    WORKS(mkdir("d", 0755));
+    fd = make("d/a", "kept");
+    int dir = open("d", O_RDONLY | O_DIRECTORY);
+    WORKS(unlink("d/a"));
+    WORKS(rmdir("d"));
+    FAILS(ENOENT, openat(dir, "a", O_WRONLY | O_CREAT, 0644));
+    IS(0, links_of(dir));
+    close(dir);
+    IS(4, pread(fd, bytes, 8, 0));
+    close(fd);
+}
+
+/* A file is read through its descriptor after its directory and a directory above that got other names. */
+static void renamed_while_open(void) {
+    char bytes[8] = {0};
+    WORKS(mkdir("d", 0755));
+    WORKS(mkdir("d/e", 0755));
+    int fd = make("d/e/a", "one");
+    WORKS(rename("d/e", "f"));
+    WORKS(rename("d", "f/d"));
+    WORKS(rename("f", "g"));
+    IS(3, pwrite(fd, "two", 3, 3));
+    IS(6, pread(fd, bytes, 8, 0));
+    IS(1, has("g/a", "onetwo"));
+    WORKS(rename("g/a", "g/d/b"));
+    IS(3, pwrite(fd, "ONE", 3, 0));
+    IS(1, has("g/d/b", "ONEtwo"));
+    close(fd);
+    WORKS(unlink("g/d/b"));
+    WORKS(rmdir("g/d"));
+    WORKS(rmdir("g"));
 }
 
 /* ---- what version 2 does not keep, and version 3 does */
@@ -391,6 +471,17 @@ static void from_version_3_on(void) {
     symbolic_links();
 }
 
+/* A close returns before the mount has freed the blocks of a deleted file. */
+static long free_blocks(long wanted) {
+    struct statvfs it = {0};
+    for (int i = 0; i < 100; i++) {
+        WORKS(statvfs(".", &it));
+        if ((long)it.f_bfree == wanted) break;
+        usleep(10000);
+    }
+    return (long)it.f_bfree;
+}
+
 static void space(void) {
     struct statvfs before, after;
     static char bytes[1 << 20];
@@ -399,17 +490,17 @@ static void space(void) {
     IS(240, before.f_namemax);
     int fd = make("a", "");
     IS(sizeof bytes, write(fd, bytes, sizeof bytes));
-    close(fd);
     WORKS(statvfs(".", &after));
     IS(1, before.f_bfree - after.f_bfree >= 256);
-    fd = open("a", O_WRONLY | O_APPEND);
+    IS(1, after.f_files - after.f_ffree - (before.f_files - before.f_ffree));
     ssize_t n;
     while ((n = write(fd, bytes, sizeof bytes)) > 0) {}
     FAILS(ENOSPC, n);
+    WORKS(unlink("a")); /* though it is open, and no block is free */
     close(fd);
-    WORKS(unlink("a"));
+    IS(before.f_bfree, free_blocks((long)before.f_bfree));
     WORKS(statvfs(".", &after));
-    IS(before.f_bfree, after.f_bfree);
+    IS(before.f_files - before.f_ffree, after.f_files - after.f_ffree);
 }
 
 /* ---- other users */
@@ -492,6 +583,7 @@ static int calls(int version) {
     links();
     long_names();
     deleted_while_open();
+    renamed_while_open();
     FAILS(EOPNOTSUPP, setxattr(".", "user.x", "y", 1, 0));
     if (version < 3) before_version_3();
     else from_version_3_on();
@@ -500,14 +592,14 @@ static int calls(int version) {
     return wrong;
 }
 
-/* Each fstat is a request to the mount, which must never run out of room in its log. */
+/* Each statx is a request to the mount, which must never run out of room in its log. */
 static int looks(long count) {
-    struct stat it;
+    struct statx it;
     long failed = 0;
     int fd = make("looked-at", "x");
-    for (long i = 0; i < count; i++) failed += fstat(fd, &it) != 0;
+    for (long i = 0; i < count; i++) failed += statx(fd, "", AT_EMPTY_PATH | AT_STATX_FORCE_SYNC, STATX_ALL, &it) != 0;
     close(fd);
-    if (failed) fprintf(stderr, "%ld of %ld fstats failed\n", failed, count);
+    if (failed) fprintf(stderr, "%ld of %ld calls of statx failed\n", failed, count);
     return failed != 0;
 }
 
@@ -534,13 +626,127 @@ static int many(long count) {
     return 0;
 }
 
+/* Starts a process that acts until it ends or is killed. */
+static pid_t starts(int (*act)(long), long count) {
+    pid_t pid = fork();
+    if (pid == 0) _exit(act(count));
+    return pid;
+}
+
+/* One of the processes keeps its descriptor, and the other one opens the file for each line. */
+static int append_by_a(long count) {
+    int fd = open("a", O_WRONLY | O_APPEND);
+    for (long i = 0; i < count; i++)
+        if (write(fd, "line by a\n", 10) != 10) return 1;
+    return 0;
+}
+
+static int append_by_b(long count) {
+    for (long i = 0; i < count; i++) {
+        int fd = open("b", O_WRONLY | O_APPEND);
+        if (write(fd, "line by b\n", 10) != 10) return 1;
+        close(fd);
+    }
+    return 0;
+}
+
+static int appends(long count) {
+    char line[10];
+    long by_a = 0, by_b = 0;
+    close(make("a", ""));
+    WORKS(link("a", "b"));
+    pid_t pids[] = {starts(append_by_a, count), starts(append_by_b, count)};
+    for (size_t i = 0; i < 2; i++) {
+        int status = 1;
+        waitpid(pids[i], &status, 0);
+        IS(0, status);
+    }
+    int fd = open("a", O_RDONLY);
+    while (read(fd, line, 10) == 10) {
+        by_a += memcmp(line, "line by a\n", 10) == 0;
+        by_b += memcmp(line, "line by b\n", 10) == 0;
+    }
+    close(fd);
+    IS(20 * count, size_of("b"));
+    IS(count, by_a);
+    IS(count, by_b);
+    return wrong;
+}
+
+static int replace(long count) {
+    (void)count;
+    for (;;) {
+        close(make("new", "text"));
+        if (rename("new", "current")) return 1;
+    }
+}
+
+/* The name is always there. */
+static int opens(long count) {
+    long failed = 0;
+    close(make("current", "text"));
+    pid_t pid = starts(replace, 0);
+    for (long i = 0; i < count; i++) failed += !has("current", "text");
+    IS(0, failed);
+    kill(pid, SIGKILL);
+    waitpid(pid, NULL, 0);
+    unlink("new");
+    return wrong;
+}
+
+/* A file of `size` bytes, all of one value. */
+static int make_whole(const char *path, int value, long size) {
+    char bytes[65536];
+    memset(bytes, value, sizeof bytes);
+    int fd = open(path, O_RDWR | O_CREAT | O_TRUNC, 0644);
+    if (fd >= 0 && write(fd, bytes, (size_t)size) != size) close(fd), fd = -1;
+    return fd;
+}
+
+static int replaces(long size) {
+    close(make_whole("current", 'a', size));
+    for (int value = 'a';; value = value == 'z' ? 'a' : value + 1) {
+        int old = open("current", O_RDONLY), new = make_whole("new", value, size);
+        if (old < 0 || new < 0 || rename("new", "current") || (value == 'k' && fsync(new))) return 0;
+        close(old);
+        close(new);
+    }
+}
+
+static int whole(long size) {
+    char bytes[65536] = {0};
+    int fd = open("current", O_RDONLY);
+    IS(size, read(fd, bytes, sizeof bytes));
+    for (long i = 1; i < size; i++) wrong |= bytes[i] != bytes[0];
+    return wrong;
+}
+
+static int forgets(long count) {
+    enum { FILES = 1000 };
+    char name[32];
+    bool can_forget = geteuid() == 0;
+    for (long i = 0; i < count; i++) {
+        snprintf(name, sizeof name, "f%ld", i % FILES);
+        if (i < FILES || !can_forget) close(make(name, ""));
+        if (!can_forget) WORKS(unlink(name));
+        else WORKS(stat(name, &(struct stat){0}));
+        if (can_forget && i % FILES == FILES - 1) WORKS(mount(NULL, ".", NULL, MS_REMOUNT | MS_NOSUID | MS_NODEV, NULL));
+    }
+    return wrong;
+}
+
 int main(int argc, char **argv) {
+    static const struct {
+        const char *name;
+        int (*it)(long count);
+    } counted[] = {{"looks", looks}, {"many", many}, {"appends", appends}, {"opens", opens}, {"forgets", forgets},
+                 {"replaces", replaces}, {"whole", whole}};
     if (argc >= 3 && chdir(argv[2]) == 0) {
         if (argc == 4 && strcmp(argv[1], "calls") == 0) return calls(atoi(argv[3]));
         if (argc == 3 && strcmp(argv[1], "others") == 0) return others();
-        if (argc == 4 && strcmp(argv[1], "looks") == 0) return looks(atol(argv[3]));
-        if (argc == 4 && strcmp(argv[1], "many") == 0) return many(atol(argv[3]));
+        for (size_t i = 0; argc == 4 && i < sizeof counted / sizeof *counted; i++)
+            if (strcmp(argv[1], counted[i].name) == 0) return counted[i].it(atol(argv[3]));
     }
-    fprintf(stderr, "usage: mounted_test calls FOLDER VERSION, others FOLDER, looks FOLDER COUNT, or many FOLDER COUNT\n");
+    fprintf(stderr, "usage: mounted_test calls FOLDER VERSION, others FOLDER, or NAME FOLDER COUNT (see mounted_test.c)\n");
     return 2;
 }

@@ -1,311 +1,316 @@
 #define _GNU_SOURCE
 #include "operations.h"
-#include "attributes.h"
-#include "calls.h"
+#include "files.h"
+#include "hidden.h"
+#include "listing.h"
 #include "times.h"
+#include "volume.h"
+#include <errno.h>
 #include <fcntl.h>
-#include <stdio.h>
+#include <limits.h>
 #include <stdlib.h>
-#include <unistd.h>
 
-enum { DIRECTORY_TIMEOUT = 1 }; /* seconds for which the kernel keeps the attributes of a directory */
+/* Seconds for which the kernel keeps names, also those that are not there, and attributes. It sees all changes, and has one
+ * inode for all links of a file. So they would stay right, except after an operation that fails when half of it is done. */
+static const double timeout = 1;
 
-static bpfs_lack lack;
-static struct fuse_config *config; /* NULL: libfuse has not called do_init */
+/* ---- replies */
 
-/* ---- operations that only read */
-
-/* What is at a path, and its mode and owner. */
-static int look_up(const char *path, bpfs_found *found, attributes *it) {
-    int code = LOOK(path, bpfs_stat(&volume.fs, P(path), found));
-    return code ? code : attributes_get(path, found->is_dir, it);
+static void reply(fuse_req_t request, int code) {
+    fuse_reply_err(request, -code);
 }
 
-/* The kernel takes two links to one file for two files, and may keep the attributes of neither. Those of a directory it
- * needs for the permissions of each path. libfuse reads attr_timeout after each call of this. */
-static int do_getattr(const char *path, struct stat *st, struct fuse_file_info *fi) {
-    (void)fi;
-    bpfs_found found;
-    attributes it;
-    uint32_t links = 1;
-    int code = look_up(path, &found, &it);
-    if (!code && !found.is_dir) code = LOOK(path, bpfs_links(&volume.fs, P(path), &links));
-    if (code) return code;
-    if (config) config->attr_timeout = volume.keeps && found.is_dir ? DIRECTORY_TIMEOUT : 0;
-    memset(st, 0, sizeof *st);
-    st->st_mode = it.mode, st->st_uid = it.owner, st->st_gid = it.group;
-    st->st_nlink = found.is_dir ? 2 : links;
-    st->st_size = found.is_dir ? 0 : (off_t)found.size;
-    st->st_blksize = 4096;
-    st->st_blocks = (st->st_size + 511) / 512;
-    st->st_atim = st->st_mtim = st->st_ctim = times_of(path);
-    return 0;
+static int get_entry(node *it, struct fuse_entry_param *entry) {
+    *entry = (struct fuse_entry_param){.ino = nodes_id(it), .generation = it->generation};
+    entry->attr_timeout = entry->entry_timeout = timeout;
+    return files_stat(it, &entry->attr);
 }
 
-/* The kind of a name in a directory. 0: programs ask for it. */
-static mode_t kind_of(const char *path, const char *name, bool is_dir) {
-    attributes it;
-    char *whole;
-    if (is_dir) return S_IFDIR;
-    if (asprintf(&whole, "%s/%s", path[1] ? path : "", name) < 0) return 0;
-    int code = attributes_get(whole, false, &it);
-    free(whole);
-    return code ? 0 : it.mode & S_IFMT;
+/* Replies with a node, which has one lookup for this reply. */
+static void reply_entry(fuse_req_t request, int code, node *it) {
+    struct fuse_entry_param entry;
+    if (code) return reply(request, code);
+    code = get_entry(it, &entry);
+    if (code) reply(request, code);
+    if (code || fuse_reply_entry(request, &entry)) files_forget(it, 1);
 }
 
-static int do_readdir(const char *path, void *buffer, fuse_fill_dir_t fill, off_t offset, struct fuse_file_info *fi,
-                      enum fuse_readdir_flags flags) {
-    (void)offset, (void)fi, (void)flags;
-    size_t count = 0, length;
-    int code = LOOK(path, bpfs_list(&volume.fs, P(path), &count));
-    if (code) return code;
-    if (fill(buffer, ".", NULL, 0, 0) || fill(buffer, "..", NULL, 0, 0)) return -ENOMEM;
-    for (size_t i = 0; i < count; i++) {
-        char name[BPFS_MAX_NAME + 1];
-        struct stat st = {0};
-        bool is_dir;
-        if (bpfs_listed(&volume.fs, i, (uint8_t *)name, BPFS_MAX_NAME, &length, &is_dir)) return -EIO;
-        name[length] = 0;
-        st.st_mode = kind_of(path, name, is_dir);
-        if (fill(buffer, name, &st, 0, 0)) return -ENOMEM;
-    }
-    return 0;
+static void reply_attributes(fuse_req_t request, int code, const node *it) {
+    struct stat st;
+    if (!code) code = files_stat(it, &st);
+    if (code) reply(request, code);
+    else fuse_reply_attr(request, &st, timeout);
 }
 
-static int do_read(const char *path, char *into, size_t size, off_t offset, struct fuse_file_info *fi) {
-    (void)fi;
-    size_t count = 0;
-    int code = LOOK(path, bpfs_read(&volume.fs, P(path), (uint64_t)offset, (uint8_t *)into, size, &count));
-    return code ? code : (int)count;
+/* ---- names */
+
+static void do_lookup(fuse_req_t request, fuse_ino_t dir, const char *name) {
+    node *it = NULL;
+    int code = files_lookup(nodes_of(dir), name, &it);
+    if (code == -ENOENT) fuse_reply_entry(request, &(struct fuse_entry_param){.entry_timeout = timeout});
+    else reply_entry(request, code, it);
 }
 
-/* A symbolic link is a file with its target. */
-static int do_readlink(const char *path, char *into, size_t size) {
-    size_t count = 0;
-    int code = LOOK(path, bpfs_read(&volume.fs, P(path), 0, (uint8_t *)into, size - 1, &count));
-    into[count] = 0;
-    return code;
+static void do_forget(fuse_req_t request, fuse_ino_t id, uint64_t lookups) {
+    files_forget(nodes_of(id), lookups);
+    fuse_reply_none(request);
 }
 
-static int do_statfs(const char *path, struct statvfs *st) {
-    bpfs_blocks blocks;
-    int code = error_of(bpfs_space(&volume.fs, &blocks), path);
-    if (code) return code;
-    memset(st, 0, sizeof *st);
-    st->f_bsize = st->f_frsize = 4096;
-    st->f_blocks = blocks.free + blocks.live;
-    st->f_bfree = st->f_bavail = blocks.free;
-    st->f_namemax = BPFS_MAX_NAME;
-    return 0;
+/* A file of this kind, with the caller as its owner. */
+static attributes of_caller(fuse_req_t request, mode_t mode) {
+    const struct fuse_ctx *caller = fuse_req_ctx(request);
+    return (attributes){mode, caller->uid, caller->gid};
 }
 
-/* ---- operations that change the tree */
-
-/* The end of an operation that makes a directory entry, or deletes one. */
-static int entry_changed(int code, const char *path) {
-    if (!code) times_touch_parent(path);
-    return code;
+static void do_mkdir(fuse_req_t request, fuse_ino_t dir, const char *name, mode_t mode) {
+    node *it = NULL;
+    int code = files_make(nodes_of(dir), name, of_caller(request, S_IFDIR | (mode & 07777)), &it);
+    reply_entry(request, code, it);
 }
 
-/* The end of an operation that makes a file or a directory: sets its attributes, or deletes it. */
-static int made(int code, const char *path, const attributes *it) {
-    if (code) return code;
-    if (volume.keeps) code = attributes_set(path, it);
-    if (!code) times_touch(path);
-    else if (S_ISDIR(it->mode)) (void)CHANGE(path, bpfs_rmdir(&volume.fs, P(path), &lack));
-    else (void)CHANGE(path, bpfs_unlink(&volume.fs, P(path), &lack));
-    return code;
-}
-
-static int do_mkdir(const char *path, mode_t mode) {
-    attributes it;
-    int code = attributes_of_new(path, S_IFDIR | (mode & 07777), &it);
-    if (!code) code = made(CHANGE(path, bpfs_mkdir(&volume.fs, P(path), &lack)), path, &it);
-    return entry_changed(code, path);
-}
-
-static int do_create(const char *path, mode_t mode, struct fuse_file_info *fi) {
-    (void)fi;
-    attributes it;
-    int code = attributes_of_new(path, S_IFREG | (mode & 07777), &it);
-    if (!code) code = made(CHANGE(path, bpfs_create(&volume.fs, P(path), &lack)), path, &it);
-    return entry_changed(code, path);
-}
-
-static int do_mknod(const char *path, mode_t mode, dev_t device) {
+static void do_mknod(fuse_req_t request, fuse_ino_t dir, const char *name, mode_t mode, dev_t device) {
     (void)device;
-    return S_ISREG(mode) ? do_create(path, mode, NULL) : -EPERM;
+    node *it = NULL;
+    int code = S_ISREG(mode) ? files_make(nodes_of(dir), name, of_caller(request, S_IFREG | (mode & 07777)), &it) : -EPERM;
+    reply_entry(request, code, it);
 }
 
-static int do_unlink(const char *path) {
-    int code = CHANGE(path, bpfs_unlink(&volume.fs, P(path), &lack));
-    if (!code) times_forget(path);
-    return entry_changed(code, path);
+static void do_symlink(fuse_req_t request, const char *target, fuse_ino_t dir, const char *name) {
+    node *it = NULL;
+    int code = files_symlink(target, nodes_of(dir), name, of_caller(request, S_IFLNK | 0777), &it);
+    reply_entry(request, code, it);
 }
 
-static int do_rmdir(const char *path) {
-    int code = CHANGE(path, bpfs_rmdir(&volume.fs, P(path), &lack));
-    if (!code) times_forget(path);
-    return entry_changed(code, path);
+static void do_link(fuse_req_t request, fuse_ino_t id, fuse_ino_t dir, const char *name) {
+    node *it = nodes_of(id);
+    reply_entry(request, files_link(it, nodes_of(dir), name), it);
 }
 
-static int do_rename(const char *from, const char *to, unsigned flags) {
-    bpfs_found moved, found;
-    if (flags & ~(unsigned)RENAME_NOREPLACE) return -EINVAL;
-    int code = flags ? LOOK(to, bpfs_stat(&volume.fs, P(to), &found)) : -ENOENT;
-    if (code != -ENOENT) return code ? code : -EEXIST;
-    code = LOOK(from, bpfs_stat(&volume.fs, P(from), &moved));
-    if (!code) code = CHANGE(worse(from, to), bpfs_rename(&volume.fs, P(from), P(to), &lack));
-    if (code) return code;
-    if (LOOK(from, bpfs_stat(&volume.fs, P(from), &found)) == 0) return 0; /* two links to one file: both remain */
-    times_move(from, to, moved.is_dir);
-    times_touch_parent(from);
-    return entry_changed(0, to);
+static void do_unlink(fuse_req_t request, fuse_ino_t dir, const char *name) {
+    reply(request, files_unlink(nodes_of(dir), name));
 }
 
-static int do_link(const char *from, const char *to) {
-    int code = CHANGE(worse(from, to), bpfs_link(&volume.fs, P(from), P(to), &lack));
-    if (!code) times_link(from, to);
-    return entry_changed(code, to);
+static void do_rmdir(fuse_req_t request, fuse_ino_t dir, const char *name) {
+    reply(request, files_rmdir(nodes_of(dir), name));
 }
 
-static int do_truncate(const char *path, off_t size, struct fuse_file_info *fi) {
-    (void)fi;
-    int code = CHANGE(path, bpfs_truncate(&volume.fs, P(path), (uint64_t)size, &lack));
-    if (!code) times_touch(path);
-    return code;
+static void do_rename(fuse_req_t request, fuse_ino_t from_dir, const char *from, fuse_ino_t to_dir, const char *to,
+                      unsigned flags) {
+    reply(request, files_rename(nodes_of(from_dir), from, nodes_of(to_dir), to, flags));
 }
 
-/* The kernel caches a file's bytes by its path, so a file with several links is read and written without that cache. */
-static int do_open(const char *path, struct fuse_file_info *fi) {
-    uint32_t links;
-    int code = LOOK(path, bpfs_links(&volume.fs, P(path), &links));
-    if (code) return code;
-    fi->direct_io = links > 1;
-    return fi->flags & O_TRUNC ? do_truncate(path, 0, fi) : 0;
+static void do_readlink(fuse_req_t request, fuse_ino_t id) {
+    char target[PATH_MAX]; /* the kernel takes no more */
+    int code = files_readlink(nodes_of(id), target, sizeof target);
+    if (code) reply(request, code);
+    else fuse_reply_readlink(request, target);
 }
 
-static int do_write(const char *path, const char *bytes, size_t size, off_t offset, struct fuse_file_info *fi) {
-    (void)fi;
-    for (size_t done = 0, n; done < size; done += n) {
-        n = size - done < volume.max_write ? size - done : volume.max_write;
-        const uint8_t *from = (const uint8_t *)bytes + done;
-        int code = CHANGE(path, bpfs_write(&volume.fs, P(path), (uint64_t)offset + done, from, n, &lack));
-        if (code) return done ? (int)done : code;
+/* ---- attributes */
+
+static void do_getattr(fuse_req_t request, fuse_ino_t id, struct fuse_file_info *info) {
+    (void)info;
+    reply_attributes(request, 0, nodes_of(id));
+}
+
+static int set_attributes(const node *it, const struct stat *st, int which) {
+    if (!(which & (FUSE_SET_ATTR_MODE | FUSE_SET_ATTR_UID | FUSE_SET_ATTR_GID))) return 0;
+    return files_set_attributes(it, which & FUSE_SET_ATTR_MODE ? st->st_mode : (mode_t)-1,
+                                which & FUSE_SET_ATTR_UID ? st->st_uid : (uid_t)-1,
+                                which & FUSE_SET_ATTR_GID ? st->st_gid : (gid_t)-1);
+}
+
+static int set_time(node *it, const struct stat *st, int which) {
+    if (which & FUSE_SET_ATTR_MTIME_NOW) return times_set(it, times_now());
+    return which & FUSE_SET_ATTR_MTIME ? times_set(it, st->st_mtim) : 0;
+}
+
+static void do_setattr(fuse_req_t request, fuse_ino_t id, struct stat *st, int which, struct fuse_file_info *info) {
+    (void)info;
+    node *it = nodes_of(id);
+    int code = set_attributes(it, st, which);
+    if (!code && which & FUSE_SET_ATTR_SIZE) code = files_truncate(it, st->st_size);
+    if (!code) code = set_time(it, st, which);
+    reply_attributes(request, code, it);
+}
+
+static void do_statfs(fuse_req_t request, fuse_ino_t id) {
+    (void)id;
+    struct statvfs st;
+    int code = files_space(&st);
+    if (code) reply(request, code);
+    else fuse_reply_statfs(request, &st);
+}
+
+/* ---- files */
+
+/* The kernel's cache of a file's bytes stays right: it has one for all links. */
+static int open_node(node *it, struct fuse_file_info *info) {
+    info->keep_cache = true;
+    return files_open(it);
+}
+
+static void do_open(fuse_req_t request, fuse_ino_t id, struct fuse_file_info *info) {
+    node *it = nodes_of(id);
+    int code = info->flags & O_TRUNC ? files_truncate(it, 0) : 0;
+    if (!code) code = open_node(it, info);
+    if (code) reply(request, code);
+    else if (fuse_reply_open(request, info)) files_close(it); /* the caller was interrupted */
+}
+
+static void do_create(fuse_req_t request, fuse_ino_t dir, const char *name, mode_t mode, struct fuse_file_info *info) {
+    struct fuse_entry_param entry;
+    node *it = NULL;
+    int code = files_make(nodes_of(dir), name, of_caller(request, S_IFREG | (mode & 07777)), &it);
+    if (code) return reply(request, code);
+    code = get_entry(it, &entry);
+    if (!code) code = open_node(it, info);
+    if (code) {
+        reply(request, code);
+        files_forget(it, 1);
+    } else if (fuse_reply_create(request, &entry, info)) {
+        files_close(it);
+        files_forget(it, 1);
     }
-    times_touch(path);
-    return (int)size;
 }
 
-static int do_fsync(const char *path, int data, struct fuse_file_info *fi) {
-    (void)path, (void)data, (void)fi;
-    return volume_carry() ? -EIO : 0;
+static void do_release(fuse_req_t request, fuse_ino_t id, struct fuse_file_info *info) {
+    (void)info;
+    files_close(nodes_of(id));
+    reply(request, 0);
 }
 
-static int do_utimens(const char *path, const struct timespec ts[2], struct fuse_file_info *fi) {
-    (void)fi;
-    if (ts[1].tv_nsec == UTIME_OMIT) return 0;
-    return times_set(path, ts[1].tv_nsec == UTIME_NOW ? times_now() : ts[1]);
+static void do_read(fuse_req_t request, fuse_ino_t id, size_t size, off_t offset, struct fuse_file_info *info) {
+    (void)info;
+    char *bytes = malloc(size + 1);
+    int count = bytes ? files_read(nodes_of(id), bytes, size, offset) : -ENOMEM;
+    if (count < 0) reply(request, count);
+    else fuse_reply_buf(request, bytes, (size_t)count);
+    free(bytes);
 }
 
-static int do_chmod(const char *path, mode_t mode, struct fuse_file_info *fi) {
-    (void)fi;
-    bpfs_found found;
-    attributes it = {0};
-    int code = look_up(path, &found, &it);
-    it.mode = (it.mode & S_IFMT) | (mode & 07777);
-    return code ? code : attributes_set(path, &it);
+static void do_write(fuse_req_t request, fuse_ino_t id, const char *bytes, size_t size, off_t offset,
+                     struct fuse_file_info *info) {
+    (void)info;
+    int count = files_write(nodes_of(id), bytes, size, offset);
+    if (count < 0) reply(request, count);
+    else fuse_reply_write(request, (size_t)count);
 }
 
-static int do_chown(const char *path, uid_t uid, gid_t gid, struct fuse_file_info *fi) {
-    (void)fi;
-    bpfs_found found;
-    attributes it = {0};
-    int code = look_up(path, &found, &it);
-    if (uid != (uid_t)-1) it.owner = uid;
-    if (gid != (gid_t)-1) it.group = gid;
-    return code ? code : attributes_set(path, &it);
+static void do_fsync(fuse_req_t request, fuse_ino_t id, int data, struct fuse_file_info *info) {
+    (void)id, (void)data, (void)info;
+    reply(request, volume_carry() ? -EIO : 0);
 }
 
-/* ---- symbolic links */
+/* ---- directories */
 
-/* A symbolic link is made under this name, and moved when it is whole. If a kill leaves it, the next mount deletes it, as
- * it does with the names of the next section. libfuse gives no file this one. */
-static const char unmoved[] = "/.fuse_hidden0000000000000000";
-
-static int do_symlink(const char *target, const char *path) {
-    attributes it;
-    if (!volume.keeps) return -EPERM;
-    int code = LOOK(path, bpfs_stat(&volume.fs, P(path), NULL));
-    if (code != -ENOENT) return code ? code : -EEXIST;
-    code = attributes_of_new(path, S_IFLNK | 0777, &it);
-    (void)CHANGE(unmoved, bpfs_unlink(&volume.fs, P(unmoved), &lack)); /* if it could not be deleted before */
-    if (!code) code = CHANGE(unmoved, bpfs_create(&volume.fs, P(unmoved), &lack));
-    if (code) return code;
-    code = CHANGE(unmoved, bpfs_write(&volume.fs, P(unmoved), 0, P(target), &lack));
-    if (!code) code = attributes_set(unmoved, &it);
-    if (!code) code = CHANGE(path, bpfs_rename(&volume.fs, P(unmoved), P(path), &lack));
-    if (code) (void)CHANGE(unmoved, bpfs_unlink(&volume.fs, P(unmoved), &lack));
-    else times_touch(path);
-    return entry_changed(code, path);
+static listing *listing_of(const struct fuse_file_info *info) {
+    return (listing *)(uintptr_t)info->fh;
 }
 
-/* ---- files that were deleted while a program had them open */
-
-/* libfuse gives such a file a name of this form until it is closed. */
-static bool is_hidden(const char *name) {
-    static const char prefix[] = ".fuse_hidden";
-    size_t length = sizeof prefix - 1;
-    return strncmp(name, prefix, length) == 0 && strlen(name) == length + 16 &&
-           strspn(name + length, "0123456789abcdef") == 16;
+static void do_opendir(fuse_req_t request, fuse_ino_t id, struct fuse_file_info *info) {
+    (void)id;
+    listing *it = calloc(1, sizeof *it);
+    if (!it) return reply(request, -ENOMEM);
+    info->fh = (uintptr_t)it;
+    if (fuse_reply_open(request, info)) free(it);
 }
 
-/* The names of a directory, each with a 0 after it and one character before it: '/' for a directory. NULL: failed. */
-static char *names_in(const char *path, size_t *count) {
-    size_t length, at = 0;
+static void do_releasedir(fuse_req_t request, fuse_ino_t id, struct fuse_file_info *info) {
+    (void)id;
+    listing_clear(listing_of(info));
+    free(listing_of(info));
+    reply(request, 0);
+}
+
+/* A reply to readdir that grows. */
+typedef struct page {
+    fuse_req_t request;
+    char *bytes;
+    size_t size, used;
+    bool plus; /* it is for readdirplus: with attributes, and a lookup of each name */
+} page;
+
+/* Adds an entry, after which the directory goes on at `next`. False: no room. */
+static bool add(page *into, const char *name, const struct fuse_entry_param *entry, off_t next) {
+    char *at = into->bytes + into->used;
+    size_t room = into->size - into->used, size;
+    if (into->plus) size = fuse_add_direntry_plus(into->request, at, room, name, entry, next);
+    else size = fuse_add_direntry(into->request, at, room, name, &entry->attr, next);
+    if (size > room) return false;
+    into->used += size;
+    return true;
+}
+
+/* Adds "." or "..": the kernel does not look them up. */
+static bool add_directory(page *into, const char *name, const node *it, off_t next) {
+    struct fuse_entry_param entry = {.attr = {.st_ino = it->number, .st_mode = S_IFDIR}};
+    return add(into, name, &entry, next);
+}
+
+/* A name that is gone meanwhile is left out. */
+static bool add_name(page *into, node *dir, const char *name, bool is_dir, off_t next) {
+    struct fuse_entry_param entry = {0};
+    node *it = NULL;
+    if (!into->plus) return files_entry(dir, name, is_dir, &entry.attr) || add(into, name, &entry, next);
+    if (files_lookup(dir, name, &it)) return true;
+    if (get_entry(it, &entry) == 0 && add(into, name, &entry, next)) return true;
+    files_forget(it, 1);
+    return false;
+}
+
+/* Adds what comes at an offset: 0 and 1 for "." and "..", then the names. False: no room, or no more. */
+static bool add_at(page *into, node *dir, const listing *names, off_t offset) {
     bool is_dir;
-    if (LOOK(path, bpfs_list(&volume.fs, P(path), count))) return NULL;
-    char *names = malloc(*count * (BPFS_MAX_NAME + 2) + 1);
-    for (size_t i = 0; names && i < *count; i++) {
-        if (bpfs_listed(&volume.fs, i, (uint8_t *)names + at + 1, BPFS_MAX_NAME, &length, &is_dir)) return free(names), NULL;
-        names[at] = is_dir ? '/' : ' ';
-        names[at + 1 + length] = 0;
-        at += length + 2;
-    }
-    return names;
+    if (offset == 0) return add_directory(into, ".", dir, 1);
+    if (offset == 1) return add_directory(into, "..", nodes_parent(dir), 2);
+    size_t index = (size_t)(offset - 2);
+    if (index >= names->count) return false;
+    const char *name = listing_name(names, index, &is_dir);
+    return hidden_is(dir, name) || add_name(into, dir, name, is_dir, offset + 1);
 }
 
-static void remove_hidden_below(const char *path) {
-    size_t count;
-    char *names = names_in(path, &count), *name = names, *below;
-    if (!names) return report("%s: not searched for files that a killed mount left", path);
-    for (size_t i = 0; i < count; i++, name += strlen(name) + 1) {
-        if (asprintf(&below, "%s/%s", path[1] ? path : "", name + 1) < 0) break;
-        if (*name == '/') remove_hidden_below(below);
-        else if (is_hidden(name + 1) && do_unlink(below)) report("%s: not deleted", below);
-        free(below);
-    }
-    free(names);
+/* The names are those of when the directory is read from its beginning. So an offset means the same until then. */
+static int take_names(const node *dir, listing *names, off_t offset) {
+    path at;
+    if (offset > 0 && names->text) return 0;
+    int code = nodes_path(dir, &at);
+    return code ? code : listing_take(names, &at);
 }
 
-void remove_hidden(void) {
-    remove_hidden_below("/");
+static void read_directory(page *into, fuse_ino_t id, off_t offset, struct fuse_file_info *info) {
+    node *dir = nodes_of(id);
+    int code = take_names(dir, listing_of(info), offset);
+    if (!code) into->bytes = malloc(into->size);
+    if (!code && !into->bytes) code = -ENOMEM;
+    if (code) return reply(into->request, code);
+    while (add_at(into, dir, listing_of(info), offset)) offset++;
+    fuse_reply_buf(into->request, into->bytes, into->used);
+    free(into->bytes);
+}
+
+static void do_readdir(fuse_req_t request, fuse_ino_t id, size_t size, off_t offset, struct fuse_file_info *info) {
+    read_directory(&(page){.request = request, .size = size}, id, offset, info);
+}
+
+static void do_readdirplus(fuse_req_t request, fuse_ino_t id, size_t size, off_t offset, struct fuse_file_info *info) {
+    read_directory(&(page){.request = request, .size = size, .plus = true}, id, offset, info);
 }
 
 /* ---- all of them */
 
-static void *do_init(struct fuse_conn_info *connection, struct fuse_config *its_config) {
-    config = its_config;
+static void do_init(void *data, struct fuse_conn_info *connection) {
+    (void)data;
     connection->max_write = (unsigned)volume.max_write;
     connection->want &= ~(unsigned)FUSE_CAP_HANDLE_KILLPRIV; /* the kernel clears set-user-ID bits, by chmod */
-    config->negative_timeout = 0;
-    return NULL;
+    connection->want &= ~(unsigned)FUSE_CAP_AUTO_INVAL_DATA; /* a new time says nothing: the kernel saw the write */
 }
 
-const struct fuse_operations operations = {
-    .init = do_init, .getattr = do_getattr, .readdir = do_readdir, .mkdir = do_mkdir, .unlink = do_unlink,
-    .rmdir = do_rmdir, .rename = do_rename, .link = do_link, .truncate = do_truncate, .create = do_create,
-    .mknod = do_mknod, .open = do_open, .read = do_read, .write = do_write, .statfs = do_statfs, .fsync = do_fsync,
-    .fsyncdir = do_fsync, .chmod = do_chmod, .chown = do_chown, .utimens = do_utimens, .symlink = do_symlink,
-    .readlink = do_readlink,
+const struct fuse_lowlevel_ops operations = {
+    .init = do_init, .lookup = do_lookup, .forget = do_forget, .getattr = do_getattr, .setattr = do_setattr,
+    .readlink = do_readlink, .mknod = do_mknod, .mkdir = do_mkdir, .unlink = do_unlink, .rmdir = do_rmdir,
+    .symlink = do_symlink, .rename = do_rename, .link = do_link, .open = do_open, .read = do_read, .write = do_write,
+    .release = do_release, .fsync = do_fsync, .opendir = do_opendir, .readdir = do_readdir,
+    .readdirplus = do_readdirplus, .releasedir = do_releasedir, .fsyncdir = do_fsync, .statfs = do_statfs,
+    .create = do_create,
 };

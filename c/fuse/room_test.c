@@ -5,147 +5,163 @@
  * on one of version 3.
  */
 #define _GNU_SOURCE
-#include "operations.h"
+#include "hidden.h"
+#include "listing.h"
+#include "test_volume.h"
 #include "times.h"
-#include "volume.h"
 #include <errno.h>
 #include <fcntl.h>
 #include <stdio.h>
-#include <stdlib.h>
 #include <string.h>
-#include <sys/stat.h>
 
 enum { BLOCKS = 2048, CALLS = 8, LENGTH = 3000, PIECE = 1000 };
 
+static const attributes of_file = {S_IFREG | 0644, 0, 0}, of_directory = {S_IFDIR | 0755, 0, 0};
+static const attributes of_link = {S_IFLNK | 0777, 0, 0};
+
 static char bytes[LENGTH];
-static struct fuse_file_info info;
 
-static void must(bool it, const char *what) {
-    if (it) return;
-    fprintf(stderr, "room_test: %s\n", what);
-    exit(2);
-}
-
-/* ---- a volume whose log goes nowhere */
-
-/* The caller of an operation: root. libfuse's own function needs a session. */
-struct fuse_context *fuse_get_context(void) {
-    static struct fuse_context caller;
-    return &caller;
-}
-
-static int put(bpfs_carrier *carrier, uint64_t word, const uint64_t *values, size_t count) {
-    (void)carrier, (void)word, (void)values, (void)count;
-    return 0;
-}
-
-static int nothing(bpfs_carrier *carrier) {
-    (void)carrier;
-    return 0;
-}
-
-static bpfs_carrier nowhere = {.put = put, .barrier = nothing, .settle = nothing};
-
-static void mount_volume(uint32_t version) {
-    static uint64_t words[BLOCKS * BPFS_BLOCK_WORDS];
-    bpfs_event events[32];
-    bpfs_fault fault;
-    size_t count = 0;
-    must(bpfs_format_events(BLOCKS, version, events, 32, &count) == BPFS_OK, "no format");
-    for (size_t i = 0; i < count; i++)
-        if (events[i].kind == BPFS_STORE) words[events[i].word] = events[i].value;
-    must(bpfs_mount(&volume.fs, words, BLOCKS * BPFS_BLOCK_WORDS, &fault) == BPFS_OK, "no mount");
-    must(bpfs_bind(&volume.fs, &nowhere) == 0, "not bound");
-    volume.carriers[0] = &nowhere, volume.carrier_count = 1, volume.max_write = PIECE;
-    volume.keeps = version == 3;
-    times_begin();
-}
-
-/* Leaves room for `calls` calls that add one event each. */
+/* Leaves room for `calls` calls that add one event each, as a refused call does. */
 static void fill_log(size_t calls) {
-    bpfs_found found;
     must(volume_carry() == 0 && bpfs_event_count(&volume.fs) == 0, "not carried");
     while (bpfs_event_count(&volume.fs) + calls < BPFS_LOG_ROOM + 1)
-        must(bpfs_stat(&volume.fs, (const uint8_t *)"/", 1, &found) == BPFS_OK, "no root");
+        must(bpfs_rmdir(&volume.fs, (const uint8_t *)"/", 1, NULL) == BPFS_IS_ROOT, "the root is not refused");
 }
 
 /* ---- operations: each is prepared, tried, and undone */
 
-static int no_entry(void *buffer, const char *name, const struct stat *st, off_t offset, enum fuse_fill_dir_flags flags) {
-    (void)buffer, (void)name, (void)st, (void)offset, (void)flags;
-    return 0;
-}
-
+static node *root, *file, *open_file;
 static struct stat st;
 static struct statvfs stvfs;
 
-static int getattr_file(void) { return operations.getattr("/file", &st, NULL); }
-static int getattr_dir(void) { return operations.getattr("/", &st, NULL); }
-static int getattr_link(void) { return operations.getattr("/link", &st, NULL); }
-static int readdir_root(void) { return operations.readdir("/", NULL, no_entry, 0, NULL, 0); }
-static int read_file(void) { return operations.read("/file", bytes, LENGTH, 0, NULL) < 0 ? -EIO : 0; }
-static int statfs_root(void) { return operations.statfs("/", &stvfs); }
-static int mkdir_new(void) { return operations.mkdir("/new", 0755); }
-static int rmdir_new(void) { return operations.rmdir("/new"); }
-static int create_new(void) { return operations.create("/new", 0644, &info); }
-static int mknod_new(void) { return operations.mknod("/new", S_IFREG | 0644, 0); }
-static int unlink_new(void) { return operations.unlink("/new"); }
-static int rename_file(void) { return operations.rename("/file", "/new", 0); }
-static int rename_noreplace(void) { return operations.rename("/file", "/new", RENAME_NOREPLACE); }
-static int rename_back(void) { return operations.rename("/new", "/file", 0); }
-static int rename_exists(void) { return operations.rename("/file", "/dir", RENAME_NOREPLACE) == -EEXIST ? 0 : -EIO; }
-static int link_new(void) { return operations.link("/file", "/new"); }
-static int truncate_file(void) { return operations.truncate("/file", 77, NULL); }
-static int write_file(void) { return operations.write("/file", bytes, LENGTH, 0, NULL) == LENGTH ? 0 : -EIO; }
-static int fsync_file(void) { return operations.fsync("/file", 0, NULL); }
-static int chmod_file(void) { return operations.chmod("/file", 0644, NULL); }
-static int write_and_fsync(void) { return write_file() ? -EIO : fsync_file(); }
-static int utimens_file(void) { return operations.utimens("/file", (struct timespec[2]){{0, 0}, {1, 1}}, NULL); }
-static int utimens_now(void) { return operations.utimens("/file", (struct timespec[2]){{0, 0}, {0, UTIME_NOW}}, NULL); }
-static int readlink_link(void) { return operations.readlink("/link", bytes, LENGTH); }
-static int symlink_new(void) { return operations.symlink("target", "/new"); }
-static int chown_file(void) { return operations.chown("/file", volume.owner, volume.group, NULL); }
-
-static int open_file(void) {
-    info.flags = O_RDONLY;
-    return operations.open("/file", &info);
+static int make(const char *name, attributes it) {
+    node *made;
+    int code = S_ISLNK(it.mode) ? files_symlink("target", root, name, it, &made) : files_make(root, name, it, &made);
+    if (!code) nodes_forget(made, 1);
+    return code;
 }
 
-static int open_to_truncate(void) {
-    info.flags = O_WRONLY | O_TRUNC;
-    return operations.open("/file", &info);
+static int stat_at(const char *name) {
+    node *it;
+    int code = files_lookup(root, name, &it);
+    if (code) return code;
+    code = files_stat(it, &st);
+    nodes_forget(it, 1);
+    return code;
+}
+
+static int list_root(void) {
+    listing names = {0};
+    bool is_dir;
+    path at;
+    int code = nodes_path(root, &at);
+    if (!code) code = listing_take(&names, &at);
+    for (size_t i = 0; i < names.count && !code; i++) {
+        const char *name = listing_name(&names, i, &is_dir);
+        code = hidden_is(root, name) ? 0 : files_entry(root, name, is_dir, &st);
+    }
+    listing_clear(&names);
+    return code;
+}
+
+static int readlink_at(const char *name) {
+    node *it;
+    int code = files_lookup(root, name, &it);
+    if (code) return code;
+    code = files_readlink(it, bytes, LENGTH);
+    nodes_forget(it, 1);
+    return code;
+}
+
+static int stat_file(void) { return stat_at("file"); }
+static int stat_root(void) { return files_stat(root, &st); }
+static int stat_link(void) { return stat_at("link"); }
+static int read_file(void) { return files_read(file, bytes, LENGTH, 0) < 0 ? -EIO : 0; }
+static int space(void) { return files_space(&stvfs); }
+static int mkdir_new(void) { return make("new", of_directory); }
+static int rmdir_new(void) { return files_rmdir(root, "new"); }
+static int create_new(void) { return make("new", of_file); }
+static int unlink_new(void) { return files_unlink(root, "new"); }
+static int rename_file(void) { return files_rename(root, "file", root, "new", 0); }
+static int rename_noreplace(void) { return files_rename(root, "file", root, "new", RENAME_NOREPLACE); }
+static int rename_back(void) { return files_rename(root, "new", root, "file", 0); }
+static int rename_exists(void) { return files_rename(root, "file", root, "dir", RENAME_NOREPLACE) == -EEXIST ? 0 : -EIO; }
+static int truncate_file(void) { return files_truncate(file, 77); }
+static int write_file(void) { return files_write(file, bytes, LENGTH, 0) == LENGTH ? 0 : -EIO; }
+static int carry(void) { return volume_carry() ? -EIO : 0; }
+static int write_and_carry(void) { return write_file() ? -EIO : carry(); }
+static int chmod_file(void) { return files_set_attributes(file, 0644, (uid_t)-1, (gid_t)-1); }
+static int chown_file(void) { return files_set_attributes(file, (mode_t)-1, volume.owner, volume.group); }
+static int set_time(void) { return times_set(file, (struct timespec){1, 1}); }
+static int readlink_link(void) { return readlink_at("link"); }
+static int symlink_new(void) { return make("new", of_link); }
+
+static int link_new(void) {
+    int code = files_link(file, root, "new");
+    if (!code) nodes_forget(file, 1);
+    return code;
+}
+
+/* A file with the name "new" that is open */
+static int create_open(void) {
+    int code = files_make(root, "new", of_file, &open_file);
+    return code ? code : files_open(open_file);
+}
+
+static int unlink_open(void) {
+    int code = create_open();
+    return code ? code : unlink_new();
+}
+
+static uint64_t count_files(void) {
+    bpfs_sums sums = {0};
+    must(bpfs_totals(&volume.fs, &sums) == BPFS_OK, "no totals");
+    return sums.files;
+}
+
+static int close_it(void) {
+    uint64_t count = count_files();
+    files_close(open_file);
+    files_forget(open_file, 1);
+    return count_files() == count - 1 ? 0 : -EIO;
+}
+
+static int replace_open(void) { return files_rename(root, "file", root, "new", 0); }
+
+static int undo_replace(void) {
+    int code = close_it();
+    return code ? code : rename_back();
 }
 
 static const struct trial {
     const char *name;
     int (*prepare)(void), (*it)(void), (*undo)(void);
 } trials[] = {
-    {"getattr of a file", NULL, getattr_file, NULL},
-    {"getattr of a directory", NULL, getattr_dir, NULL},
-    {"readdir", NULL, readdir_root, NULL},
+    {"lookup and stat of a file", NULL, stat_file, NULL},
+    {"stat of a directory", NULL, stat_root, NULL},
+    {"a directory and its entries", NULL, list_root, NULL},
     {"read", NULL, read_file, NULL},
-    {"statfs", NULL, statfs_root, NULL},
+    {"statfs", NULL, space, NULL},
     {"mkdir", NULL, mkdir_new, rmdir_new},
     {"rmdir", mkdir_new, rmdir_new, NULL},
     {"create", NULL, create_new, unlink_new},
-    {"mknod", NULL, mknod_new, unlink_new},
     {"unlink", create_new, unlink_new, NULL},
+    {"unlink of an open file", create_open, unlink_new, close_it},
+    {"close of an unlinked file", unlink_open, close_it, NULL},
     {"rename", NULL, rename_file, rename_back},
+    {"rename over an open file", create_open, replace_open, undo_replace},
     {"rename, RENAME_NOREPLACE", NULL, rename_noreplace, rename_back},
     {"rename, RENAME_NOREPLACE, of an existing name", NULL, rename_exists, NULL},
     {"link", NULL, link_new, unlink_new},
     {"truncate", NULL, truncate_file, NULL},
     {"write in three pieces", NULL, write_file, NULL},
-    {"fsync", NULL, fsync_file, NULL},
-    {"write, fsync", NULL, write_and_fsync, NULL},
+    {"fsync", NULL, carry, NULL},
+    {"write, fsync", NULL, write_and_carry, NULL},
     {"chmod", NULL, chmod_file, NULL},
     {"chown", NULL, chown_file, NULL},
-    {"open", NULL, open_file, NULL},
-    {"open, O_TRUNC", write_file, open_to_truncate, NULL},
-    {"utimens", NULL, utimens_file, NULL},
-    {"utimens, UTIME_NOW", NULL, utimens_now, NULL},
+    {"utimens", NULL, set_time, NULL},
     /* From version 3 on */
-    {"getattr of a symbolic link", NULL, getattr_link, NULL},
+    {"stat of a symbolic link", NULL, stat_link, NULL},
     {"readlink", NULL, readlink_link, NULL},
     {"symlink", NULL, symlink_new, unlink_new},
 };
@@ -164,13 +180,16 @@ static bool works(const struct trial *trial, size_t calls) {
 
 static size_t try_all(uint32_t version) {
     size_t wrong = 0, count = version < 3 ? BEFORE_VERSION_3 : TRIALS;
-    mount_volume(version);
-    must(operations.mkdir("/dir", 0755) == 0 && operations.create("/file", 0644, &info) == 0, "no files");
-    must(version < 3 || operations.symlink("file", "/link") == 0, "no symbolic link");
+    test_format(BLOCKS, version);
+    volume.max_write = PIECE;
+    test_mount();
+    root = nodes_root();
+    must(make("dir", of_directory) == 0 && files_make(root, "file", of_file, &file) == 0, "no files");
+    must(version < 3 || make("link", of_link) == 0, "no symbolic link");
     for (size_t i = 0; i < count; i++)
         for (size_t calls = 0; calls <= CALLS; calls++) wrong += !works(&trials[i], calls);
     must(volume_carry() == 0 && !times_wait(), "times are left");
-    must(bpfs_close(&volume.fs) == BPFS_OK, "not closed");
+    test_lose();
     if (wrong) fprintf(stderr, "%zu operations failed\n", wrong);
     else printf("%zu operations of version %u with room for 0 to %d calls in the log: ok\n", count, version, CALLS);
     return wrong;

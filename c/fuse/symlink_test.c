@@ -4,74 +4,27 @@
  * failure: the whole link is there, or nothing, and then it can be made.
  */
 #define _GNU_SOURCE
-#include "operations.h"
-#include "times.h"
-#include "volume.h"
-#include <errno.h>
+#include "test_volume.h"
 #include <stdio.h>
-#include <stdlib.h>
 #include <string.h>
-#include <sys/stat.h>
 
-enum { BLOCKS = 64, WORDS = BLOCKS * BPFS_BLOCK_WORDS };
-
-static uint64_t words[WORDS];
-static size_t stores; /* how many more of them become durable */
-
-static void must(bool it, const char *what) {
-    if (it) return;
-    fprintf(stderr, "symlink_test: %s\n", what);
-    exit(1);
-}
-
-/* The caller of an operation: root. libfuse's own function needs a session. */
-struct fuse_context *fuse_get_context(void) {
-    static struct fuse_context caller;
-    return &caller;
-}
-
-/* ---- a volume that loses its power */
-
-static int put(bpfs_carrier *carrier, uint64_t word, const uint64_t *values, size_t count) {
-    (void)carrier;
-    for (size_t i = 0; i < count && stores; i++, stores--) words[word + i] = values[i];
-    return 0;
-}
-
-static int nothing(bpfs_carrier *carrier) {
-    (void)carrier;
-    return 0;
-}
-
-static bpfs_carrier medium = {.put = put, .barrier = nothing, .settle = nothing};
-
-static void format(void) {
-    bpfs_event events[32];
-    size_t count = 0;
-    memset(words, 0, sizeof words);
-    must(bpfs_format_events(BLOCKS, 3, events, 32, &count) == BPFS_OK, "no format");
-    for (size_t i = 0; i < count; i++)
-        if (events[i].kind == BPFS_STORE) words[events[i].word] = events[i].value;
-}
-
-static void mount_volume(void) {
-    bpfs_fault fault;
-    stores = SIZE_MAX;
-    must(bpfs_mount(&volume.fs, words, WORDS, &fault) == BPFS_OK, "no mount");
-    must(bpfs_bind(&volume.fs, &medium) == 0, "not bound");
-    volume.carriers[0] = &medium, volume.carrier_count = 1, volume.keeps = true;
-    times_begin();
-}
-
-/* ---- the test */
+enum { BLOCKS = 64 };
 
 static const char target[] = "../a target of more than one word";
+static const attributes of_directory = {S_IFDIR | 0755, 0, 0}, of_link = {S_IFLNK | 0777, 0, 0};
+
+static int make_link(void) {
+    const char *name;
+    node *dir = test_parent("dir/link", &name), *it;
+    return files_symlink(target, dir, name, of_link, &it);
+}
 
 static bool is_whole(void) {
     struct stat st;
     char bytes[64];
-    return operations.getattr("/dir/link", &st, NULL) == 0 && st.st_mode == (S_IFLNK | 0777) &&
-           operations.readlink("/dir/link", bytes, sizeof bytes) == 0 && strcmp(bytes, target) == 0;
+    node *it = test_find("dir/link");
+    return it && files_stat(it, &st) == 0 && st.st_mode == (S_IFLNK | 0777) &&
+           files_readlink(it, bytes, sizeof bytes) == 0 && strcmp(bytes, target) == 0;
 }
 
 static uint64_t count_files(void) {
@@ -82,21 +35,20 @@ static uint64_t count_files(void) {
 
 /* Makes the link, of whose stores only so many become durable. Returns whether all of them did. */
 static bool cut_after(size_t count, bool *was_whole) {
-    format();
-    mount_volume();
-    must(operations.mkdir("/dir", 0755) == 0 && volume_carry() == 0, "no directory");
-    stores = count;
-    must(operations.symlink(target, "/dir/link") == 0 && volume_carry() == 0, "no symbolic link");
-    bool all = stores > 0;
-    bpfs_close(&volume.fs);
-    mount_volume();
-    remove_hidden();
-    must(volume_carry() == 0, "not carried");
+    node *dir;
+    test_format(BLOCKS, 3);
+    test_mount();
+    must(files_make(nodes_root(), "dir", of_directory, &dir) == 0 && volume_carry() == 0, "no directory");
+    test_stores = count;
+    must(make_link() == 0 && volume_carry() == 0, "no symbolic link");
+    bool all = test_stores > 0;
+    test_lose();
+    test_mount();
     *was_whole = is_whole();
     must(count_files() == *was_whole, "half a symbolic link is there");
-    must(*was_whole || operations.symlink(target, "/dir/link") == 0, "no symbolic link after the power failure");
+    must(*was_whole || make_link() == 0, "no symbolic link after the power failure");
     must(is_whole() && count_files() == 1 && volume_carry() == 0, "no whole symbolic link after the power failure");
-    bpfs_close(&volume.fs);
+    test_lose();
     return all;
 }
 

@@ -146,6 +146,57 @@ removes_open_files() {
     return $status
 }
 
+# A folder with an open file can be deleted, and the file is there until it is closed.
+removes_a_folder() {
+    mkdir -p "$at/folder/deeper" && cp "$own/bytes" "$at/folder/deeper/bytes" && exec 3< "$at/folder/deeper/bytes" || return 1
+    rm -r "$at/folder" && [ ! -e "$at/folder" ] && cmp "$own/bytes" - <&3
+    status=$?
+    exec 3<&-
+    return $status
+}
+
+# The mount keeps such files in a directory that programs can't find.
+keeps_its_directory() {
+    [ ! -e "$at/.bpfs_fuse" ] && [ -z "$(find "$at" -name .bpfs_fuse)" ] || return 1
+    ! mkdir "$at/.bpfs_fuse" && ! touch "$at/.bpfs_fuse" && ! mv "$at/small" "$at/.bpfs_fuse" && ! ln "$at/small" "$at/.bpfs_fuse" &&
+        ! rm -r "$at/.bpfs_fuse" && [ -e "$at/small" ]
+}
+
+# df -i counts the files that can be found, and no others.
+counts_files() {
+    [ "$(df --output=iused "$at" | tail -1)" -eq "$(find "$at" -printf '%i\n' | sort -u | wc -l)" ]
+}
+
+# What a readdir says of inodes is what stat says.
+has_inodes() {
+    [ "$(ls -1fi "$at/tree" | sort)" = "$(cd "$at/tree" && stat -c '%i %n' . .. * | sed 's/^ *//' | sort)" ] || return 1
+    [ "$(stat -c %i "$at")" = 1 ] && counts_files
+}
+
+# Pseudo-random calls on the mount and on a normal folder
+is_like_a_folder() {
+    mkdir "$at/fsx" "$own/fsx" || return 1
+    for seed in $(seq 20); do
+        mkdir "$at/fsx/$seed" "$own/fsx/$seed" && "$here/build/fsx_test" "$at/fsx/$seed" "$own/fsx/$seed" "$seed" 10000 "$at" || return 1
+    done
+}
+
+# The memory of the mount, in KiB
+memory() {
+    awk '/^VmRSS/ { print $2 }' /proc/$daemon/status
+}
+
+# The mount forgets the names that the kernel forgets. The log and the caches of the library take their memory in the first
+# round.
+forgets_files() {
+    "$here/build/mounted_test" forgets "$at" 100000 || return 1
+    before=$(memory)
+    "$here/build/mounted_test" forgets "$at" 100000 || return 1
+    after=$(memory)
+    echo "memory: $before KiB, then $after KiB"
+    [ $((after - before)) -lt 5000 ] && rm -f "$at"/f*
+}
+
 archives() {
     tar -C "$own/tree" -cf "$at/tree.tar" . && mkdir "$at/untarred" && tar -C "$at/untarred" -xf "$at/tree.tar" &&
         diff -r "$own/tree" "$at/untarred"
@@ -157,8 +208,8 @@ commits() {
     for i in 1 2 3 4 5; do
         cp "$own/tree/README.md" "file$i" && echo "$i" >> file1 && git add -A && git commit -qm "commit $i" || return 1
     done
-    git gc -q && git fsck --strict && [ "$(git rev-list --count HEAD)" = 5 ] && git clone -q --no-hardlinks . ../clone &&
-        diff -r -x .git . ../clone
+    git gc -q && git fsck --strict && [ "$(git rev-list --count HEAD)" = 5 ] && git clone -q . ../clone &&
+        diff -r -x .git . ../clone && [ -n "$(find ../clone/.git/objects -type f -links 2)" ]
     status=$?
     cd "$here" && return $status
 }
@@ -240,6 +291,10 @@ forgets_attributes() {
     [ "$(stat -c '%a %u' "$at/file")" = "644 $(id -u)" ] && ! ln -s file "$at/symbol" && [ "$(stat -c %y "$at/file" | cut -c1-10)" = 2001-02-03 ]
 }
 
+keeps_in_version_3() {
+    [ "$(stat -c %a "$at/file")" = 600 ] && ln -s file "$at/symbol" && [ "$(cat "$at/symbol")" = text ]
+}
+
 keeps_what_was_synced() {
     cp -a "$own/sample" "$at/sample" && echo more >> "$at/sample/empty" && sync "$at/sample" && list "$at/sample" > "$own/list" || return 1
     kills_it
@@ -258,7 +313,7 @@ looks_often() {
 is_carried_under_load() {
     echo bytes > "$at/late"
     for _ in $(seq 16); do
-        stat "$at/late" > /dev/null
+        "$here/build/mounted_test" looks "$at" 10
         sleep 0.1
     done
     kills_it
@@ -297,12 +352,15 @@ syncs_many() {
 
 # ---- failures
 
-# The folder of the image is full: calls fail, and go on when there is room again.
+# The folder of the image is full: calls fail when the log is full, reads do not, and all go on when there is room again.
 fills_the_folder() {
     head -c 3000000 /dev/urandom > "$own/many"
     head -c 20m /dev/zero > "$work/small/filler" 2> /dev/null
     cp "$own/many" "$at/first" && sync "$at/first" && return 1
     has_message "can't be saved now: No space left on device" || return 1
+    for _ in $(seq 20); do cat "$own/many" > "$at/log" || break; done 2> "$logs/full"
+    touch "$at/new" 2> "$logs/full" && return 1
+    ls -lR "$at" > "$logs/full" && head -c 4096 "$at/first" | cmp -n 4096 - "$own/many" || return 1
     rm "$work/small/filler"
     cp "$own/many" "$at/first" && sync "$at/first" && kills_it && mounts san-bpfs_fuse quiet && cmp "$own/many" "$at/first"
 }
@@ -323,6 +381,23 @@ reads_only() {
 }
 
 # ---- kills
+
+# An open file is replaced all the time: its name has the old bytes or the new ones.
+kill_while_replaced() {
+    mounts bpfs_fuse quiet
+    "$here/build/mounted_test" replaces "$load_at" 20000 &
+    other=$!
+    sleep "0.$((RANDOM % 4))$((RANDOM % 10))"
+    sync "$load_at" # there is a file
+    sleep "0.$((RANDOM % 3))$((RANDOM % 10))"
+    kills_it
+    wait $other
+    check
+    mounts bpfs_fuse quiet
+    "$here/build/mounted_test" whole "$load_at" 20000 || fail "the name of a file that was replaced has neither old nor new bytes"
+    unmounts
+    [ -z "$checker" ] || [ "$("$checker" check "$image" | cut -d' ' -f3)" = 2 ] || fail "the directory of the mount is left"
+}
 
 # Endless transactions on a database. A row has its number printed when its commit has come back. In mode delete, a file of
 # the mount has to be readable then: a commit ends with the removal of the journal and a sync of its folder there, and
@@ -399,7 +474,7 @@ kill_under_load() {
     last=$(last_committed) found=$(look "$1")
     is_right "$last" $found || fail "after a kill in mode $1: $found, and $last was committed"
     transactions_in_all=$(echo $found | cut -d' ' -f4)
-    [ -z "$(find "$at" -name '.fuse_hidden*')" ] || fail "hidden files are left"
+    counts_files || fail "hidden files are left"
     forgets_rows "$1"
     unmounts
 }
@@ -463,6 +538,7 @@ mounts san-bpfs_fuse "cached,format=16384$everyone"
 mkdir "$at/calls"
 step "system calls" build/mounted_test calls "$at/calls" 3
 if [ -n "$everyone" ]; then mkdir "$at/others" && step "other users" build/mounted_test others "$at/others"; else echo "left out: other users"; fi
+mkdir "$at/posix" && step "cases of POSIX" build/posix_test "$at/posix" mount
 make_sample || fail "no sample"
 step "cp -a, cp -p" copies_attributes
 step "tar -p, there and back" archives_attributes
@@ -471,15 +547,24 @@ step "programs and scripts" runs_programs
 step "ln -s" links_by_symbols
 if [ -x "$(command -v python3)" ]; then step "python3 -m venv" makes_an_environment; else echo "left out: python3"; fi
 list "$at" > "$own/list"
+find "$at" -printf '%i %n %P\n' | sort > "$own/inodes"
 unmounts
 mounts san-bpfs_fuse cached
 step "mounted again, with the same modes, owners and times" diff "$own/list" <(list "$at")
+step "the same inode numbers" diff "$own/inodes" <(find "$at" -printf '%i %n %P\n' | sort)
 rm -rf "${at:?}"/*
 step "cp -r, diff -r" copies
+step "ls -i, df -i" has_inodes
 step "mv" moves
 step "dd, truncate" pieces
+step "the directory of the mount" keeps_its_directory
 step "rm of an open file" removes_open_files
+step "rm -r of a folder with an open file" removes_a_folder
 step "tar" archives
+mkdir "$at/appended" "$at/opened"
+step "two processes append by two names" build/mounted_test appends "$at/appended" 1000
+step "20,000 times open of a file that is replaced" build/mounted_test opens "$at/opened" 20000
+step "20 times 10,000 pseudo-random calls, as in a normal folder" is_like_a_folder
 if [ -x "$(command -v git)" ]; then step "git" commits; else echo "left out: git"; fi
 if [ -x "$(command -v fio)" ]; then step "fio" writes_at_random; else echo "left out: fio"; fi
 if [ -x "$(command -v sqlite3)" ]; then
@@ -492,6 +577,7 @@ step "a second mount is refused" refuses 7 'in use by another process' "$image" 
 unmounts
 mounts san-bpfs_fuse quiet
 step "mounted again" diff -r "$own/tree" "$at/moved"
+step "mounted again, as the normal folder" diff -r --no-dereference "$own/fsx" "$at/fsx"
 exec 3< "$at/bytes"
 rm "$at/bytes"
 sync "$at/moved/README.md"
@@ -504,7 +590,7 @@ head -c 3000000 /dev/zero > "$image-redo"
 step "a journal that is no journal" refuses 7 'its journal, IMAGE-redo, is missing or damaged' "$image" quiet
 mv "$own/journal" "$image-redo"
 mounts san-bpfs_fuse cached
-step "files that were open at a kill are deleted" test -z "$(find "$at" -name '.fuse_hidden*' -o -name bytes)"
+step "files that were open at a kill are deleted" counts_files
 echo last > "$at/last"
 kill -TERM $daemon
 wait $daemon || fail "bpfs_fuse ended with $? at a SIGTERM"
@@ -512,16 +598,20 @@ check
 mounts san-bpfs_fuse cached
 step "a SIGTERM unmounts" grep -q last "$at/last"
 echo bytes > "$at/bytes"
+mkdir "$at/posix-ro" && build/posix_test "$at/posix-ro" prepare || fail "no files for a read-only mount"
 unmounts
 sum=$(cksum < "$image")
 mounts san-bpfs_fuse ro
 step "a read-only mount" reads_only
+step "cases of POSIX on a read-only mount" build/posix_test "$at/posix-ro" read-only
 unmounts
 [ "$(cksum < "$image")" = "$sum" ] || fail "a read-only mount changed the image"
 rm -f "$image" "$image-redo"
 
 mounts bpfs_fuse quiet,format=16384
-step "300,000 times fstat" looks_often
+step "300,000 times statx" looks_often
+step "100,000 lookups that are forgotten" forgets_files
+cat "$logs/output"
 step "carried under load" is_carried_under_load
 step "carried when idle" is_carried_when_idle
 step "a kill leaves what was synced" keeps_what_was_synced
@@ -536,6 +626,7 @@ cat "$disk/times"
 unmounts
 
 if mount -t tmpfs -o size=12m none "$work/small" 2> /dev/null; then
+    step "cases of POSIX on tmpfs" build/posix_test "$work/small"
     image=$work/small/image
     mounts san-bpfs_fuse quiet,format=1024
     step "a full folder" fills_the_folder
@@ -545,11 +636,32 @@ else
     echo "left out: a full folder (no tmpfs can be mounted)"
 fi
 
+# The second magic number of version 3 (docs/format.md): words 6 and 7 have what words 2 and 3 have under the first one.
 image=$work/image
+mounts san-bpfs_fuse cached,format=1024
+echo text > "$at/file"
+chmod 600 "$at/file"
+unmounts
+dd if="$image" of="$image" bs=8 skip=2 seek=6 count=2 conv=notrunc 2> "$logs/messages"
+printf B | dd of="$image" bs=1 seek=7 conv=notrunc 2> "$logs/messages"
+check
+mounts san-bpfs_fuse cached
+step "an image with the second magic number" keeps_in_version_3
+unmounts
+rm -f "$image" "$image-redo"
+
 mounts san-bpfs_fuse "format=1024,follower=echo \$\$ > '$work/pid'; exec '$here/build/san-follower' '$work/followed' 1024 2> '$work/follower'"
 step "a follower that is gone" loses_the_follower
 unmounts 1
 rm -f "$image" "$image-redo" "$work/followed"*
+
+mounts bpfs_fuse quiet,format=16384
+mkdir "$load_at"
+unmounts
+for _ in $(seq "$kills"); do kill_while_replaced; done
+echo "an open file that is replaced: killed $kills times, its name has the old bytes or the new ones"
+passed=$((passed + 1))
+rm -f "$image" "$image-redo"
 
 if [ -x "$(command -v sqlite3)" ]; then
     mounts bpfs_fuse quiet,format=16384

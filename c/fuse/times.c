@@ -2,85 +2,32 @@
 #include "times.h"
 #include "calls.h"
 #include <stdint.h>
-#include <stdio.h>
-#include <stdlib.h>
 
-enum { PLACES = 1 << 14, NUMBER = 1, BILLION = 1000000000 };
+enum { NUMBER = 1, BILLION = 1000000000 };
 
-typedef struct entry {
-    struct entry *next; /* in its chain */
-    struct entry *after, **before; /* in the list of all */
-    struct timespec when;
-    char path[];
-} entry;
-
-static entry *chains[PLACES], *all;
+static node *all; /* those with a time */
 static struct timespec begun;
 
-/* ---- the table */
+/* ---- nodes with a time */
 
-static entry **chain_of(const char *path) {
-    uint32_t sum = 2166136261u;
-    for (; *path; path++) sum = (sum ^ (unsigned char)*path) * 16777619u;
-    return &chains[(sum ^ sum >> 16) % PLACES];
-}
-
-static entry *find(const char *path) {
-    entry *it = *chain_of(path);
-    while (it && strcmp(it->path, path)) it = it->next;
-    return it;
-}
-
-static void insert(entry *it) {
-    entry **chain = chain_of(it->path);
-    it->next = *chain, it->after = all, it->before = &all;
+static void enter(node *it, struct timespec when) {
+    it->time = when;
+    if (it->has_time) return;
+    it->has_time = true, it->after = all, it->before = &all;
     if (all) all->before = &it->after;
-    *chain = all = it;
+    all = it;
 }
 
-static void enter(const char *path, struct timespec when) {
-    entry *it = find(path);
-    if (!it) {
-        it = malloc(sizeof *it + strlen(path) + 1);
-        if (!it) return;
-        strcpy(it->path, path);
-        insert(it);
-    }
-    it->when = when;
-}
-
-/* Removes the entry of a path from the table, and returns it. */
-static entry *take(const char *path) {
-    entry **at = chain_of(path);
-    while (*at && strcmp((*at)->path, path)) at = &(*at)->next;
-    entry *it = *at;
-    if (!it) return NULL;
-    *at = it->next;
+static void take_out(node *it) {
+    if (!it->has_time) return;
+    it->has_time = false;
     *it->before = it->after;
     if (it->after) it->after->before = it->before;
-    return it;
 }
 
-/* Removes the entries of everything below a path from the table, and returns them as a chain. */
-static entry *take_below(const char *path) {
-    size_t length = strlen(path);
-    entry *taken = NULL, *after;
-    for (entry *it = all; it; it = after) {
-        after = it->after;
-        if (strncmp(it->path, path, length) || it->path[length] != '/') continue;
-        take(it->path);
-        it->next = taken;
-        taken = it;
-    }
-    return taken;
-}
-
-/* Enters the time of an entry below `from` for the same path below `to`. */
-static void move_below(const entry *it, const char *from, const char *to) {
-    char *path;
-    if (asprintf(&path, "%s%s", to, it->path + strlen(from)) < 0) return;
-    enter(path, it->when);
-    free(path);
+void times_forget(node *it) {
+    take_out(it);
+    nodes_drop(it);
 }
 
 /* ---- attributes */
@@ -98,13 +45,10 @@ static struct timespec of_word(uint64_t word) {
     return (struct timespec){seconds, it - seconds * BILLION};
 }
 
-static int store(const char *path, struct timespec when) {
-    return CHANGE(path, bpfs_set_attribute(&volume.fs, P(path), NUMBER, word_of(when), NULL));
-}
-
-static bool has_links(const char *path) {
-    uint32_t links;
-    return LOOK(path, bpfs_links(&volume.fs, P(path), &links)) == 0 && links > 1;
+static int store(const node *it, struct timespec when) {
+    path at;
+    int code = nodes_path(it, &at);
+    return code ? code : CHANGE(bpfs_set_attribute(&volume.fs, P(at), NUMBER, word_of(when), NULL));
 }
 
 /* ---- times */
@@ -116,64 +60,42 @@ struct timespec times_now(void) {
 }
 
 void times_begin(void) {
+    all = NULL;
     begun = times_now();
 }
 
-struct timespec times_of(const char *path) {
-    const entry *it = find(path);
+struct timespec times_of(const node *it) {
     uint64_t word = 0;
-    if (it) return it->when;
-    if (!volume.keeps || LOOK(path, bpfs_attribute(&volume.fs, P(path), NUMBER, &word))) return begun;
+    path at;
+    if (it->has_time) return it->time;
+    if (!volume.keeps || nodes_path(it, &at)) return begun;
+    if (LOOK(bpfs_attribute(&volume.fs, P(at), NUMBER, &word))) return begun;
     return word ? of_word(word) : begun;
 }
 
-int times_set(const char *path, struct timespec when) {
-    if (!volume.keeps) return enter(path, when), 0;
-    int code = store(path, when);
-    if (!code) times_forget(path);
+int times_set(node *it, struct timespec when) {
+    if (!volume.keeps) return enter(it, when), 0;
+    int code = store(it, when);
+    if (!code) take_out(it);
     return code;
 }
 
-/* The table has a time for one name of a file. So that its other names have it, too, it is stored at once. */
-void times_touch(const char *path) {
-    if (volume.keeps && !find(path) && has_links(path)) store(path, times_now());
-    else enter(path, times_now());
+void times_touch(node *it) {
+    if (!it->is_deleted) enter(it, times_now());
 }
 
-void times_touch_parent(const char *path) {
-    char *parent = parent_of(path);
-    if (parent) times_touch(parent);
-    free(parent);
-}
-
-void times_move(const char *from, const char *to, bool is_dir) {
-    entry *it = take(from), *next;
-    times_forget(to);
-    if (it) enter(to, it->when);
-    free(it);
-    for (it = is_dir ? take_below(from) : NULL; it; it = next) {
-        next = it->next;
-        move_below(it, from, to);
-        free(it);
-    }
-}
-
-void times_link(const char *from, const char *to) {
-    const entry *it = find(from);
-    if (!volume.keeps) enter(to, times_of(from));
-    else if (it) times_set(from, it->when);
-}
-
-void times_forget(const char *path) {
-    free(take(path));
+/* Without a name, the time is lost. So an operation that removes the last known name calls this before. */
+void times_store_of(node *it) {
+    if (!volume.keeps || !it->has_time) return;
+    int code = store(it, it->time);
+    if (!code || code == -ESTALE) times_forget(it);
 }
 
 void times_store(void) {
-    entry *after;
-    for (entry *it = volume.keeps ? all : NULL; it; it = after) {
+    node *after;
+    for (node *it = all; it; it = after) {
         after = it->after;
-        int code = store(it->path, it->when);
-        if (!code || code == -ENOENT) times_forget(it->path);
+        times_store_of(it);
     }
 }
 

@@ -53,8 +53,9 @@ static int carry_failed(int why) {
 
 static int carry_log(void) {
     if (volume.failed) return -1;
-    if (!volume.carrier_count) bpfs_drain(&volume.fs); /* only reads add events */
-    else if (bpfs_carry_all(&volume.fs, volume.carriers, volume.carrier_count)) return carry_failed(errno);
+    /* A read-only mount has no carriers, and no events. */
+    if (volume.carrier_count && bpfs_carry_all(&volume.fs, volume.carriers, volume.carrier_count))
+        return carry_failed(errno);
     volume.waits = volume.reported = false;
     return 0;
 }
@@ -64,12 +65,9 @@ int volume_carry(void) {
     return carry_log();
 }
 
-bool volume_has_room(bool changes) {
-    if (changes && volume.failed) return false;
-    if (bpfs_event_count(&volume.fs) <= BPFS_LOG_ROOM) return true;
-    if (!volume.failed) return carry_log() == 0;
-    bpfs_drain(&volume.fs); /* no carrier takes these events any more */
-    return true;
+bool volume_has_room(void) {
+    if (volume.failed) return false;
+    return bpfs_event_count(&volume.fs) <= BPFS_LOG_ROOM || carry_log() == 0;
 }
 
 void volume_served(struct timespec began) {

@@ -33,9 +33,9 @@ extern struct volume volume;
 /* Prints a line on standard error, or writes it to the system log. */
 void report(const char *format, ...) __attribute__((format(printf, 1, 2)));
 
-/* Makes room in the log for one call of the library. Call it before each call that adds to the log: room for one
- * call is all that is sure. False if the log could not be carried, or if `changes` and the volume has failed. */
-bool volume_has_room(bool changes);
+/* Makes room in the log for one call of the library. Call it before each call that may change the tree: room for one
+ * call is all that is sure. False if the log could not be carried, or if the volume has failed. */
+bool volume_has_room(void);
 
 /* Stores the times that were not stored yet, and carries the log: all calls so far are durable. 0, or -1. */
 int volume_carry(void);

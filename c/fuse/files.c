@@ -1,0 +1,380 @@
+#define _GNU_SOURCE
+#include "files.h"
+#include "calls.h"
+#include "hidden.h"
+#include "times.h"
+#include <fcntl.h>
+#include <stdio.h>
+
+/* An empty file takes 64 bytes for its inode and 256 for its name (docs/format.md). */
+enum { FILES_PER_BLOCK = 4096 / (64 + 256) };
+
+static bpfs_lack lack;
+static uint64_t file_count; /* without what is hidden */
+
+/* ---- looking */
+
+/* The path of a name in a directory. No program gets the directory of the mount. */
+static int path_in(const node *dir, const char *text, path *into) {
+    if (dir->is_deleted) return -ENOENT;
+    return hidden_is(dir, text) ? -EPERM : nodes_path_in(dir, text, into);
+}
+
+/* Enters the file that is at a path by its number. */
+static int enter(const path *at, node *dir, const char *text, node **found) {
+    uint32_t number;
+    int code = error_of(bpfs_inode(&volume.fs, P(*at), &number));
+    if (code) return code;
+    *found = nodes_get(number, dir, text);
+    return *found ? 0 : -ENOMEM;
+}
+
+int files_lookup(node *dir, const char *text, node **found) {
+    path at;
+    if (hidden_is(dir, text)) return -ENOENT;
+    int code = path_in(dir, text, &at);
+    return code ? code : enter(&at, dir, text, found);
+}
+
+/* What is at a path, and its mode and owner. */
+static int look_at(const path *at, bpfs_found *found, attributes *it) {
+    int code = LOOK(bpfs_stat(&volume.fs, P(*at), found));
+    return code ? code : attributes_get(at, found->is_dir, it);
+}
+
+static void stat_deleted_directory(const node *it, struct stat *st) {
+    *st = (struct stat){.st_ino = it->number, .st_mode = it->mode, .st_uid = it->owner, .st_gid = it->group};
+    st->st_blksize = 4096;
+    st->st_atim = st->st_mtim = st->st_ctim = times_now();
+}
+
+int files_stat(const node *it, struct stat *st) {
+    bpfs_found found;
+    attributes set;
+    uint32_t links = 1;
+    path at;
+    if (it->is_deleted && it->mode) return stat_deleted_directory(it, st), 0;
+    int code = nodes_path(it, &at);
+    if (!code) code = look_at(&at, &found, &set);
+    if (!code && !found.is_dir) code = LOOK(bpfs_links(&volume.fs, P(at), &links));
+    if (code) return code;
+    memset(st, 0, sizeof *st);
+    st->st_ino = it->number;
+    st->st_mode = set.mode, st->st_uid = set.owner, st->st_gid = set.group;
+    st->st_nlink = found.is_dir ? 2 : links - it->is_hidden;
+    st->st_size = found.is_dir ? 0 : (off_t)found.size;
+    st->st_blksize = 4096;
+    st->st_blocks = (st->st_size + 511) / 512;
+    st->st_atim = st->st_mtim = st->st_ctim = times_of(it);
+    return 0;
+}
+
+int files_entry(const node *dir, const char *text, bool is_dir, struct stat *st) {
+    uint32_t number;
+    attributes it;
+    path at;
+    int code = path_in(dir, text, &at);
+    if (!code) code = error_of(bpfs_inode(&volume.fs, P(at), &number));
+    if (!code) code = attributes_get(&at, is_dir, &it);
+    if (code) return code;
+    st->st_ino = number, st->st_mode = it.mode;
+    return 0;
+}
+
+/* The format has no limit of the number of files, but space. So the number of free inodes is how many empty files would
+ * fit. */
+int files_space(struct statvfs *st) {
+    bpfs_blocks blocks;
+    int code = error_of(bpfs_space(&volume.fs, &blocks));
+    if (code) return code;
+    memset(st, 0, sizeof *st);
+    st->f_bsize = st->f_frsize = 4096;
+    st->f_blocks = blocks.free + blocks.live;
+    st->f_bfree = st->f_bavail = blocks.free;
+    st->f_ffree = st->f_favail = (fsfilcnt_t)blocks.free * FILES_PER_BLOCK;
+    st->f_files = st->f_ffree + file_count;
+    st->f_namemax = BPFS_MAX_NAME;
+    return 0;
+}
+
+int files_read(const node *it, char *into, size_t size, off_t offset) {
+    size_t count = 0;
+    path at;
+    int code = nodes_path(it, &at);
+    if (!code) code = LOOK(bpfs_read(&volume.fs, P(at), (uint64_t)offset, (uint8_t *)into, size, &count));
+    return code ? code : (int)count;
+}
+
+/* A symbolic link is a file with its target. */
+int files_readlink(const node *it, char *into, size_t size) {
+    int count = files_read(it, into, size - 1, 0);
+    if (count < 0) return count;
+    into[count] = 0;
+    return 0;
+}
+
+/* ---- new names */
+
+static void unmake(const path *at, mode_t mode) {
+    if (S_ISDIR(mode)) (void)CHANGE(bpfs_rmdir(&volume.fs, P(*at), &lack));
+    else (void)CHANGE(bpfs_unlink(&volume.fs, P(*at), &lack));
+}
+
+/* The end of an operation that made a file: its node. */
+static int finish_making(const path *at, node *dir, const char *text, mode_t mode, node **made) {
+    int code = enter(at, dir, text, made);
+    if (code) return unmake(at, mode), code;
+    file_count++;
+    times_touch(*made);
+    times_touch(dir);
+    return 0;
+}
+
+int files_make(node *dir, const char *text, attributes wanted, node **made) {
+    path at;
+    int code = path_in(dir, text, &at);
+    if (!code) code = attributes_inherit(dir, &wanted);
+    if (code) return code;
+    if (S_ISDIR(wanted.mode)) code = CHANGE(bpfs_mkdir(&volume.fs, P(at), &lack));
+    else code = CHANGE(bpfs_create(&volume.fs, P(at), &lack));
+    if (code) return code;
+    if (volume.keeps) code = attributes_set(&at, &wanted);
+    if (code) return unmake(&at, wanted.mode), code;
+    return finish_making(&at, dir, text, wanted.mode, made);
+}
+
+/* It is hidden until it is whole. */
+int files_symlink(const char *target, node *dir, const char *text, attributes wanted, node **made) {
+    path at, hidden;
+    if (!volume.keeps) return -EPERM;
+    int code = path_in(dir, text, &at);
+    if (!code) code = LOOK(bpfs_stat(&volume.fs, P(at), NULL));
+    if (code != -ENOENT) return code ? code : -EEXIST;
+    code = attributes_inherit(dir, &wanted);
+    if (!code) code = hidden_create(&hidden);
+    if (code) return code;
+    code = CHANGE(bpfs_write(&volume.fs, P(hidden), 0, (const uint8_t *)target, strlen(target), &lack));
+    if (!code) code = attributes_set(&hidden, &wanted);
+    if (!code) code = CHANGE(bpfs_rename(&volume.fs, P(hidden), P(at), &lack));
+    if (code) return unmake(&hidden, wanted.mode), code;
+    return finish_making(&at, dir, text, wanted.mode, made);
+}
+
+int files_link(node *it, node *dir, const char *text) {
+    path from, to;
+    int code = nodes_path(it, &from);
+    if (!code) code = path_in(dir, text, &to);
+    if (code) return code;
+    struct name *added = nodes_new_name(dir, text);
+    if (!added) return -ENOMEM;
+    code = CHANGE(bpfs_link(&volume.fs, P(from), P(to), &lack));
+    if (code) return nodes_free_name(added), code;
+    nodes_add_name(it, added);
+    it->lookups++;
+    times_touch(dir);
+    return 0;
+}
+
+/* ---- names that go */
+
+/* A name that an operation removes, and what becomes of the file or directory. */
+typedef struct loss {
+    node *dir;
+    const char *text;
+    bool is_replaced; /* by another file, in the same call */
+    node *it;         /* NULL: nobody knows the file. It has one lookup more while the loss goes on */
+    bool is_last;     /* programs can't find the file afterwards */
+    bool is_deleted;  /* the file has no link afterwards, not even a hidden one */
+    bool was_added;   /* a hidden link keeps the file */
+    attributes of_dir;
+} loss;
+
+/* Whether the file needs a hidden link: it is open, or about to be. A program that looked up a name just before the file
+ * was replaced opens the old file. With an error here, the name would seem to be gone. */
+static bool needs_link(const loss *going, const node *it, bool is_dir) {
+    bool has_other = nodes_has_other_name(it, going->dir, going->text);
+    return !is_dir && !has_other && (it->opens || (going->is_replaced && it->lookups));
+}
+
+/* Before the operation. */
+static int prepare(loss *going, const path *at) {
+    uint32_t number, links = 1; /* of a directory */
+    int code = error_of(bpfs_inode(&volume.fs, P(*at), &number));
+    if (!code) code = LOOK(bpfs_links(&volume.fs, P(*at), &links));
+    bool is_dir = code == -EISDIR;
+    if (is_dir) code = attributes_get(at, true, &going->of_dir);
+    if (code) return code;
+    node *it = nodes_find(number);
+    going->is_deleted = links == 1;
+    going->is_last = links == (it && it->is_hidden ? 2 : 1);
+    if (!it) return 0;
+    if (needs_link(going, it, is_dir)) {
+        code = hidden_add(it, at);
+        if (code && it->opens) return code;
+        going->was_added = !code;
+    }
+    if (going->was_added) going->is_deleted = false;
+    going->it = it;
+    it->lookups++;
+    if (!going->is_deleted && !nodes_has_other_name(it, going->dir, going->text)) times_store_of(it);
+    return 0;
+}
+
+/* After an operation that succeeded. */
+static void finish(const loss *going) {
+    node *it = going->it;
+    file_count -= going->is_last;
+    if (!it) return;
+    if (going->is_deleted) {
+        it->mode = going->of_dir.mode, it->owner = going->of_dir.owner, it->group = going->of_dir.group;
+        times_forget(it);
+        nodes_delete(it);
+    } else {
+        nodes_remove_name(it, going->dir, going->text);
+    }
+    nodes_forget(it, 1);
+}
+
+/* Removes the hidden link. If that fails, the next mount does it. */
+static void unhide(node *it) {
+    loss going = {.dir = hidden_directory(), .text = hidden_name(it)};
+    path at;
+    if (nodes_path_in(going.dir, going.text, &at) || prepare(&going, &at)) return;
+    if (CHANGE(bpfs_unlink(&volume.fs, P(at), &lack))) {
+        nodes_forget(it, 1);
+        return;
+    }
+    it->is_hidden = going.is_last = false; /* programs could not find it before */
+    finish(&going);
+}
+
+/* After an operation that failed. */
+static void undo(const loss *going) {
+    if (!going->it) return;
+    if (going->was_added) unhide(going->it);
+    nodes_forget(going->it, 1);
+}
+
+/* The end of an operation that removes a name. */
+static int end(int code, const loss *going) {
+    if (code) return undo(going), code;
+    finish(going);
+    times_touch(going->dir);
+    return 0;
+}
+
+int files_unlink(node *dir, const char *text) {
+    loss going = {.dir = dir, .text = text};
+    path at;
+    int code = path_in(dir, text, &at);
+    if (!code) code = prepare(&going, &at);
+    if (!code) code = CHANGE(bpfs_unlink(&volume.fs, P(at), &lack));
+    return end(code, &going);
+}
+
+int files_rmdir(node *dir, const char *text) {
+    loss going = {.dir = dir, .text = text};
+    path at;
+    int code = path_in(dir, text, &at);
+    if (!code) code = prepare(&going, &at);
+    if (!code) code = CHANGE(bpfs_rmdir(&volume.fs, P(at), &lack));
+    return end(code, &going);
+}
+
+/* Gets the inode of what a rename moves, and that of what it replaces, or 0. */
+static int find_both(const path *from, const path *to, uint32_t *moved, uint32_t *replaced) {
+    *replaced = 0;
+    int code = error_of(bpfs_inode(&volume.fs, P(*from), moved));
+    if (code) return code;
+    code = error_of(bpfs_inode(&volume.fs, P(*to), replaced));
+    return code == -ENOENT ? 0 : code;
+}
+
+int files_rename(node *from_dir, const char *from, node *to_dir, const char *to, unsigned flags) {
+    path old, new;
+    uint32_t number, replaced;
+    if (flags & ~(unsigned)RENAME_NOREPLACE) return -EINVAL;
+    int code = path_in(from_dir, from, &old);
+    if (!code) code = path_in(to_dir, to, &new);
+    if (!code) code = find_both(&old, &new, &number, &replaced);
+    if (code) return code;
+    if (replaced && flags) return -EEXIST;
+    if (replaced == number) return 0; /* two links to one file: both remain */
+    loss going = {.dir = to_dir, .text = to, .is_replaced = true};
+    struct name *added = NULL;
+    node *moved = nodes_find(number);
+    if (moved) added = nodes_new_name(to_dir, to);
+    if (moved && !added) return -ENOMEM;
+    if (replaced) code = prepare(&going, &new);
+    if (!code) code = CHANGE(bpfs_rename(&volume.fs, P(old), P(new), &lack));
+    code = end(code, &going);
+    if (code) return nodes_free_name(added), code;
+    if (moved) {
+        nodes_remove_name(moved, from_dir, from);
+        nodes_add_name(moved, added);
+    }
+    times_touch(from_dir);
+    return 0;
+}
+
+/* ---- contents and attributes */
+
+int files_open(node *it) {
+    if (!it->names) return -ESTALE;
+    it->opens++;
+    return 0;
+}
+
+void files_close(node *it) {
+    it->opens--;
+    nodes_drop(it);
+}
+
+void files_forget(node *it, uint64_t lookups) {
+    if (it->is_hidden && it->lookups == lookups) unhide(it);
+    nodes_forget(it, lookups);
+}
+
+int files_write(node *it, const char *bytes, size_t size, off_t offset) {
+    path at;
+    int code = nodes_path(it, &at);
+    if (code) return code;
+    size_t done = 0;
+    for (size_t n; done < size && !code; done += code ? 0 : n) {
+        n = size - done < volume.max_write ? size - done : volume.max_write;
+        const uint8_t *from = (const uint8_t *)bytes + done;
+        code = CHANGE(bpfs_write(&volume.fs, P(at), (uint64_t)offset + done, from, n, &lack));
+    }
+    if (code && !done) return code;
+    times_touch(it);
+    return (int)done;
+}
+
+int files_truncate(node *it, off_t size) {
+    path at;
+    int code = nodes_path(it, &at);
+    if (!code) code = CHANGE(bpfs_truncate(&volume.fs, P(at), (uint64_t)size, &lack));
+    if (!code) times_touch(it);
+    return code;
+}
+
+int files_set_attributes(const node *it, mode_t mode, uid_t owner, gid_t group) {
+    bpfs_found found;
+    attributes wanted;
+    path at;
+    int code = nodes_path(it, &at);
+    if (!code) code = look_at(&at, &found, &wanted);
+    if (code) return code;
+    if (mode != (mode_t)-1) wanted.mode = (wanted.mode & S_IFMT) | (mode & 07777);
+    if (owner != (uid_t)-1) wanted.owner = owner;
+    if (group != (gid_t)-1) wanted.group = group;
+    return attributes_set(&at, &wanted);
+}
+
+/* ---- the beginning and the end of a mount */
+
+void files_begin(void) {
+    bpfs_sums sums = {0};
+    bpfs_totals(&volume.fs, &sums);
+    file_count = sums.files + sums.dirs - (hidden_directory() != NULL);
+}

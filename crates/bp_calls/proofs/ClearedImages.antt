@@ -18,7 +18,8 @@ use Rattle.bp_changes.proofs.ClearedWords.{same_files-by_agreement, snapshot_by_
 use Rattle.bp_changes.proofs.Stores.{harmless_here}
 use Rattle.pm_epochs.specs.May.{EachMay}
 use Rattle.pm_epochs.proofs.MayLaws.{same_where_none}
-use Rattle.bp_calls.specs.Cleared.{IsClearInode, IsClearing, IsSetInode}
+use Rattle.bp_calls.specs.Cleared.{IsClearing}
+use Rattle.bp_layout.specs.Clearing.{IsClearInode, IsSetInode}
 use Rattle.bp_calls.proofs.AfterLaws.{prepared_well_formed}
 use Rattle.bp_calls.proofs.Trees.{SameTrees, agreed_trees, live_leaf, stands_kept, word_kept}
 

@@ -19,7 +19,7 @@ use Rattle.bp_changes.specs.Sets.{AreExact}
 use Rattle.bp_changes.specs.Performs.{PerformsThawed, PerformsWithin, most_stores_thawed, room_for}
 use Rattle.pm_region.specs.Memory.{Memory, current_words, room_in}
 use Rattle.bp_calls.specs.Created.{EntersName}
-use Rattle.bp_calls.specs.Entrant.{entrant_of}
+use Rattle.bp_changes.specs.Entrant.{entrant_of}
 use Rattle.bp_calls.specs.Growth.{CanGrowInodes, GrowsInodes, growth_need, growth_stores, stores_after_growth}
 use Rattle.bp_calls.specs.ThawedFor.{IsThawedFor}
 use Rattle.bp_calls.specs.Steps.{CanEnter, CanEnterPastEnd, CanName, LacksName, entering_room, name_need}

@@ -1,7 +1,5 @@
--- How the words that version 3 makes attributes become 0 before an upgrade: which inode is next, and what one step
--- does.
-use Rattle.std.specs.Prelude.{◌≡◌, ◌≢◌, ℕ, ◌+◌, ◌*◌, ◌<◌, ◌≤◌, min}
-use Rattle.bp_calls.specs.declared.clear.TheConstants.{CLEARED_INODES}
+-- How one step of an upgrade sets the words to 0 that version 3 makes attributes.
+use Rattle.std.specs.Prelude.{◌≡◌, ℕ, ◌+◌, ◌*◌, ◌<◌, ◌≤◌, min}
 use Rattle.bp_changes.specs.Harmless.{Agrees}
 use Rattle.bp_layout.specs.Inode.{AreClearBelow, ContentStandsAt, inode_count, inode_word}
 use Rattle.bp_layout.specs.Whole.{SameFiles}
@@ -11,28 +9,6 @@ use Rattle.pm_epochs.specs.May.{StoresMay}
 use Rattle.pm_region.specs.Memory.{Memory, current_words}
 use Rattle.pm_region.specs.Safe.{AddsMay, AddsQuiet}
 use Rattle.bp_read.specs.Within.{IsWithin}
-
--- The maximum number of inodes whose words one step sets to 0.
-abbrev pub cleared_inodes : ℕ
-cleared_inodes = CLEARED_INODES
-
--- in this inode the words that version 3 makes attributes are 0
-abbrev pub IsClearInode : Image → ℕ → Type 0
-IsClearInode image ino = (k : ℕ) → k < attributes → inode_word image ino (attribute_field + k) ≡ 0
-
--- in this inode one of these words is not 0
-pub record IsSetInode (image : Image) (ino : ℕ) : Type 0 where
-  pub number : ℕ
-  pub low : number < attributes
-  pub set : inode_word image ino (attribute_field + number) ≢ 0
-
--- In inode `ino`, which is not below `first`, one of these words is not 0. If they are 0 in all inodes below `first`,
--- they are in all below `ino`.
-pub record IsNextToClear (image : Image) (first ino : ℕ) : Type 0 where
-  pub from : first ≤ ino
-  pub there : ino < inode_count image
-  pub clear : AreClearBelow image first → AreClearBelow image ino
-  pub set : IsSetInode image ino
 
 -- a store of 0 to one of these words, in one of `count` inodes from `first` on
 pub record IsClearing (image : Image) (first count place value : ℕ) : Type 0 where

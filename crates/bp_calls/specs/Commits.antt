@@ -1,7 +1,7 @@
 -- The effect of a call on the parts of a file system: it commits a change, or lacks blocks and changes nothing.
 use Rattle.std.specs.Prelude.{◌≡◌, ℕ, IfErr, OnErr, OnOk, Result, length}
 use Rattle.bp_calls.specs.Created.{EntersName}
-use Rattle.bp_calls.specs.Entrant.{ForCreation}
+use Rattle.bp_changes.specs.Entrant.{ForCreation}
 use Rattle.bp_calls.specs.Space.{LacksBlocks, LacksSpace, LacksSpaceToCreate}
 use Rattle.bp_changes.specs.Thawed.{AfterThaw}
 use Rattle.bp_changes.specs.Performs.{Performs, PerformsThawed}

@@ -1,5 +1,4 @@
 pub mod Entered
-pub mod Entrant
 pub mod Created
 pub mod NewEntry
 pub mod NearEnd

@@ -2,7 +2,7 @@
 -- inodes after it.
 use Rattle.std.specs.Prelude.{ℕ, ◌+◌, ◌*◌, Bool, Option}
 use Rattle.bp_calls.specs.Created.{EntersName, LinksEntry}
-use Rattle.bp_calls.specs.Entrant.{ForCreation, entrant_of}
+use Rattle.bp_changes.specs.Entrant.{ForCreation, entrant_of}
 use Rattle.bp_calls.specs.Growth.{stores_after_growth}
 use Rattle.bp_calls.specs.Steps.{HasLooseWord, name_need}
 use Rattle.bp_changes.specs.Performs.{PerformsThawed, PerformsWithin}

@@ -1,6 +1,6 @@
 -- Why a call has no space, and the room that a call needs in the log.
 use Rattle.std.specs.Prelude.{◌≡◌, ◌+◌, ◌<◌, ◌≤◌, ℕ, Bool, length}
-use Rattle.bp_calls.specs.Entrant.{ForCreation}
+use Rattle.bp_changes.specs.Entrant.{ForCreation}
 use Rattle.bp_free.specs.Set.{Set, members}
 use Rattle.bp_free.specs.declared.parts.NoSpace.{NoSpace}
 use Rattle.bp_layout.specs.Free.{HasFree}

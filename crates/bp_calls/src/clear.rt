@@ -2,7 +2,8 @@
 //! them, so a crash at any point changes nothing that is visible.
 
 ghost use Rattle.std.specs.Prelude.{true, false, ◌≡◌, ◌+◌, ◌*◌, ◌<◌, ◌≤◌, IfNone, IfSome, length};
-ghost use Rattle.bp_calls.specs.Cleared.{ClearsFrom, ClearsInode, IsClearInode, IsNextToClear, IsSetInode, cleared_inodes};
+ghost use Rattle.bp_calls.specs.Cleared.{ClearsFrom, ClearsInode};
+ghost use Rattle.bp_layout.specs.Clearing.{IsClearInode, IsNextToClear, IsSetInode, cleared_inodes};
 ghost use Rattle.bp_layout.specs.Formatted.{version_of};
 ghost use Rattle.bp_layout.specs.Inode.{AreClear, AreClearBelow, inode_count};
 ghost use Rattle.bp_layout.specs.Trees.{has_snapshot};
@@ -13,13 +14,10 @@ ghost use Rattle.bp_limits.specs.Limits.{attributes};
 ghost use Rattle.pm_region.specs.Memory.{room_in, words_in};
 ghost use Rattle.pm_region.specs.Safe.{AddsMay};
 
+use bp_layout::CLEARED_INODES;
 use bp_limits::{ATTRIBUTE_FIELD, INODE_SIZE};
 use bp_read::inodes::{inode_file, place};
 use pm_region::Region;
-
-/// The maximum number of inodes that one call of [`clear_some`] clears. Each has three words, so it stores at most
-/// 196,608 words, which fit into the room that each call finds (`bp_limits::CALL_ROOM`).
-pub const CLEARED_INODES: u32 = 65_536;
 
 /// Returns the number of inodes in the inode file.
 fn inode_count<R: Region>(region: &R) -> u32

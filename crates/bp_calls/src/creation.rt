@@ -3,7 +3,7 @@
 ghost use Rattle.std.specs.Prelude.{◌≡◌, ◌<◌, ◌≤◌, ◌^◌, [], None, IfErr, MatchOption, OnErr, OnOk};
 ghost use Rattle.bp_calls.specs.Commits.{CommitsChange, CreatesOrLacksSpace};
 ghost use Rattle.bp_calls.specs.Created.{EntersName};
-ghost use Rattle.bp_calls.specs.Entrant.{ForCreation};
+ghost use Rattle.bp_changes.specs.Entrant.{ForCreation};
 ghost use Rattle.bp_calls.specs.FewBlocks.{most_for_leaf};
 ghost use Rattle.bp_calls.specs.Mounted.{image_in, IsExactIn, IsMountedIn};
 ghost use Rattle.bp_calls.specs.NewEntry.{EntersLeastFree, PerformsCreation};

@@ -27,6 +27,8 @@ pub mod Forest
 pub mod Links
 -- the free numbers
 pub mod Sets
+-- the entry of a new name
+pub mod Entrant
 -- the shape of a call, and its bounds
 pub mod Performs
 pub mod Costs

@@ -3,6 +3,8 @@
 use bp_disk::{DiskFiles, StdSink, StdSource};
 use bp_io::{FairSource, MemSink};
 use bp_shell::{Status, run};
+use bp_volume::Volume;
+use pm_raw::RawRegion;
 use std::fs;
 
 #[test]
@@ -14,12 +16,12 @@ fn real_files_are_served(rt: HostRuntime) {
     let mut source = StdSource::new(fs::open(&rt, "script").expect(&rt, "it is there"));
     let words = ["bpfs", "format", "real.img", "--blocks", "8"];
     assert_eq!(rt;
-        run(alloc, &words, &mut source, &mut sink, &mut files),
+        run::<Volume<RawRegion>, _, _, _>(alloc, &words, &mut source, &mut sink, &mut files),
         Status::Done
     );
     let words = ["bpfs", "run", "real.img"];
     assert_eq!(rt;
-        run(alloc, &words, &mut source, &mut sink, &mut files),
+        run::<Volume<RawRegion>, _, _, _>(alloc, &words, &mut source, &mut sink, &mut files),
         Status::Done
     );
     let reported = fs::read(&rt, "replies").expect(&rt, "they are there");
@@ -42,13 +44,13 @@ fn real_files_are_refused(rt: HostRuntime) {
     let mut sink = MemSink::new(alloc, 128, &[]).expect(&rt, "there is memory");
     let words = ["bpfs", "run", "missing.img"];
     assert_eq!(rt;
-        run(alloc, &words, &mut source, &mut sink, &mut files),
+        run::<Volume<RawRegion>, _, _, _>(alloc, &words, &mut source, &mut sink, &mut files),
         Status::Missing
     );
     fs::write(&rt, "short.img", "no image").expect(&rt, "it is written");
     let words = ["bpfs", "run", "short.img"];
     assert_eq!(rt;
-        run(alloc, &words, &mut source, &mut sink, &mut files),
+        run::<Volume<RawRegion>, _, _, _>(alloc, &words, &mut source, &mut sink, &mut files),
         Status::Refused
     );
     assert_eq!(rt;

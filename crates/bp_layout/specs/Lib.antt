@@ -34,6 +34,9 @@ pub mod Need
 pub mod Thaw
 pub mod Names
 pub mod Whole
+pub mod Totals
+-- words that an upgrade clears
+pub mod Clearing
 pub mod Members
 -- remembered slots of names
 pub mod Hints

@@ -4,6 +4,7 @@ use Rattle.pm_epochs.specs.declared.event.Event.{Event}
 use Rattle.pm_epochs.specs.declared.event.Event.TheVariants.{Store, Barrier, CallEnd}
 use Rattle.pm_epochs.specs.Log.{call_ends}
 use Rattle.pm_region.specs.Memory.{Memory}
+use Rattle.bp_fs.specs.Behaviour.{Behaviour}
 use Rattle.bp_layout.specs.Words.{Image}
 use Rattle.bp_limits.specs.Limits.{log_events}
 use Rattle.bp_script.specs.Commands.{Command}
@@ -29,14 +30,14 @@ turns-suc seed (suc count) = ap (λ (rest : List Command). (turn seed).command �
 pub state_more : (seed count at following : ℕ) → at ≡ seed_after seed count → following ≡ (turn at).state → following ≡ seed_after seed (count + 1)
 state_more seed count at following here is = is ∙ ap (λ (s : ℕ). (turn s).state) here ∙ sym (seed_after-suc seed count) ∙ ap (seed_after seed) (sym (add-one count))
 
-pub one_more : (old middle new : Memory) (seed count at : ℕ) (command : Command) (replies : List LineReply) (reply : LineReply) → at ≡ seed_after seed count → command ≡ (turn at).command
-    → ((saved : Image) → Session (state old saved) (turns seed count) replies (state middle saved)) → ((saved : Image) → SessionLine (state middle saved) command reply (state new saved))
-    → (saved : Image) → Session (state old saved) (turns seed (count + 1)) (replies ++ reply ∷ []) (state new saved)
-one_more old middle new seed count at command replies reply here is session line saved =
+pub one_more : {S : Type 0} (it : Behaviour S) (old middle new : S) (seed count at : ℕ) (command : Command) (replies : List LineReply) (reply : LineReply) → at ≡ seed_after seed count → command ≡ (turn at).command
+    → ((saved : Image) → Session it (state old saved) (turns seed count) replies (state middle saved)) → ((saved : Image) → SessionLine it (state middle saved) command reply (state new saved))
+    → (saved : Image) → Session it (state old saved) (turns seed (count + 1)) (replies ++ reply ∷ []) (state new saved)
+one_more it old middle new seed count at command replies reply here is session line saved =
     let asked : command ≡ (turn (seed_after seed count)).command = is ∙ ap (λ (s : ℕ). (turn s).command) here in
     let all : turns seed count ++ command ∷ [] ≡ turns seed (count + 1) = ap (λ (c : Command). turns seed count ++ c ∷ []) asked ∙ sym (turns-suc seed count) ∙ ap (turns seed) (sym (add-one count)) in
-    subst (λ (commands : List Command). Session (state old saved) commands (replies ++ reply ∷ []) (state new saved)) all
-    (session_append (state old saved) (state middle saved) (state new saved) (turns seed count) (command ∷ []) replies (reply ∷ []) (session saved) (state new saved, line saved, refl))
+    subst (λ (commands : List Command). Session it (state old saved) commands (replies ++ reply ∷ []) (state new saved)) all
+    (session_append it (state old saved) (state middle saved) (state new saved) (turns seed count) (command ∷ []) replies (reply ∷ []) (session saved) (state new saved, line saved, refl))
 
 -- ---- the calls of a log
 

@@ -1,4 +1,4 @@
-//! Plays over a volume.
+//! Plays over a file system.
 
 ghost use Rattle.std.specs.Prelude.{◌≡◌, ◌≤◌, vec_capacity};
 ghost use Rattle.bp_limits.specs.Limits.{log_events, max_turns};
@@ -10,10 +10,10 @@ ghost use Rattle.bp_script.specs.Commands.Command.{file_call, storm};
 
 use crate::operations::{LENGTHS, PlayCall, Turn, draw_turn};
 use crate::summary::Summary;
+use bp_fs::FileSystem;
 use bp_limits::LOG_EVENTS;
 use bp_plain::{Call, Reply};
 use bp_replay::{Generator, storm};
-use bp_volume::Volume;
 use pm_epochs::Choice;
 use pm_region::Region;
 use pm_steps::Backs;
@@ -94,86 +94,86 @@ fn with_bytes<'a>(call: &'a PlayCall, bytes: &'a [u8]) -> Call<'a>
 }
 
 /// Makes a call, and counts its answer.
-fn make_call<R: Region>(
+fn make_call<V: FileSystem>(
     alloc: Global,
-    volume: &mut Volume<R>,
+    system: &mut V,
     call: &PlayCall,
     buffers: &mut PlayBuffers,
     summary: &mut Summary,
 )
     requires small { IsSmall call.now }
     requires room { CanCount summary.old }
-    ensures { TakesTurn volume.old volume.new (file_call (call_by call.now)) summary.old summary.new }
+    ensures { TakesTurn V.behaviour (V.state system.old) (V.state system.new) (file_call (call_by call.now)) summary.old summary.new }
 {
     fill(&mut buffers.bytes, call);
     let asked = with_bytes(call, &buffers.bytes);
-    volume.apply(alloc, &asked, &mut buffers.reply);
+    system.apply(alloc, &asked, &mut buffers.reply);
     summary.count_answer(&buffers.reply.answer());
 }
 
-/// Crashes the volume as a storm chooses, and counts the calls that it keeps.
-fn raise_storm<R: Region>(
-    volume: &mut Volume<R>,
+/// Crashes the file system as a storm chooses, and counts the calls that it keeps.
+fn raise_storm<V: FileSystem>(
+    system: &mut V,
     seed: u64,
     buffers: &mut PlayBuffers,
     summary: &mut Summary,
 )
-    requires roomy { volume.old.capacity ≤ log_events }
+    requires roomy { (V.behaviour.memory (V.state system.old)).capacity ≤ log_events }
     requires room { CanCount summary.old }
-    ensures { TakesTurn volume.old volume.new (storm seed) summary.old summary.new }
+    ensures { TakesTurn V.behaviour (V.state system.old) (V.state system.new) (storm seed) summary.old summary.new }
 {
     // The log is no longer than its capacity.
-    let _events = volume.region().event_count();
+    let _events = system.region().event_count();
     storm(
-        volume.region(),
+        system.region(),
         seed,
         &mut buffers.backs,
         &mut buffers.choice,
     );
-    match volume.crash(&buffers.choice) {
+    match system.crash(&buffers.choice) {
         Ok(kept) => summary.count_storm(kept),
         Err(_) => unreachable!(),
     }
 }
 
 /// Carries out one operation.
-fn take_turn<R: Region>(
+fn take_turn<V: FileSystem>(
     alloc: Global,
-    volume: &mut Volume<R>,
+    system: &mut V,
     turn: &Turn,
     buffers: &mut PlayBuffers,
     summary: &mut Summary,
 )
-    requires roomy { volume.old.capacity ≤ log_events }
+    requires roomy { (V.behaviour.memory (V.state system.old)).capacity ≤ log_events }
     requires small { IsSmallTurn turn.now }
     requires room { CanCount summary.old }
-    ensures { TakesTurn volume.old volume.new (command_by turn.now) summary.old summary.new }
+    ensures { TakesTurn V.behaviour (V.state system.old) (V.state system.new) (command_by turn.now) summary.old summary.new }
 {
     match turn {
-        Turn::Call(call) => make_call(alloc, volume, call, buffers, summary),
-        Turn::Storm(seed) => raise_storm(volume, *seed, buffers, summary),
+        Turn::Call(call) => make_call(alloc, system, call, buffers, summary),
+        Turn::Storm(seed) => raise_storm(system, *seed, buffers, summary),
     }
 }
 
 /// Carries out `count` operations, at most 1,000,000, each made from the seed and the operations before it, and sums
-/// up their replies. The same image, seed and count give the same summary. The capacity of the volume's log is at
+/// up their replies. The same image, seed and count give the same summary. The capacity of the file system's log is at
 /// most that of the buffers.
-pub fn play_on<R: Region>(
+pub fn play_on<V: FileSystem>(
     alloc: Global,
-    volume: &mut Volume<R>,
+    system: &mut V,
     buffers: &mut PlayBuffers,
     seed: u64,
     count: u32,
 ) -> Summary
     requires few { count ≤ max_turns }
-    requires roomy { volume.old.capacity ≤ log_events }
-    ensures { Plays volume.old volume.new seed count result }
+    requires roomy { (V.behaviour.memory (V.state system.old)).capacity ≤ log_events }
+    ensures { Plays V.behaviour (V.state system.old) (V.state system.new) seed count result }
 {
     let mut summary = Summary::new();
     let mut generator = Generator::new(seed);
     for _turn in 0..count {
         let turn = draw_turn(&mut generator);
-        take_turn(alloc, volume, &turn, buffers, &mut summary);
+        take_turn(alloc, system, &turn, buffers, &mut summary);
     }
     summary
 }

@@ -157,7 +157,7 @@ fn serve_file<K: Sink>(
     script: &str,
     out: &mut K,
 ) -> Option<Volume<RawRegion>> {
-    match open(alloc, "f", files) {
+    match open::<Volume<RawRegion>, _>(alloc, "f", files) {
         Ok(mut volume) => {
             let mut source = FairSource::new(script.as_bytes());
             // If serving was broken off, the bytes that the sink took show it.

@@ -15,6 +15,7 @@ use bp_limits::MAX_LINE;
 use bp_session::Work;
 use bp_shell::{open, run};
 use bp_volume::Volume;
+use pm_raw::RawRegion;
 use pm_region::Region;
 use std::alloc::{AllocError, Global};
 
@@ -30,7 +31,13 @@ fn count(
 ) -> Result<(), AllocError> {
     let mut source = FairSource::new(b"");
     let mut sink = NullSink::new();
-    let status = run(alloc, words, &mut source, &mut sink, files).code();
+    let status = run::<Volume<RawRegion>, _, _, _>(
+        alloc,
+        words,
+        &mut source,
+        &mut sink,
+        files,
+    ).code();
     let printed = sink.count();
     let length = files.image().len();
     write!(report, "status {status}, {printed} bytes printed")?;
@@ -106,7 +113,7 @@ fn serve_with<R: Region>(
 
 /// Opens a file, and serves scripts and lines over it.
 fn serve_file(alloc: Global, files: &mut FairFiles, report: &mut String) -> Result<(), AllocError> {
-    match open(alloc, "f", files) {
+    match open::<Volume<RawRegion>, _>(alloc, "f", files) {
         Ok(mut volume) => serve_over(alloc, &mut volume, files, report),
         Err(_) => report.push_str("not opened\n"),
     }

@@ -5,6 +5,8 @@ use crate::row::Row;
 use bp_io::{FairSource, MemFiles, MemSink, MemSource, NullSink};
 use bp_limits::Version;
 use bp_shell::{Status, run};
+use bp_volume::Volume;
+use pm_raw::RawRegion;
 use std::alloc::{AllocError, Global};
 
 /// The room of the sink, in bytes.
@@ -64,7 +66,7 @@ fn format_over(
 ) -> Result<Option<Vec<u8>>, AllocError> {
     let mut source = FairSource::new(b"");
     let mut sink = NullSink::new();
-    match run(alloc, words, &mut source, &mut sink, files) {
+    match run::<Volume<RawRegion>, _, _, _>(alloc, words, &mut source, &mut sink, files) {
         Status::Done => image_of(alloc, files),
         _ => Ok(None),
     }
@@ -96,7 +98,7 @@ fn play_over(
     let failing = &row.failing;
     let mut source = MemSource::new(row.script.as_bytes(), row.piece.max(1), &failing.source);
     let mut sink = MemSink::new(alloc, ROOM, &failing.sink)?;
-    let status = run(alloc, words, &mut source, &mut sink, files);
+    let status = run::<Volume<RawRegion>, _, _, _>(alloc, words, &mut source, &mut sink, files);
     left(alloc, status.code(), &sink, files)
 }
 

@@ -20,8 +20,8 @@ use Rattle.bp_layout.specs.WellFormed.{IsWellFormed}
 use Rattle.bp_layout.proofs.Reached.{reached-in_file}
 use Rattle.bp_walk.proofs.TakenLaws.{clash, known, has_other, has_without}
 use Rattle.bp_scan.specs.Counted.{CountsOne, HasCounted, IsCountable, no_totals, used_below}
-use Rattle.bp_scan.specs.Totals.{AreReached, HasLive, HasTotals, HasTreeTotals, of_kind, file_bytes}
-use Rattle.bp_scan.specs.declared.totals.Totals.{Totals}
+use Rattle.bp_layout.specs.Totals.{AreReached, HasLive, HasTotals, HasTreeTotals, of_kind, file_bytes}
+use Rattle.bp_layout.specs.declared.totals.Totals.{Totals}
 use Rattle.bp_layout.specs.Thaw.{none_in_snapshot}
 
 -- ---- one inode more

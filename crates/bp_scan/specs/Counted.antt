@@ -4,8 +4,8 @@ use Rattle.std.specs.List.{range_with_len, sum_by}
 use Rattle.bp_free.specs.Set.{Set, has}
 use Rattle.bp_limits.specs.Limits.{file_kind, directory_kind}
 use Rattle.bp_layout.specs.Words.{Image}
-use Rattle.bp_scan.specs.Totals.{of_kind, file_bytes, one_if, bytes_if}
-use Rattle.bp_scan.specs.declared.totals.Totals.{Totals}
+use Rattle.bp_layout.specs.Totals.{of_kind, file_bytes, one_if, bytes_if}
+use Rattle.bp_layout.specs.declared.totals.Totals.{Totals}
 
 -- The totals when nothing was counted.
 abbrev pub no_totals : Totals

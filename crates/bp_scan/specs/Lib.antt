@@ -3,7 +3,6 @@ pub mod Others
 pub mod Progress
 pub mod Named
 pub mod Faults
-pub mod Totals
 pub mod Length
 pub mod Room
 pub mod Counted

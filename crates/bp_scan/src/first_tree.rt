@@ -11,7 +11,7 @@ ghost use Rattle.bp_limits.specs.Limits.{block_inodes, block_words, super_blocks
 ghost use Rattle.bp_scan.specs.Faults.{IsScanFault, IsTreeFault};
 ghost use Rattle.bp_scan.specs.Room.{HasScanMemory};
 ghost use Rattle.bp_scan.specs.Scanned.{AreOthersLive};
-ghost use Rattle.bp_scan.specs.Totals.{HasTreeTotals};
+ghost use Rattle.bp_layout.specs.Totals.{HasTreeTotals};
 ghost use Rattle.bp_scan.specs.Walked.{fault_of_walk};
 ghost use Rattle.pm_region.specs.Memory.{words_in};
 ghost use Rattle.bp_layout.specs.Thaw.{none_in_snapshot};
@@ -19,11 +19,10 @@ ghost use Rattle.bp_layout.specs.Thaw.{none_in_snapshot};
 use crate::fault::MountFault;
 use crate::name_check::{NameCheck, WalkFault};
 use crate::pending::Pending;
-use crate::totals::Totals;
 use crate::tree_walk::read_trees;
 use crate::work::Scan;
 use bp_free::{Blocks, Counts, Inodes};
-use bp_layout::Super;
+use bp_layout::{Super, Totals};
 use bp_limits::{
     BLOCK_SIZE, BLOCK_WORDS, SUPER_BLOCKS, SUPER_MAGIC, SUPER_ROOT, SUPER_SIZE, Version,
 };

@@ -2,7 +2,7 @@
 
 ghost use Rattle.std.specs.Prelude.{◌≡◌, ◌≤◌, ◌^◌, IfOk};
 
-use crate::totals::Totals;
+use crate::inode_count::no_totals;
 use crate::work::Scan;
 use bp_free::{Blocks, Counts, Inodes};
 use std::alloc::{AllocError, Global};
@@ -44,7 +44,7 @@ impl Pending {
             inodes: Inodes::new(alloc, 0)?,
             todo: Inodes::new(alloc, inodes)?,
             counts: Counts::new(alloc, 0)?,
-            totals: Totals::none(),
+            totals: no_totals(),
         };
         Ok(Pending { work, inodes })
     }

@@ -10,16 +10,16 @@ ghost use Rattle.bp_layout.specs.WellFormed.{IsWellFormed};
 ghost use Rattle.bp_scan.specs.Reading.{IsReading, IsUnread};
 ghost use Rattle.bp_scan.specs.Room.{HasScanMemory};
 ghost use Rattle.bp_scan.specs.Scanned.{AreOthersLive};
-ghost use Rattle.bp_scan.specs.Totals.{HasTreeTotals};
+ghost use Rattle.bp_layout.specs.Totals.{HasTreeTotals};
 ghost use Rattle.bp_scan.specs.Walked.{IsWalkFault};
 ghost use Rattle.pm_region.specs.Memory.{words_in};
 ghost use Rattle.bp_layout.specs.Thaw.{none_in_snapshot};
 
 use crate::directories::read_directory;
 use crate::name_check::{NameCheck, WalkFault};
-use crate::totals::Totals;
 use crate::trees::{enter, enter_inode_file};
 use crate::work::Scan;
+use bp_layout::Totals;
 use bp_limits::INODE_SIZE;
 use bp_read::inodes::inode_file;
 use bp_walk::CheckFault;

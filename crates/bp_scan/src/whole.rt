@@ -12,15 +12,15 @@ ghost use Rattle.bp_layout.specs.Words.{block_count};
 ghost use Rattle.bp_limits.specs.Limits.{block_inodes};
 ghost use Rattle.bp_scan.specs.Faults.{IsFault, IsScanFault, of_second};
 ghost use Rattle.bp_scan.specs.Others.{HasOthers, Loses};
-ghost use Rattle.bp_scan.specs.Totals.{HasTotals};
+ghost use Rattle.bp_layout.specs.Totals.{HasTotals};
 ghost use Rattle.pm_region.specs.Memory.{words_in};
 
 use crate::fault::MountFault;
 use crate::first_tree::scan;
 use crate::name_check::{CheckedNames, KnownNames, NameCheck};
 use crate::pending::Pending;
-use crate::totals::Totals;
 use bp_free::{Blocks, Counts, Inodes};
+use bp_layout::Totals;
 use bp_limits::{SUPER_ROOT, SUPER_SIZE, SUPER_SNAPSHOT_ROOT, SUPER_SNAPSHOT_SIZE, Version};
 use bp_read::version;
 use bp_second::Shown;

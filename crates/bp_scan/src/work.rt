@@ -4,8 +4,9 @@ ghost use Rattle.std.specs.Prelude.{◌≡◌, ◌+◌, ◌<◌, length, replica
 ghost use Rattle.bp_free.specs.Set.{empty, members};
 ghost use Rattle.bp_scan.specs.Counted.{no_totals};
 
-use crate::totals::Totals;
+use crate::inode_count::no_totals;
 use bp_free::{Blocks, Counts, Inodes};
+use bp_layout::Totals;
 
 /// The working memory of a scan. At the end of a scan its sets of blocks and of inodes have exactly the free ones, and
 /// the counts are the numbers of links of the inodes.
@@ -36,7 +37,7 @@ impl Scan {
         self.inodes.clear();
         self.todo.clear();
         self.counts.clear();
-        self.totals = Totals::none();
+        self.totals = no_totals();
     }
 
     /// Returns the totals of the inodes that were entered, with the number of blocks that were taken out of the set of

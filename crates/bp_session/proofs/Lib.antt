@@ -1,7 +1,6 @@
 pub mod PlainLaws
 pub mod ServingLaws
 pub mod ActingLaws
-pub mod CachingLaws
 pub mod SavingLaws
 pub mod DirtyLaws
 pub mod ChangedLaws

@@ -3,6 +3,7 @@ use Rattle.std.proofs.Common.{refl, sym, ◌∙◌, subst, ◌≡◌, ◌≤◌,
 use Rattle.std.proofs.lemmas.List.{append_assoc, append-nil}
 use Rattle.std.specs.Prelude.{◌⊎◌, Err, None, Ok, OnOk, Option, Result, Some}
 use Rattle.std.specs.Io.KnownBytes.{Consumes, IsAtEnd}
+use Rattle.bp_fs.specs.Behaviour.{Behaviour}
 use Rattle.bp_io.specs.Causes.{Rose}
 use Rattle.bp_io.specs.Views.{SourceView}
 use Rattle.bp_script.specs.Commands.{Command, command_of}
@@ -114,11 +115,11 @@ first_with_source ended s t a b other same first = record {
 
 -- ---- what is kept
 
-pub keeps_all : (a : Moment) → Keeps None a a
-keeps_all a = record { size = refl; capacity = refl; attached = still_attached a.files; others = others_same a.files; flushed = λ _ e. e }
+pub keeps_all : {S : Type 0} (it : Behaviour S) (a : Moment S) → Keeps it None a a
+keeps_all it a = record { size = refl; capacity = refl; attached = still_attached a.files; others = others_same a.files; flushed = λ _ e. e }
 
-pub keeps_then : (ended : Option Broken) (a b c : Moment) → Keeps None a b → Keeps ended b c → Keeps ended a c
-keeps_then ended a b c one two = record {
+pub keeps_then : {S : Type 0} (it : Behaviour S) (ended : Option Broken) (a b c : Moment S) → Keeps it None a b → Keeps it ended b c → Keeps it ended a c
+keeps_then it ended a b c one two = record {
   size = two.size ∙ one.size;
   capacity = two.capacity ∙ one.capacity;
   attached = stays_attached _ _ _ one.attached two.attached;
@@ -128,8 +129,8 @@ keeps_then ended a b c one two = record {
 
 -- ---- a line
 
-pub line_whole : (commands : List Command) (a b : Moment) → DoesAll a b commands → Keeps None a b → b.faults ≡ a.faults → b.files.faults ≡ a.files.faults → LineOutcome None commands a b
-line_whole commands a b all keeps sink files = record {
+pub line_whole : {S : Type 0} (it : Behaviour S) (commands : List Command) (a b : Moment S) → DoesAll it a b commands → Keeps it None a b → b.faults ≡ a.faults → b.files.faults ≡ a.files.faults → LineOutcome it None commands a b
+line_whole it commands a b all keeps sink files = record {
   whole = λ _. all;
   broken = λ e. absurd cc;
   stopped = λ e. absurd cc;
@@ -138,8 +139,8 @@ line_whole commands a b all keeps sink files = record {
   one_of = inl refl;
 }
 
-pub line_broken : (commands : List Command) (a b : Moment) → DoesBreakOff 0 a b commands → Keeps (Some cause.Sink) a b → Rose a.faults b.faults → b.files.faults ≡ a.files.faults → LineOutcome (Some cause.Sink) commands a b
-line_broken commands a b broken keeps rose files = record {
+pub line_broken : {S : Type 0} (it : Behaviour S) (commands : List Command) (a b : Moment S) → DoesBreakOff it 0 a b commands → Keeps it (Some cause.Sink) a b → Rose a.faults b.faults → b.files.faults ≡ a.files.faults → LineOutcome it (Some cause.Sink) commands a b
+line_broken it commands a b broken keeps rose files = record {
   whole = λ e. absurd cc;
   broken = λ _. broken;
   stopped = λ e. absurd cc;
@@ -148,8 +149,8 @@ line_broken commands a b broken keeps rose files = record {
   one_of = inr (inl refl);
 }
 
-pub line_stopped : (commands : List Command) (a b : Moment) → DoesStop a b commands → Keeps (Some cause.Files) a b → b.faults ≡ a.faults → Rose a.files.faults b.files.faults → LineOutcome (Some cause.Files) commands a b
-line_stopped commands a b stop keeps sink rose = record {
+pub line_stopped : {S : Type 0} (it : Behaviour S) (commands : List Command) (a b : Moment S) → DoesStop it a b commands → Keeps it (Some cause.Files) a b → b.faults ≡ a.faults → Rose a.files.faults b.files.faults → LineOutcome it (Some cause.Files) commands a b
+line_stopped it commands a b stop keeps sink rose = record {
   whole = λ e. absurd cc;
   broken = λ e. absurd cc;
   stopped = λ _. stop;
@@ -158,30 +159,30 @@ line_stopped commands a b stop keeps sink rose = record {
   one_of = inr (inr refl);
 }
 
-pub line_nothing : (a : Moment) → LineOutcome None (commands_from [] []) a a
-line_nothing a = rw commands_of_nothing (line_whole [] a a (λ saved. record { after = saved; file = λ name held. held; reported = reported_none _ _ }) (keeps_all a) refl refl)
+pub line_nothing : {S : Type 0} (it : Behaviour S) (a : Moment S) → LineOutcome it None (commands_from [] []) a a
+line_nothing it a = rw commands_of_nothing (line_whole it [] a a (λ saved. record { after = saved; file = λ name held. held; reported = reported_none it _ _ }) (keeps_all it a) refl refl)
 
 -- ---- a piece
 
-pub piece_quiet : (most : ℕ) (a : Moment) (held i keeps : List ℕ) → ((rest : List ℕ) → commands_from held (i ++ rest) ≡ commands_from keeps rest) → PieceOutcome None most held i keeps a a
-piece_quiet most a held i keeps same = record {
-  whole = λ _ saved. serves_quietly _ _ saved _ _ _ _ (λ name held. held) same;
+pub piece_quiet : {S : Type 0} (it : Behaviour S) (most : ℕ) (a : Moment S) (held i keeps : List ℕ) → ((rest : List ℕ) → commands_from held (i ++ rest) ≡ commands_from keeps rest) → PieceOutcome it None most held i keeps a a
+piece_quiet it most a held i keeps same = record {
+  whole = λ _ saved. serves_quietly it _ _ saved _ _ _ _ (λ name held. held) same;
   broken = λ e. absurd cc;
   stopped = λ e. absurd cc;
-  keeps_files = keeps_all a;
+  keeps_files = keeps_all it a;
   first = quiet false _ _ refl refl refl;
   one_of = inl refl;
 }
 
-pub piece_nothing : (most : ℕ) (a : Moment) (held : List ℕ) → PieceOutcome None most held [] held a a
-piece_nothing most a held = piece_quiet most a held [] held (λ rest. refl)
+pub piece_nothing : {S : Type 0} (it : Behaviour S) (most : ℕ) (a : Moment S) (held : List ℕ) → PieceOutcome it None most held [] held a a
+piece_nothing it most a held = piece_quiet it most a held [] held (λ rest. refl)
 
-pub piece_newline : (ended : Option Broken) (most : ℕ) (held : List ℕ) (a b : Moment) → LineOutcome ended (command_of held ∷ []) a b → PieceOutcome ended most held (10 ∷ []) [] a b
-piece_newline ended most held a b line = record {
-  whole = λ e saved. serves_newline _ _ _ _ _ _ (line.whole e saved);
-  broken = λ e rest saved. rw (commands_at_newline held rest) (breaks_later _ _ _ _ _ (commands_from [] rest) _ _ (breaks_as _ _ _ _ _ _ (λ image held. held) 0 most _ (λ _. refl) (line.broken e saved)));
+pub piece_newline : {S : Type 0} (it : Behaviour S) (ended : Option Broken) (most : ℕ) (held : List ℕ) (a b : Moment S) → LineOutcome it ended (command_of held ∷ []) a b → PieceOutcome it ended most held (10 ∷ []) [] a b
+piece_newline it ended most held a b line = record {
+  whole = λ e saved. serves_newline it _ _ _ _ _ _ (line.whole e saved);
+  broken = λ e rest saved. rw (commands_at_newline held rest) (breaks_later it _ _ _ _ _ (commands_from [] rest) _ _ (breaks_as it _ _ _ _ _ _ (λ image held. held) 0 most _ (λ _. refl) (line.broken e saved)));
   stopped = λ e rest. record {
-    stops = λ saved. rw (commands_at_newline held rest) (stops_later _ _ _ _ (commands_from [] rest) _ _ ((line.stopped e).stops saved));
+    stops = λ saved. rw (commands_at_newline held rest) (stops_later it _ _ _ _ (commands_from [] rest) _ _ ((line.stopped e).stops saved));
     lost = (line.stopped e).lost;
   };
   keeps_files = line.keeps;
@@ -190,48 +191,48 @@ piece_newline ended most held a b line = record {
 }
 
 -- what is held of a file from one moment on
-pub carries_on : (a b c : Moment) (saved after : Image) → Carries a b saved after → (image : Image) → Carries b c after image → Carries a c saved image
-carries_on a b c saved after one image two name held = two name (one name held)
+pub carries_on : {S : Type 0} (it : Behaviour S) (a b c : Moment S) (saved after : Image) → Carries it a b saved after → (image : Image) → Carries it b c after image → Carries it a c saved image
+carries_on it a b c saved after one image two name held = two name (one name held)
 
-pub carries_on_partly : (a b c : Moment) (saved after : Image) → Carries a b saved after → (first second : Image) → CarriesPartly b c after first second → CarriesPartly a c saved first second
-carries_on_partly a b c saved after one first second two name held = two name (one name held)
+pub carries_on_partly : {S : Type 0} (it : Behaviour S) (a b c : Moment S) (saved after : Image) → Carries it a b saved after → (first second : Image) → CarriesPartly it b c after first second → CarriesPartly it a c saved first second
+carries_on_partly it a b c saved after one first second two name held = two name (one name held)
 
-module _ (most : ℕ) (held i middle : List ℕ) (a b c : Moment) (one : PieceOutcome None most held i middle a b) where
+module _ {S : Type 0} (it : Behaviour S) (most : ℕ) (held i middle : List ℕ) (a b c : Moment S) (one : PieceOutcome it None most held i middle a b) where
   -- what follows a piece that was served, up to a reply that broke off ..
-  pub breaks_after : (j : List ℕ) → DoesBreakOff most b c (commands_from middle j) → DoesBreakOff most a c (commands_from held (i ++ j))
+  pub breaks_after : (j : List ℕ) → DoesBreakOff it most b c (commands_from middle j) → DoesBreakOff it most a c (commands_from held (i ++ j))
   breaks_after j broken saved =
       let first = one.whole refl saved in
-      breaks_in _ _ _ _ _ _ _ _ _ first _ _ _ j (breaks_as _ _ _ _ _ _ (carries_on a b c saved first.after first.file) _ _ _ (λ e. e) (broken first.after))
+      breaks_in it _ _ _ _ _ _ _ _ _ first _ _ _ j (breaks_as it _ _ _ _ _ _ (carries_on it a b c saved first.after first.file) _ _ _ (λ e. e) (broken first.after))
 
   -- .. or to a sync that couldn't save
-  pub stops_after : (j : List ℕ) → DoesStop b c (commands_from middle j) → DoesStop a c (commands_from held (i ++ j))
+  pub stops_after : (j : List ℕ) → DoesStop it b c (commands_from middle j) → DoesStop it a c (commands_from held (i ++ j))
   stops_after j stopped = record {
     stops = λ saved.
         let first = one.whole refl saved in
-        stops_in _ _ _ _ _ _ _ _ _ first _ _ j (stops_as _ _ _ _ _ _ (carries_on_partly a b c saved first.after first.file) _ (stopped.stops first.after));
+        stops_in it _ _ _ _ _ _ _ _ _ first _ _ j (stops_as it _ _ _ _ _ _ (carries_on_partly it a b c saved first.after first.file) _ (stopped.stops first.after));
     lost = stopped.lost;
   }
 
-  pub all_after : (j : List ℕ) → DoesAll b c (commands_from middle j) → DoesAll a c (commands_from held (i ++ j))
+  pub all_after : (j : List ℕ) → DoesAll it b c (commands_from middle j) → DoesAll it a c (commands_from held (i ++ j))
   all_after j all saved =
       let first = one.whole refl saved in
-      serves_to_end _ _ _ _ _ _ _ _ _ first _ _ j (all_as _ _ _ _ _ _ (carries_on a b c saved first.after first.file) _ (all first.after))
+      serves_to_end it _ _ _ _ _ _ _ _ _ first _ _ j (all_as it _ _ _ _ _ _ (carries_on it a b c saved first.after first.file) _ (all first.after))
 
-  pub piece_then : (ended : Option Broken) (j keeps : List ℕ) → PieceOutcome ended most middle j keeps b c → PieceOutcome ended most held (i ++ j) keeps a c
+  pub piece_then : (ended : Option Broken) (j keeps : List ℕ) → PieceOutcome it ended most middle j keeps b c → PieceOutcome it ended most held (i ++ j) keeps a c
   piece_then ended j keeps two = record {
     whole = λ e saved.
         let first = one.whole refl saved in
-        serves_then _ _ _ _ _ _ _ _ _ _ _ _ _ first (serves_as _ _ _ _ _ _ (carries_on a b c saved first.after first.file) _ _ _ (two.whole e first.after));
+        serves_then it _ _ _ _ _ _ _ _ _ _ _ _ _ first (serves_as it _ _ _ _ _ _ (carries_on it a b c saved first.after first.file) _ _ _ (two.whole e first.after));
     broken = λ e rest. rw (append_assoc i j rest) (breaks_after (j ++ rest) (two.broken e rest));
     stopped = λ e rest. rw (append_assoc i j rest) (stops_after (j ++ rest) (two.stopped e rest));
-    keeps_files = keeps_then ended a b c one.keeps_files two.keeps_files;
+    keeps_files = keeps_then it ended a b c one.keeps_files two.keeps_files;
     first = first_after ended _ _ _ one.first two.first;
     one_of = two.one_of;
   }
 
 -- what comes after a fault doesn't matter
-pub piece_stops : (ended : Option Broken) (most : ℕ) (held i j keeps more : List ℕ) (a b : Moment) → ¬ (ended ≡ None) → PieceOutcome ended most held i keeps a b → PieceOutcome ended most held (i ++ j) more a b
-piece_stops ended most held i j keeps more a b other one = record {
+pub piece_stops : {S : Type 0} (it : Behaviour S) (ended : Option Broken) (most : ℕ) (held i j keeps more : List ℕ) (a b : Moment S) → ¬ (ended ≡ None) → PieceOutcome it ended most held i keeps a b → PieceOutcome it ended most held (i ++ j) more a b
+piece_stops it ended most held i j keeps more a b other one = record {
   whole = λ e. absurd (other e);
   broken = λ e rest. rw (append_assoc i j rest) (one.broken e (j ++ rest));
   stopped = λ e rest. rw (append_assoc i j rest) (one.stopped e (j ++ rest));
@@ -242,9 +243,9 @@ piece_stops ended most held i j keeps more a b other one = record {
 
 -- ---- a source
 
-module _ (most : ℕ) (before after : SourceView) (a b : Moment) where
+module _ {S : Type 0} (it : Behaviour S) (most : ℕ) (before after : SourceView) (a b : Moment S) where
   -- the source failed
-  pub serve_part : (input keeps : List ℕ) → Consumes before.left after.left input → PieceOutcome None most [] input keeps a b → Rose before.faults after.faults → ServeOutcome (Some cause.Source) most before after a b
+  pub serve_part : (input keeps : List ℕ) → Consumes before.left after.left input → PieceOutcome it None most [] input keeps a b → Rose before.faults after.faults → ServeOutcome it (Some cause.Source) most before after a b
   serve_part input keeps read part rose = record {
     whole = λ e. absurd cc;
     part = λ _. (input, keeps, read, part.whole refl);
@@ -258,7 +259,7 @@ module _ (most : ℕ) (before after : SourceView) (a b : Moment) where
 
   -- there was more than the most bytes
   pub serve_long : (input more keeps : List ℕ) → Consumes before.left after.left (input ++ more) → length input ≡ 1073741824 → 1 ≤ length more → length more ≤ 65536
-      → PieceOutcome None most [] input keeps a b → after.faults ≡ before.faults → ServeOutcome (Some cause.LongInput) most before after a b
+      → PieceOutcome it None most [] input keeps a b → after.faults ≡ before.faults → ServeOutcome it (Some cause.LongInput) most before after a b
   serve_long input more keeps read most some few part same = record {
     whole = λ e. absurd cc;
     part = λ e. absurd cc;
@@ -271,10 +272,10 @@ module _ (most : ℕ) (before after : SourceView) (a b : Moment) where
   }
 
   -- a line that was read whole ended it
-  pub serve_ended : (ended : Option Broken) (input keeps : List ℕ) → ¬ (ended ≡ None) → Consumes before.left after.left input → PieceOutcome ended most [] input keeps a b → after.faults ≡ before.faults → ServeOutcome ended most before after a b
+  pub serve_ended : (ended : Option Broken) (input keeps : List ℕ) → ¬ (ended ≡ None) → Consumes before.left after.left input → PieceOutcome it ended most [] input keeps a b → after.faults ≡ before.faults → ServeOutcome it ended most before after a b
   serve_ended ended input keeps other read part same = go part.one_of
     where
-      go : (ended ≡ None) ⊎ (ended ≡ Some cause.Sink) ⊎ (ended ≡ Some cause.Files) → ServeOutcome ended most before after a b
+      go : (ended ≡ None) ⊎ (ended ≡ Some cause.Sink) ⊎ (ended ≡ Some cause.Files) → ServeOutcome it ended most before after a b
       go (inl e) = absurd (other e)
       go (inr (inl e)) = record {
         whole = λ z. absurd (other z);
@@ -298,19 +299,19 @@ module _ (most : ℕ) (before after : SourceView) (a b : Moment) where
       }
 
   -- the source is at its end
-  pub serve_end : (ended : Option Broken) (input keeps : List ℕ) (middle : Moment) → Consumes before.left after.left input → IsAtEnd after.left → length input ≤ 1073741824
-      → PieceOutcome None most [] input keeps a middle → LineOutcome ended (commands_from keeps []) middle b → after.faults ≡ before.faults → ServeOutcome ended most before after a b
+  pub serve_end : (ended : Option Broken) (input keeps : List ℕ) (middle : Moment S) → Consumes before.left after.left input → IsAtEnd after.left → length input ≤ 1073741824
+      → PieceOutcome it None most [] input keeps a middle → LineOutcome it ended (commands_from keeps []) middle b → after.faults ≡ before.faults → ServeOutcome it ended most before after a b
   serve_end ended input keeps middle read end few part last same = record {
-    whole = λ e. (input, read, end, few, rw (← append-nil input) (all_after most _ _ _ a middle b part [] (last.whole e)));
+    whole = λ e. (input, read, end, few, rw (← append-nil input) (all_after it most _ _ _ a middle b part [] (last.whole e)));
     part = λ z. absurd (none (Some cause.Source) (λ e. cc) (λ e. cc) (λ e. cc) z last.one_of);
     long = λ z. absurd (none (Some cause.LongInput) (λ e. cc) (λ e. cc) (λ e. cc) z last.one_of);
     broken = λ e. (
       input,
       read,
-      inr (end, rw (← append-nil input) (breaks_after most _ _ _ a middle b part [] (λ saved. breaks_as _ _ _ _ _ _ (λ image carried. carried) 0 most _ (λ _. refl) (last.broken e saved)))),
+      inr (end, rw (← append-nil input) (breaks_after it most _ _ _ a middle b part [] (λ saved. breaks_as it _ _ _ _ _ _ (λ image carried. carried) 0 most _ (λ _. refl) (last.broken e saved)))),
     );
-    stopped = λ e. (input, read, inr (end, rw (← append-nil input) (stops_after most _ _ _ a middle b part [] (last.stopped e))));
-    keeps = keeps_then ended a middle b part.keeps_files last.keeps;
+    stopped = λ e. (input, read, inr (end, rw (← append-nil input) (stops_after it most _ _ _ a middle b part [] (last.stopped e))));
+    keeps = keeps_then it ended a middle b part.keeps_files last.keeps;
     first = first_with_source ended before.faults after.faults (counts 0 a.faults a.files) (counts 0 b.faults b.files) (λ z. none (Some cause.Source) (λ e. cc) (λ e. cc) (λ e. cc) z last.one_of) same first;
     complete = λ all reported small calm quiet still. elim last.one_of [
       | inl e ↦ e

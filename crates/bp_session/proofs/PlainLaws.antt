@@ -23,11 +23,12 @@ use Rattle.bp_layout.specs.Words.{Image}
 use Rattle.bp_plain.specs.Calls.{Call, Answer}
 use Rattle.bp_roles.specs.Mounted.{SameDurable, by_roles, served_words}
 use Rattle.bp_roles.proofs.Likeness.{durable_symmetric}
-use Rattle.bp_volume.specs.Called.{Called, ClearsAll}
-use Rattle.bp_volume.specs.Called.Called.{at_once, cleared}
-use Rattle.bp_volume.specs.FileCall.{FileCall}
-use Rattle.bp_volume.specs.Step.{StepFor}
-use Rattle.bp_volume.specs.Step.StepFor.{no_room, no_listing, no_snap_listing, unchanged, changed}
+use Rattle.bp_fs.specs.ByWords.{by_words}
+use Rattle.bp_fs.specs.Called.{Called, ClearsAll}
+use Rattle.bp_fs.specs.Called.Called.{at_once, cleared}
+use Rattle.bp_fs.specs.FileCall.{FileCall}
+use Rattle.bp_fs.specs.Step.{StepFor}
+use Rattle.bp_fs.specs.Step.StepFor.{no_room, no_listing, no_snap_listing, unchanged, changed}
 use Rattle.bp_plain.specs.Plain.{plain, is_changing, refusal, changes}
 use Rattle.bp_session.specs.Session.{State, Crashes, SessionLine, RefusesCut, Session}
 use Rattle.bp_script.specs.Commands.{Command}
@@ -254,22 +255,22 @@ called_follows old new p call answer before (cleared {between = between} is some
 
 -- ---- lines
 
-pub record Follower (old : State) (p : PlainState) (command : Command) (reply : LineReply) (new : State) : Type 0 where
+pub record Follower (old : State Memory) (p : PlainState) (command : Command) (reply : LineReply) (new : State Memory) : Type 0 where
   pub plain : PlainState
   pub line : PlainLine p command reply plain
-  pub follows : FollowsPlainState new.memory plain
+  pub follows : FollowsPlainState new.system plain
 
 -- a crash that keeps as many calls
-crash_follower : (old : State) (p : PlainState) (command : Command) (cut : PowerCut) (count : ℕ) (reply : LineReply) (new : State) → FollowsPlainState old.memory p → Crashes old cut reply new → kept_calls old.memory.events cut ≡ count
+crash_follower : (old : State Memory) (p : PlainState) (command : Command) (cut : PowerCut) (count : ℕ) (reply : LineReply) (new : State Memory) → FollowsPlainState old.system p → Crashes by_words old cut reply new → kept_calls old.system.events cut ≡ count
     → ((plain : PlainState) → PlainCrashes p count reply plain → PlainLine p command reply plain) → Follower old p command reply new
 crash_follower old p command cut count reply new before does is line = record {
   plain = fresh (after_crash p count);
   line = line _ (record {
-    few = omega (arith, kept_calls-le old.memory.events cut, is, before.calls);
-    reported = does.reported ∙ ap (λ n. kept_of n (call_ends old.memory.events)) is ∙ ap (λ n. kept_of count n) before.calls;
+    few = omega (arith, kept_calls-le old.system.events cut, is, before.calls);
+    reported = does.reported ∙ ap (λ n. kept_of n (call_ends old.system.events)) is ∙ ap (λ n. kept_of count n) before.calls;
     leaves = refl;
   });
-  follows = rw (does.done, ← is) (follows_crash old.memory p cut before does.right);
+  follows = rw (does.done, ← is) (follows_crash old.system p cut before does.right);
 }
 
 -- the calls that changed nothing left the certain tree
@@ -281,33 +282,33 @@ certain_tree memory p before count low =
 nothing_right : (events : List Event) → IsRight events (cut_for events nothing)
 nothing_right events = record { moment = omega arith; epoch = omega arith; mask = omega arith }
 
-nothing_follower : (old : State) (p : PlainState) (reply : LineReply) (new : State) → FollowsPlainState old.memory p → Crashes old (cut_for old.memory.events nothing) reply new → Follower old p (crash nothing) reply new
+nothing_follower : (old : State Memory) (p : PlainState) (reply : LineReply) (new : State Memory) → FollowsPlainState old.system p → Crashes by_words old (cut_for old.system.events nothing) reply new → Follower old p (crash nothing) reply new
 nothing_follower old p reply new before does =
-    let cut = cut_for old.memory.events nothing in
-    let unchanged = certain_tree old.memory p before in
-    let is : after_crash p (kept_calls old.memory.events cut) ≡ p.certain = unchanged (kept_calls old.memory.events cut) (omega arith) in
+    let cut = cut_for old.system.events nothing in
+    let unchanged = certain_tree old.system p before in
+    let is : after_crash p (kept_calls old.system.events cut) ≡ p.certain = unchanged (kept_calls old.system.events cut) (omega arith) in
     record {
       plain = fresh p.certain;
       line = record {
-        count = kept_calls old.memory.events cut;
-        few = omega (arith, kept_calls-le old.memory.events cut, before.calls);
+        count = kept_calls old.system.events cut;
+        few = omega (arith, kept_calls-le old.system.events cut, before.calls);
         unchanged = unchanged;
-        reported = does.reported ∙ ap (λ n. kept_of (kept_calls old.memory.events cut) n) before.calls;
+        reported = does.reported ∙ ap (λ n. kept_of (kept_calls old.system.events cut) n) before.calls;
         leaves = refl;
       };
-      follows = rw (does.done, ← is) (follows_crash old.memory p cut before does.right);
+      follows = rw (does.done, ← is) (follows_crash old.system p cut before does.right);
     }
 
-refused_follower : (old : State) (p : PlainState) (moment epoch : ℕ) (mask : List ℕ) (reply : LineReply) (new : State) → FollowsPlainState old.memory p → RefusesCut old (cut_for old.memory.events (at moment epoch mask)) reply new → Follower old p (crash (at moment epoch mask)) reply new
+refused_follower : (old : State Memory) (p : PlainState) (moment epoch : ℕ) (mask : List ℕ) (reply : LineReply) (new : State Memory) → FollowsPlainState old.system p → RefusesCut by_words old (cut_for old.system.events (at moment epoch mask)) reply new → Follower old p (crash (at moment epoch mask)) reply new
 refused_follower old p moment epoch mask reply new before does = record {
   plain = p;
   line = inl (record { reported = does.reported; same = refl });
   follows = rw does.same before;
 }
 
-pub plain_line : (old : State) (p : PlainState) (command : Command) (reply : LineReply) (new : State) → FollowsPlainState old.memory p → SessionLine old command reply new → Follower old p command reply new
+pub plain_line : (old : State Memory) (p : PlainState) (command : Command) (reply : LineReply) (new : State Memory) → FollowsPlainState old.system p → SessionLine by_words old command reply new → Follower old p command reply new
 plain_line old p (file_call call) reply new before line =
-    let next = called_follows old.memory new.memory p call line.answer before line.does in
+    let next = called_follows old.system new.system p call line.answer before line.does in
     record {
       plain = next.plain;
       line = record { answer = line.answer; tree = next.tree; reported = line.reported; does = next.does; goes_on = next.goes_on };
@@ -316,17 +317,17 @@ plain_line old p (file_call call) reply new before line =
 plain_line old p sync reply new before line = record {
   plain = fresh (tree_now p);
   line = (line.reported, refl);
-  follows = rw line.done (follows_fresh (drained old.memory) (tree_now p) refl before.now);
+  follows = rw line.done (follows_fresh (drained old.system) (tree_now p) refl before.now);
 }
 plain_line old p space reply new before line = record {
   plain = p;
   line = record { free = line.free; live = line.live; reported = line.reported; same = refl };
   follows = rw line.same before;
 }
-plain_line old p (crash all) reply new before (inl does) = crash_follower old p (crash all) _ (length p.since) reply new before does (kept_calls_all old.memory.events ∙ before.calls) (λ plain line. line)
-plain_line old p (crash all) reply new before (inr does) = absurd (does.wrong (right_all old.memory.events))
+plain_line old p (crash all) reply new before (inl does) = crash_follower old p (crash all) _ (length p.since) reply new before does (kept_calls_all old.system.events ∙ before.calls) (λ plain line. line)
+plain_line old p (crash all) reply new before (inr does) = absurd (does.wrong (right_all old.system.events))
 plain_line old p (crash nothing) reply new before (inl does) = nothing_follower old p reply new before does
-plain_line old p (crash nothing) reply new before (inr does) = absurd (does.wrong (nothing_right old.memory.events))
+plain_line old p (crash nothing) reply new before (inr does) = absurd (does.wrong (nothing_right old.system.events))
 plain_line old p (crash (at moment epoch mask)) reply new before (inl does) = crash_follower old p (crash (at moment epoch mask)) _ _ reply new before does refl (λ plain line. inr (record { count = _; crashes = line }))
 plain_line old p (crash (at moment epoch mask)) reply new before (inr does) = refused_follower old p moment epoch mask reply new before does
 plain_line old p (storm seed) reply new before does = crash_follower old p (storm seed) _ _ reply new before does refl (λ plain line. record { count = _; crashes = line })
@@ -334,7 +335,7 @@ plain_line old p (cache seed) reply new before (inl does) = crash_follower old p
 plain_line old p (cache seed) reply new before (inr reports) = record { plain = p; line = inl (record { reported = reports.reported; same = refl }); follows = rw reports.same before }
 plain_line old p log reply new before line = record {
   plain = p;
-  line = record { events = _; barriers = _; reported = line.reported ∙ ap (λ n. log_of (length old.memory.events) (barriers old.memory.events) n) before.calls; same = refl };
+  line = record { events = _; barriers = _; reported = line.reported ∙ ap (λ n. log_of (length old.system.events) (barriers old.system.events) n) before.calls; same = refl };
   follows = rw line.same before;
 }
 plain_line old p bad_syntax reply new before line = record { plain = p; line = record { reported = line.reported; same = refl }; follows = rw line.same before }
@@ -342,12 +343,12 @@ plain_line old p too_long reply new before line = record { plain = p; line = rec
 
 -- ---- sessions
 
-pub record PlainRun (p : PlainState) (commands : List Command) (replies : List LineReply) (new : State) : Type 0 where
+pub record PlainRun (p : PlainState) (commands : List Command) (replies : List LineReply) (new : State Memory) : Type 0 where
   pub plain : PlainState
   pub session : PlainSession p commands replies plain
-  pub follows : FollowsPlainState new.memory plain
+  pub follows : FollowsPlainState new.system plain
 
-pub plain_session : (old : State) (p : PlainState) (commands : List Command) (replies : List LineReply) (new : State) → FollowsPlainState old.memory p → Session old commands replies new → PlainRun p commands replies new
+pub plain_session : (old : State Memory) (p : PlainState) (commands : List Command) (replies : List LineReply) (new : State Memory) → FollowsPlainState old.system p → Session by_words old commands replies new → PlainRun p commands replies new
 plain_session old p [] [] new before same = record { plain = p; session = refl; follows = rw same before }
 plain_session old p [] (reply ∷ replies) new before never = absurd never
 plain_session old p (command ∷ commands) [] new before never = absurd never
@@ -357,16 +358,16 @@ plain_session old p (command ∷ commands) (reply ∷ replies) new before (middl
     record { plain = later.plain; session = (first.plain, first.line, later.session); follows = later.follows }
 
 -- a session is the plain tree's, at its end and after each of its lines
-pub is_plainly : (old : State) (tree : FileTree) (commands : List Command) (replies : List LineReply) (new : State) → old.memory.events ≡ [] → Stands (by_roles old.memory.base) tree → Session old commands replies new → IsPlainly tree commands replies new.memory
+pub is_plainly : (old : State Memory) (tree : FileTree) (commands : List Command) (replies : List LineReply) (new : State Memory) → old.system.events ≡ [] → Stands (by_roles old.system.base) tree → Session by_words old commands replies new → IsPlainly tree commands replies new.system
 is_plainly old tree commands replies new empty stands session =
-    let run = plain_session old (fresh tree) commands replies new (follows_fresh old.memory tree empty stands) session in
+    let run = plain_session old (fresh tree) commands replies new (follows_fresh old.system tree empty stands) session in
     record { plain = run.plain; session = run.session; follows = run.follows }
 
-pub follows_tree : (old : State) (tree : FileTree) (commands : List Command) (replies : List LineReply) (new : State) → old.memory.events ≡ [] → Stands (by_roles old.memory.base) tree → Session old commands replies new → FollowsTree tree old commands replies new
+pub follows_tree : (old : State Memory) (tree : FileTree) (commands : List Command) (replies : List LineReply) (new : State Memory) → old.system.events ≡ [] → Stands (by_roles old.system.base) tree → Session by_words old commands replies new → FollowsTree tree old commands replies new
 follows_tree old tree commands replies new empty stands session = record {
   whole = is_plainly old tree commands replies new empty stands session;
   prefixes = λ first rest are.
-      let parts = session_split old new first rest replies (rw are at session) in
+      let parts = session_split by_words old new first rest replies (rw are at session) in
       record {
         middle = parts.0;
         prefix = parts.1;

@@ -3,6 +3,7 @@ use Rattle.std.proofs.Common.{refl, sym, subst, ◌∙◌, ap, arith, ◌≡◌,
 use Rattle.std.proofs.lemmas.List.{get_or-take}
 use Rattle.std.proofs.Math.Seq.{take-add}
 use Rattle.std.specs.Prelude.{Some, None, Option}
+use Rattle.bp_fs.specs.Behaviour.{Behaviour}
 use Rattle.bp_limits.specs.Limits.{max_line}
 use Rattle.memchr.specs.Find.{IsFirst, IsFirstByte, Nowhere, Passes, is_byte}
 use Rattle.bp_session.specs.Lines.{commands_from}
@@ -62,26 +63,26 @@ module _ (xs : List ℕ) (from to : ℕ) where
             go false e = e
 
 -- a line that a fault ends
-pub line_stops : (ended : Option Broken) (most : ℕ) (xs held keeps : List ℕ) (next count : ℕ) (a b : Moment) → ¬ (ended ≡ None) → next ≤ count → PieceOutcome ended most held (take next xs) keeps a b → PieceOutcome ended most held (take count xs) keeps a b
-line_stops ended most xs held keeps next count a b other low one =
-    subst (λ (l : List ℕ). PieceOutcome ended most held l keeps a b) (take_more xs next count low)
-    (piece_stops ended most held (take next xs) (drop next (take count xs)) keeps keeps a b other one)
+pub line_stops : {S : Type 0} (it : Behaviour S) (ended : Option Broken) (most : ℕ) (xs held keeps : List ℕ) (next count : ℕ) (a b : Moment S) → ¬ (ended ≡ None) → next ≤ count → PieceOutcome it ended most held (take next xs) keeps a b → PieceOutcome it ended most held (take count xs) keeps a b
+line_stops it ended most xs held keeps next count a b other low one =
+    subst (λ (l : List ℕ). PieceOutcome it ended most held l keeps a b) (take_more xs next count low)
+    (piece_stops it ended most held (take next xs) (drop next (take count xs)) keeps keeps a b other one)
 
 -- ---- a piece, run by run
 
-module _ (start : Moment) (most : ℕ) (xs held middle kept a : List ℕ) (at end : ℕ) (now : Moment) (order : at ≤ end) (one : Waits start most held (take at xs) middle a now)
+module _ {S : Type 0} (it : Behaviour S) (start : Moment S) (most : ℕ) (xs held middle kept a : List ℕ) (at end : ℕ) (now : Moment S) (order : at ≤ end) (one : Waits it start most held (take at xs) middle a now)
     (same : (rest : List ℕ) → commands_from middle (take (end - at) (drop at xs) ++ rest) ≡ commands_from kept rest) where
-  pub run_waits : Waits start most held (take end xs) kept a now
-  run_waits = subst (λ (l : List ℕ). Waits start most held l kept a now) (take_part xs at end order) (waits_run start most held (take at xs) middle a now one (take (end - at) (drop at xs)) kept same)
+  pub run_waits : Waits it start most held (take end xs) kept a now
+  run_waits = subst (λ (l : List ℕ). Waits it start most held l kept a now) (take_part xs at end order) (waits_run it start most held (take at xs) middle a now one (take (end - at) (drop at xs)) kept same)
 
-  module _ (low : end < length xs) (newline : get_or xs end 0 ≡ 10) (b : List ℕ) (new : Moment) where
+  module _ (low : end < length xs) (newline : get_or xs end 0 ≡ 10) (b : List ℕ) (new : Moment S) where
     next : take end xs ++ 10 ∷ [] ≡ take (end + 1) xs
     next = sym (take_next xs end 10 low (sym newline))
 
-    pub next_waits : (most ≡ 0 → b ≡ []) → LineGathers None (command_of kept) a b now new → Waits start most held (take (end + 1) xs) [] b new
-    next_waits few line = subst (λ (l : List ℕ). Waits start most held l [] b new) next (line_waits start most held (take end xs) kept a now run_waits new b few line)
+    pub next_waits : (most ≡ 0 → b ≡ []) → LineGathers it None (command_of kept) a b now new → Waits it start most held (take (end + 1) xs) [] b new
+    next_waits few line = subst (λ (l : List ℕ). Waits it start most held l [] b new) next (line_waits it start most held (take end xs) kept a now run_waits new b few line)
 
-    pub next_ends : (ended : Option Broken) (count : ℕ) (keeps : List ℕ) → ¬ (ended ≡ None) → end + 1 ≤ count → LineGathers ended (command_of kept) a b now new → PieceOutcome ended most held (take count xs) keeps start new
+    pub next_ends : (ended : Option Broken) (count : ℕ) (keeps : List ℕ) → ¬ (ended ≡ None) → end + 1 ≤ count → LineGathers it ended (command_of kept) a b now new → PieceOutcome it ended most held (take count xs) keeps start new
     next_ends ended count keeps other inside line =
-        line_stops ended most xs held keeps (end + 1) count start new other inside
-        (subst (λ (l : List ℕ). PieceOutcome ended most held l keeps start new) next (line_ends start most held (take end xs) kept a now run_waits new ended b keeps other line))
+        line_stops it ended most xs held keeps (end + 1) count start new other inside
+        (subst (λ (l : List ℕ). PieceOutcome it ended most held l keeps start new) next (line_ends it start most held (take end xs) kept a now run_waits new ended b keeps other line))

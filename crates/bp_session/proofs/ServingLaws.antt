@@ -8,7 +8,7 @@ use Rattle.std.proofs.KnownBytes.{Appends-nil, Appends-trans}
 use Rattle.std.specs.Prelude.{Option, Some, None}
 use Rattle.std.specs.Io.KnownBytes.{Appends, Consumes}
 use Rattle.bp_limits.specs.Limits.{max_line}
-use Rattle.pm_region.specs.Memory.{Memory}
+use Rattle.bp_fs.specs.Behaviour.{Behaviour}
 use Rattle.bp_layout.specs.Words.{Image}
 use Rattle.bp_script.specs.Commands.{Command, command_of}
 use Rattle.bp_session.specs.Lines.{commands_from, lines_from}
@@ -20,11 +20,11 @@ use Rattle.bp_session.specs.Serving.{Acts, Replied, Serves, ServesAll, BreaksOff
 
 -- ---- sessions
 
-pub session_append : (old middle new : State) (xs ys : List Command) (ps qs : List LineReply) → Session old xs ps middle → Session middle ys qs new → Session old (xs ++ ys) (ps ++ qs) new
-session_append old middle new [] ys [] qs first rest = rw (← first) rest
-session_append old middle new [] ys (p ∷ ps) qs first rest = absurd first
-session_append old middle new (x ∷ xs) ys [] qs first rest = absurd first
-session_append old middle new (x ∷ xs) ys (p ∷ ps) qs (next, line, later) rest = (next, line, session_append next middle new xs ys ps qs later rest)
+pub session_append : {S : Type 0} (it : Behaviour S) (old middle new : State S) (xs ys : List Command) (ps qs : List LineReply) → Session it old xs ps middle → Session it middle ys qs new → Session it old (xs ++ ys) (ps ++ qs) new
+session_append it old middle new [] ys [] qs first rest = rw (← first) rest
+session_append it old middle new [] ys (p ∷ ps) qs first rest = absurd first
+session_append it old middle new (x ∷ xs) ys [] qs first rest = absurd first
+session_append it old middle new (x ∷ xs) ys (p ∷ ps) qs (next, line, later) rest = (next, line, session_append it next middle new xs ys ps qs later rest)
 
 pub text_append : (ps qs : List LineReply) → text_of (ps ++ qs) ≡ text_of ps ++ text_of qs
 unfolding text_of
@@ -39,18 +39,18 @@ pub text_none : text_of [] ≡ []
 unfolding text_of
 text_none = refl
 
-pub reported_none : (s : State) (t : Option (List ℕ)) → Replied s s [] t t
-reported_none s t = record { replies = []; session = refl; taken = rw text_none (Appends-nil t) }
+pub reported_none : {S : Type 0} (it : Behaviour S) (s : State S) (t : Option (List ℕ)) → Replied it s s [] t t
+reported_none it s t = record { replies = []; session = refl; taken = rw text_none (Appends-nil t) }
 
-pub reported_then : (a b c : State) (xs ys : List Command) (t u v : Option (List ℕ)) → Replied a b xs t u → Replied b c ys u v → Replied a c (xs ++ ys) t v
-reported_then a b c xs ys t u v first rest = record {
+pub reported_then : {S : Type 0} (it : Behaviour S) (a b c : State S) (xs ys : List Command) (t u v : Option (List ℕ)) → Replied it a b xs t u → Replied it b c ys u v → Replied it a c (xs ++ ys) t v
+reported_then it a b c xs ys t u v first rest = record {
   replies = first.replies ++ rest.replies;
-  session = session_append a b c xs ys first.replies rest.replies first.session rest.session;
+  session = session_append it a b c xs ys first.replies rest.replies first.session rest.session;
   taken = rw (text_append first.replies rest.replies) (Appends-trans t u v _ _ first.taken rest.taken);
 }
 
-pub reported_one : (a b : State) (x : Command) (p : LineReply) (t u : Option (List ℕ)) → SessionLine a x p b → Appends t u (reply_text p) → Replied a b (x ∷ []) t u
-reported_one a b x p t u line taken = record { replies = p ∷ []; session = (b, line, refl); taken = rw (text_one p) taken }
+pub reported_one : {S : Type 0} (it : Behaviour S) (a b : State S) (x : Command) (p : LineReply) (t u : Option (List ℕ)) → SessionLine it a x p b → Appends t u (reply_text p) → Replied it a b (x ∷ []) t u
+reported_one it a b x p t u line taken = record { replies = p ∷ []; session = (b, line, refl); taken = rw (text_one p) taken }
 
 -- ---- lines
 
@@ -107,14 +107,14 @@ commands_of_nothing = refl
 
 -- ---- serving
 
-module _ (holds : Image → Type 0) where
+module _ {S : Type 0} (it : Behaviour S) (holds : Image → Type 0) where
   -- input that ends no line
-  pub serves_quietly : (memory : Memory) (saved : Image) (held input keeps : List ℕ) (t : Option (List ℕ)) → holds saved → ((rest : List ℕ) → commands_from held (input ++ rest) ≡ commands_from keeps rest) → Serves (state memory saved) memory holds held input keeps t t
-  serves_quietly memory saved held input keeps t file same = record { commands = []; lines = same; after = saved; file = file; reported = reported_none (state memory saved) t }
+  pub serves_quietly : (system : S) (saved : Image) (held input keeps : List ℕ) (t : Option (List ℕ)) → holds saved → ((rest : List ℕ) → commands_from held (input ++ rest) ≡ commands_from keeps rest) → Serves it (state system saved) system holds held input keeps t t
+  serves_quietly system saved held input keeps t file same = record { commands = []; lines = same; after = saved; file = file; reported = reported_none it (state system saved) t }
 
-  pub breaks_line : (most : ℕ) (old : State) (memory : Memory) (command : Command) (more : List Command) (reply : LineReply) (count : ℕ) (t u : Option (List ℕ)) → Acts old memory holds command reply → count < length (reply_text reply) → Appends t u (take count (reply_text reply))
-      → BreaksOff most old memory holds (command ∷ more) t u
-  breaks_line most old memory command more reply count t u acts low taken = record {
+  pub breaks_line : (most : ℕ) (old : State S) (system : S) (command : Command) (more : List Command) (reply : LineReply) (count : ℕ) (t u : Option (List ℕ)) → Acts it old system holds command reply → count < length (reply_text reply) → Appends t u (take count (reply_text reply))
+      → BreaksOff it most old system holds (command ∷ more) t u
+  breaks_line most old system command more reply count t u acts low taken = record {
     prefix = [];
     last = command;
     ahead = [];
@@ -124,7 +124,7 @@ module _ (holds : Image → Type 0) where
     replies = [];
     session = refl;
     reply = reply;
-    reached = state memory acts.after;
+    reached = state system acts.after;
     line = acts.line;
     unheard = [];
     after = acts.after;
@@ -139,15 +139,15 @@ module _ (holds : Image → Type 0) where
 
 -- ---- what is said of the file, in other words
 
-module _ (old : State) (memory : Memory) (t u : Option (List ℕ)) where
+module _ {S : Type 0} (it : Behaviour S) (old : State S) (system : S) (t u : Option (List ℕ)) where
   module _ (holds says : Image → Type 0) (f : (image : Image) → holds image → says image) where
-    pub serves_as : (held input keeps : List ℕ) → Serves old memory holds held input keeps t u → Serves old memory says held input keeps t u
+    pub serves_as : (held input keeps : List ℕ) → Serves it old system holds held input keeps t u → Serves it old system says held input keeps t u
     serves_as held input keeps served = record { commands = served.commands; lines = served.lines; after = served.after; file = f served.after served.file; reported = served.reported }
 
-    pub all_as : (commands : List Command) → ServesAll old memory holds commands t u → ServesAll old memory says commands t u
+    pub all_as : (commands : List Command) → ServesAll it old system holds commands t u → ServesAll it old system says commands t u
     all_as commands all = record { after = all.after; file = f all.after all.file; reported = all.reported }
 
-    pub breaks_as : (most least : ℕ) (commands : List Command) → (least ≡ 0 → most ≡ 0) → BreaksOff most old memory holds commands t u → BreaksOff least old memory says commands t u
+    pub breaks_as : (most least : ℕ) (commands : List Command) → (least ≡ 0 → most ≡ 0) → BreaksOff it most old system holds commands t u → BreaksOff it least old system says commands t u
     breaks_as most least commands none broken = record {
       prefix = broken.prefix;
       last = broken.last;
@@ -171,7 +171,7 @@ module _ (old : State) (memory : Memory) (t u : Option (List ℕ)) where
       taken = broken.taken;
     }
 
-  pub stops_as : (partly says : Image → Image → Type 0) → ((first second : Image) → partly first second → says first second) → (commands : List Command) → StopsAtSave old memory partly commands t u → StopsAtSave old memory says commands t u
+  pub stops_as : (partly says : Image → Image → Type 0) → ((first second : Image) → partly first second → says first second) → (commands : List Command) → StopsAtSave it old system partly commands t u → StopsAtSave it old system says commands t u
   stops_as partly says f commands stop = record {
     prefix = stop.prefix;
     last = stop.last;
@@ -183,18 +183,18 @@ module _ (old : State) (memory : Memory) (t u : Option (List ℕ)) where
   }
 
 -- one piece after another
-pub serves_then : (old : State) (middle new : Memory) (first second : Image → Type 0) (a i b j c : List ℕ) (t u v : Option (List ℕ)) → (one : Serves old middle first a i b t u)
-    → Serves (state middle one.after) new second b j c u v → Serves old new second a (i ++ j) c t v
-serves_then old middle new first second a i b j c t u v one two = record {
+pub serves_then : {S : Type 0} (it : Behaviour S) (old : State S) (middle new : S) (first second : Image → Type 0) (a i b j c : List ℕ) (t u v : Option (List ℕ)) → (one : Serves it old middle first a i b t u)
+    → Serves it (state middle one.after) new second b j c u v → Serves it old new second a (i ++ j) c t v
+serves_then it old middle new first second a i b j c t u v one two = record {
   commands = one.commands ++ two.commands;
   lines = λ rest. rw (append_assoc i j rest) (one.lines (j ++ rest) ∙ ap (λ cs. one.commands ++ cs) (two.lines rest) ∙ sym (append_assoc one.commands two.commands (commands_from c rest)));
   after = two.after;
   file = two.file;
-  reported = reported_then old (state middle one.after) (state new two.after) one.commands two.commands t u v one.reported two.reported;
+  reported = reported_then it old (state middle one.after) (state new two.after) one.commands two.commands t u v one.reported two.reported;
 }
 
-pub breaks_then : (most : ℕ) (old middle : State) (new : Memory) (holds : Image → Type 0) (xs ys : List Command) (t u v : Option (List ℕ)) → Replied old middle xs t u → BreaksOff most middle new holds ys u v → BreaksOff most old new holds (xs ++ ys) t v
-breaks_then most old middle new holds xs ys t u v first broken = record {
+pub breaks_then : {S : Type 0} (it : Behaviour S) (most : ℕ) (old middle : State S) (new : S) (holds : Image → Type 0) (xs ys : List Command) (t u v : Option (List ℕ)) → Replied it old middle xs t u → BreaksOff it most middle new holds ys u v → BreaksOff it most old new holds (xs ++ ys) t v
+breaks_then it most old middle new holds xs ys t u v first broken = record {
   prefix = xs ++ broken.prefix;
   last = broken.last;
   ahead = broken.ahead;
@@ -202,7 +202,7 @@ breaks_then most old middle new holds xs ys t u v first broken = record {
   are = ap (λ cs. xs ++ cs) broken.are ∙ sym (append_assoc xs (broken.prefix ++ broken.last ∷ broken.ahead) broken.more) ∙ ap (λ cs. cs ++ broken.more) (sym (append_assoc xs broken.prefix (broken.last ∷ broken.ahead)));
   middle = broken.middle;
   replies = first.replies ++ broken.replies;
-  session = session_append old middle broken.middle xs broken.prefix first.replies broken.replies first.session broken.session;
+  session = session_append it old middle broken.middle xs broken.prefix first.replies broken.replies first.session broken.session;
   reply = broken.reply;
   reached = broken.reached;
   line = broken.line;
@@ -217,28 +217,28 @@ breaks_then most old middle new holds xs ys t u v first broken = record {
   taken = rw (text_append first.replies broken.replies, append_assoc (text_of first.replies) (text_of broken.replies) (take broken.count (reply_text broken.reply))) (Appends-trans t u v _ _ first.taken broken.taken);
 }
 
-pub stops_then : (old middle : State) (new : Memory) (partly : Image → Image → Type 0) (xs ys : List Command) (t u v : Option (List ℕ)) → Replied old middle xs t u → StopsAtSave middle new partly ys u v → StopsAtSave old new partly (xs ++ ys) t v
-stops_then old middle new partly xs ys t u v first stop = record {
+pub stops_then : {S : Type 0} (it : Behaviour S) (old middle : State S) (new : S) (partly : Image → Image → Type 0) (xs ys : List Command) (t u v : Option (List ℕ)) → Replied it old middle xs t u → StopsAtSave it middle new partly ys u v → StopsAtSave it old new partly (xs ++ ys) t v
+stops_then it old middle new partly xs ys t u v first stop = record {
   prefix = xs ++ stop.prefix;
   last = stop.last;
   more = stop.more;
   are = ap (λ cs. xs ++ cs) stop.are ∙ sym (append_assoc xs stop.prefix (stop.last ∷ stop.more));
   middle = stop.middle;
-  reported = reported_then old middle stop.middle xs stop.prefix t u v first stop.reported;
+  reported = reported_then it old middle stop.middle xs stop.prefix t u v first stop.reported;
   fails = stop.fails;
 }
 
 -- ---- what a line's end adds
 
-pub serves_one : (old : State) (memory : Memory) (holds : Image → Type 0) (command : Command) (reply : LineReply) (t u : Option (List ℕ)) → Acts old memory holds command reply → Appends t u (reply_text reply) → ServesAll old memory holds (command ∷ []) t u
-serves_one old memory holds command reply t u acts taken = record {
+pub serves_one : {S : Type 0} (it : Behaviour S) (old : State S) (system : S) (holds : Image → Type 0) (command : Command) (reply : LineReply) (t u : Option (List ℕ)) → Acts it old system holds command reply → Appends t u (reply_text reply) → ServesAll it old system holds (command ∷ []) t u
+serves_one it old system holds command reply t u acts taken = record {
   after = acts.after;
   file = acts.file;
-  reported = reported_one old (state memory acts.after) command reply t u acts.line taken;
+  reported = reported_one it old (state system acts.after) command reply t u acts.line taken;
 }
 
-pub serves_newline : (old : State) (memory : Memory) (holds : Image → Type 0) (held : List ℕ) (t u : Option (List ℕ)) → ServesAll old memory holds (command_of held ∷ []) t u → Serves old memory holds held (10 ∷ []) [] t u
-serves_newline old memory holds held t u all = record {
+pub serves_newline : {S : Type 0} (it : Behaviour S) (old : State S) (system : S) (holds : Image → Type 0) (held : List ℕ) (t u : Option (List ℕ)) → ServesAll it old system holds (command_of held ∷ []) t u → Serves it old system holds held (10 ∷ []) [] t u
+serves_newline it old system holds held t u all = record {
   commands = command_of held ∷ [];
   lines = λ rest. commands_at_newline held rest;
   after = all.after;
@@ -246,8 +246,8 @@ serves_newline old memory holds held t u all = record {
   reported = all.reported;
 }
 
-pub breaks_later : (most : ℕ) (old : State) (memory : Memory) (holds : Image → Type 0) (xs following : List Command) (t u : Option (List ℕ)) → BreaksOff most old memory holds xs t u → BreaksOff most old memory holds (xs ++ following) t u
-breaks_later most old memory holds xs following t u broken = record {
+pub breaks_later : {S : Type 0} (it : Behaviour S) (most : ℕ) (old : State S) (system : S) (holds : Image → Type 0) (xs following : List Command) (t u : Option (List ℕ)) → BreaksOff it most old system holds xs t u → BreaksOff it most old system holds (xs ++ following) t u
+breaks_later it most old system holds xs following t u broken = record {
   prefix = broken.prefix;
   last = broken.last;
   ahead = broken.ahead;
@@ -270,8 +270,8 @@ breaks_later most old memory holds xs following t u broken = record {
   taken = broken.taken;
 }
 
-pub stops_later : (old : State) (memory : Memory) (partly : Image → Image → Type 0) (xs following : List Command) (t u : Option (List ℕ)) → StopsAtSave old memory partly xs t u → StopsAtSave old memory partly (xs ++ following) t u
-stops_later old memory partly xs following t u stop = record {
+pub stops_later : {S : Type 0} (it : Behaviour S) (old : State S) (system : S) (partly : Image → Image → Type 0) (xs following : List Command) (t u : Option (List ℕ)) → StopsAtSave it old system partly xs t u → StopsAtSave it old system partly (xs ++ following) t u
+stops_later it old system partly xs following t u stop = record {
   prefix = stop.prefix;
   last = stop.last;
   more = stop.more ++ following;
@@ -283,18 +283,18 @@ stops_later old memory partly xs following t u stop = record {
 
 -- ---- what is after a piece that was served
 
-module _ (old : State) (middle : Memory) (first : Image → Type 0) (a i b : List ℕ) (t u v : Option (List ℕ)) (one : Serves old middle first a i b t u) where
-  pub breaks_in : (most : ℕ) (new : Memory) (holds : Image → Type 0) (j : List ℕ) → BreaksOff most (state middle one.after) new holds (commands_from b j) u v → BreaksOff most old new holds (commands_from a (i ++ j)) t v
-  breaks_in most new holds j broken = rw (one.lines j) (breaks_then most old (state middle one.after) new holds one.commands (commands_from b j) t u v one.reported broken)
+module _ {S : Type 0} (it : Behaviour S) (old : State S) (middle : S) (first : Image → Type 0) (a i b : List ℕ) (t u v : Option (List ℕ)) (one : Serves it old middle first a i b t u) where
+  pub breaks_in : (most : ℕ) (new : S) (holds : Image → Type 0) (j : List ℕ) → BreaksOff it most (state middle one.after) new holds (commands_from b j) u v → BreaksOff it most old new holds (commands_from a (i ++ j)) t v
+  breaks_in most new holds j broken = rw (one.lines j) (breaks_then it most old (state middle one.after) new holds one.commands (commands_from b j) t u v one.reported broken)
 
-  pub stops_in : (new : Memory) (partly : Image → Image → Type 0) (j : List ℕ) → StopsAtSave (state middle one.after) new partly (commands_from b j) u v → StopsAtSave old new partly (commands_from a (i ++ j)) t v
-  stops_in new partly j stop = rw (one.lines j) (stops_then old (state middle one.after) new partly one.commands (commands_from b j) t u v one.reported stop)
+  pub stops_in : (new : S) (partly : Image → Image → Type 0) (j : List ℕ) → StopsAtSave it (state middle one.after) new partly (commands_from b j) u v → StopsAtSave it old new partly (commands_from a (i ++ j)) t v
+  stops_in new partly j stop = rw (one.lines j) (stops_then it old (state middle one.after) new partly one.commands (commands_from b j) t u v one.reported stop)
 
-  pub serves_to_end : (new : Memory) (holds : Image → Type 0) (j : List ℕ) → ServesAll (state middle one.after) new holds (commands_from b j) u v → ServesAll old new holds (commands_from a (i ++ j)) t v
+  pub serves_to_end : (new : S) (holds : Image → Type 0) (j : List ℕ) → ServesAll it (state middle one.after) new holds (commands_from b j) u v → ServesAll it old new holds (commands_from a (i ++ j)) t v
   serves_to_end new holds j all = rw (one.lines j) (record {
     after = all.after;
     file = all.file;
-    reported = reported_then old (state middle one.after) (state new all.after) one.commands (commands_from b j) t u v one.reported all.reported;
+    reported = reported_then it old (state middle one.after) (state new all.after) one.commands (commands_from b j) t u v one.reported all.reported;
   })
 
 -- ---- bytes of a piece
@@ -316,12 +316,12 @@ take_more (x ∷ xs) zero m low = refl
 take_more (x ∷ xs) (suc n) zero low = absurd (omega arith)
 take_more (x ∷ xs) (suc n) (suc m) low = ap (λ l. x ∷ l) (take_more xs n m (omega arith))
 
-pub session_split : (old new : State) (first rest : List Command) (replies : List LineReply) → Session old (first ++ rest) replies new →
-    (middle : State) × (prefix : List LineReply) × (following : List LineReply) × (replies ≡ prefix ++ following) × Session old first prefix middle × Session middle rest following new
-session_split old new [] rest replies session = (old, [], replies, refl, refl, session)
-session_split old new (x ∷ first) rest [] session = absurd session
-session_split old new (x ∷ first) rest (p ∷ replies) (next, line, later) =
-    let more = session_split next new first rest replies later in
+pub session_split : {S : Type 0} (it : Behaviour S) (old new : State S) (first rest : List Command) (replies : List LineReply) → Session it old (first ++ rest) replies new →
+    (middle : State S) × (prefix : List LineReply) × (following : List LineReply) × (replies ≡ prefix ++ following) × Session it old first prefix middle × Session it middle rest following new
+session_split it old new [] rest replies session = (old, [], replies, refl, refl, session)
+session_split it old new (x ∷ first) rest [] session = absurd session
+session_split it old new (x ∷ first) rest (p ∷ replies) (next, line, later) =
+    let more = session_split it next new first rest replies later in
     (more.0, p ∷ more.1, more.2, ap (λ ps. p ∷ ps) more.3, (next, line, more.4), more.5)
 
 pub not_long : (left after : Option (List ℕ)) (input first more : List ℕ) → left ≡ Some input → length input ≤ 1073741824 → Consumes left after (first ++ more) → length first ≡ 1073741824 → 1 ≤ length more → ⊥

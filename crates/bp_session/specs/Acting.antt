@@ -1,12 +1,11 @@
--- The outcomes of a line, and the effect of a command on a region.
+-- The outcomes of a line, and the effect of a command on a file system.
 use Rattle.std.specs.Prelude.{◌≡◌, ◌⊎◌, ℕ, Bool, List, ⊤, false, length, true}
-use Rattle.bp_limits.specs.Limits.{call_room}
+use Rattle.bp_fs.specs.Behaviour.{Behaviour, KeepsDrained}
 use Rattle.pm_epochs.specs.Log.{call_ends}
 use Rattle.pm_epochs.specs.Replay.{PowerCut, IsRight, kept_calls}
-use Rattle.pm_region.specs.Memory.{Memory, crashed, current_words, with_room}
+use Rattle.pm_region.specs.Memory.{Memory, current_words}
 use Rattle.bp_layout.specs.Words.{Image}
-use Rattle.bp_plain.specs.Calls.{Call, Answer}
-use Rattle.bp_plain.specs.Calls.Call.{upgrade_to_three}
+use Rattle.bp_plain.specs.Calls.{Answer}
 use Rattle.bp_plain.specs.Calls.Answer.{refused}
 use Rattle.bp_plain.specs.Calls.Refusal.{no_memory}
 use Rattle.bp_script.specs.Commands.{Command}
@@ -34,9 +33,9 @@ reply_of TooLong answer = long
 abbrev pub outcome_text : Outcome → Answer → List ℕ
 outcome_text outcome answer = reply_text (reply_of outcome answer)
 
--- The state of a session: the region, and the words that the attached file holds.
-abbrev pub state : Memory → Image → State
-state memory saved = record { memory = memory; saved = saved }
+-- The state of a session: that of the file system, and the words that the attached file holds.
+abbrev pub state : {S : Type 0} → S → Image → State S
+state system saved = record { system = system; saved = saved }
 
 -- Whether a command may have this outcome.
 abbrev pub may_come_to : Command → Outcome → Bool
@@ -65,12 +64,6 @@ to_save log memory saved = saved
 to_save bad_syntax memory saved = saved
 to_save too_long memory saved = saved
 
--- The words of the last drain after a call. It may drain first. For an upgrade to version 3, which may drain several
--- times, only the line itself states them (`Called`).
-abbrev pub KeepsDrained : Call → Memory → Memory → Type 0
-KeepsDrained upgrade_to_three old new = ⊤
-KeepsDrained call old new = new.base ≡ (with_room call_room old).base
-
 -- The words of the last drain after a line with this outcome. For a sync or a crash nothing is stated.
 abbrev pub KeepsBase : Outcome → Command → Memory → Memory → Type 0
 KeepsBase Answered (file_call call) old new = KeepsDrained call old new
@@ -97,35 +90,37 @@ pub record LeavesDirty (outcome : Outcome) (command : Command) (memory : Memory)
   pub others : is_crash outcome ≡ false → ¬ (outcome ≡ Synced) → NotesDrain outcome command memory before after
 
 -- A command was carried out and has its reply. Only the file is left to be saved, if the outcome is a sync.
-pub record Does (old : Memory) (command : Command) (outcome : Outcome) (answer : Answer) (new : Memory) : Type 0 where
-  pub line : (saved : Image)
-      → SessionLine (state old saved) command (reply_of outcome answer) (state new (to_save command old saved))
-  pub size : length new.base ≡ length old.base
-  pub capacity : new.capacity ≡ old.capacity
+pub record Does {S : Type 0} (it : Behaviour S) (old : S) (command : Command) (outcome : Outcome) (answer : Answer)
+    (new : S) : Type 0 where
+  pub line : (saved : Image) → SessionLine it (state old saved) command (reply_of outcome answer)
+      (state new (to_save command (it.memory old) saved))
+  pub size : length (it.memory new).base ≡ length (it.memory old).base
+  pub capacity : (it.memory new).capacity ≡ (it.memory old).capacity
   pub comes : may_come_to command outcome ≡ true
-  pub base : KeepsBase outcome command old new
+  pub base : KeepsBase outcome command (it.memory old) (it.memory new)
 
--- A crash at this crash point: the surviving calls are counted, and the memory is the one that the crash leaves.
-pub record HasCrashed (old : Memory) (cut : PowerCut) (outcome : Outcome) (new : Memory) : Type 0 where
-  pub right : IsRight old.events cut
-  pub reported : outcome ≡ Kept (kept_calls old.events cut) (call_ends old.events)
-  pub left : new ≡ crashed old cut
+-- A crash at this crash point: the surviving calls are counted, and the state is the one that the crash leaves.
+pub record HasCrashed {S : Type 0} (it : Behaviour S) (old : S) (cut : PowerCut) (outcome : Outcome) (new : S) : Type 0 where
+  pub right : IsRight (it.memory old).events cut
+  pub reported : outcome ≡ Kept (kept_calls (it.memory old).events cut) (call_ends (it.memory old).events)
+  pub left : new ≡ it.crashed old cut
 
 -- The crash point is not valid for the log, and nothing is done.
-pub record HasRefused (old : Memory) (cut : PowerCut) (outcome : Outcome) (new : Memory) : Type 0 where
-  pub wrong : ¬ IsRight old.events cut
+pub record HasRefused {S : Type 0} (it : Behaviour S) (old : S) (cut : PowerCut) (outcome : Outcome) (new : S) : Type 0 where
+  pub wrong : ¬ IsRight (it.memory old).events cut
   pub reported : outcome ≡ BadChoice
   pub same : new ≡ old
 
 -- The result of a crash at a crash point: done, or refused.
-abbrev pub CrashesTo : Memory → PowerCut → Outcome → Memory → Type 0
-CrashesTo old cut outcome new = HasCrashed old cut outcome new ⊎ HasRefused old cut outcome new
+abbrev pub CrashesTo : {S : Type 0} → Behaviour S → S → PowerCut → Outcome → S → Type 0
+CrashesTo it old cut outcome new = HasCrashed it old cut outcome new ⊎ HasRefused it old cut outcome new
 
 -- Allocation of the memory that a command needs failed, and nothing is done.
-pub record LacksMemory (old : Memory) (outcome : Outcome) (new : Memory) : Type 0 where
+pub record LacksMemory {S : Type 0} (old : S) (outcome : Outcome) (new : S) : Type 0 where
   pub reported : outcome ≡ NoMemory
   pub same : new ≡ old
 
 -- The result of a crash by simulated caches: done, or refused for lack of memory.
-abbrev pub CrashesByCaches : Memory → ℕ → Outcome → Memory → Type 0
-CrashesByCaches old seed outcome new = HasCrashed old (caches_cut old seed) outcome new ⊎ LacksMemory old outcome new
+abbrev pub CrashesByCaches : {S : Type 0} → Behaviour S → S → ℕ → Outcome → S → Type 0
+CrashesByCaches it old seed outcome new =
+    HasCrashed it old (caches_cut (it.memory old) seed) outcome new ⊎ LacksMemory old outcome new

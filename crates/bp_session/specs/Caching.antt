@@ -1,5 +1,5 @@
 -- The caches for the crashes of a session.
-use Rattle.std.specs.Prelude.{◌≡◌, ◌*◌, ◌≤◌, ℕ}
+use Rattle.std.specs.Prelude.{◌≡◌, ◌*◌, ℕ}
 use Rattle.bp_limits.specs.Limits.{log_events}
 use Rattle.pm_cores.specs.Caches.{Caches}
 
@@ -8,9 +8,3 @@ pub record IsTwoCaches (size : ℕ) (caches : Caches) : Type 0 where
   pub cores : caches.cores ≡ 2
   pub words : caches.words ≡ size
   pub capacity : caches.capacity ≡ 2 * log_events
-
--- The words are one or more whole cache lines.
-pub record AreLines (words : ℕ) : Type 0 where
-  pub lines : ℕ
-  pub some : 1 ≤ lines
-  pub whole : words ≡ 8 * lines

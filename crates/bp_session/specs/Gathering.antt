@@ -1,6 +1,7 @@
 -- Serving while replies wait for a sink.
 use Rattle.std.specs.Prelude.{◌≡◌, ◌⊎◌, ℕ, List, [], ◌++◌, Option, None, Some, false}
 use Rattle.std.specs.Io.KnownBytes.{Appends}
+use Rattle.bp_fs.specs.Behaviour.{Behaviour}
 use Rattle.bp_io.specs.Views.{View}
 use Rattle.bp_script.specs.Commands.{Command}
 use Rattle.bp_script.specs.Commands.Command.{sync}
@@ -21,39 +22,41 @@ Clears command before after taken now files files_now =
     ⊎ ((after ≡ []) × Appends taken now before)
 
 -- A line was carried out, and its reply is still to be added to the waiting replies.
-pub record AwaitsReply (command : Command) (before : List ℕ) (old new : Moment) : Type 0 where
+pub record AwaitsReply {S : Type 0} (it : Behaviour S) (command : Command) (before : List ℕ) (old new : Moment S) : Type 0 where
   pub reply : LineReply
-  pub does : DoesLine old command reply new
+  pub does : DoesLine it old command reply new
   pub waits : List ℕ
   pub taken : Option (List ℕ)
   pub clears : Clears command before waits old.taken taken old.files new.files
 
 -- A line was carried out, and its reply was added.
-pub record IsAnswered (command : Command) (before after : List ℕ) (old new : Moment) : Type 0 where
-  pub done : AwaitsReply command before old new
+pub record IsAnswered {S : Type 0} (it : Behaviour S) (command : Command) (before after : List ℕ)
+    (old new : Moment S) : Type 0 where
+  pub done : AwaitsReply it command before old new
   pub passes : PassesOn (reply_text done.reply) done.waits after done.taken new.taken
 
 -- A line was carried out, and the sink failed as its reply was added.
-pub record IsUnreported (command : Command) (before : List ℕ) (old new : Moment) : Type 0 where
-  pub done : AwaitsReply command before old new
+pub record IsUnreported {S : Type 0} (it : Behaviour S) (command : Command) (before : List ℕ) (old new : Moment S) : Type 0 where
+  pub done : AwaitsReply it command before old new
   pub part : TakesPart (done.waits ++ reply_text done.reply) done.taken new.taken
 
 -- The sink failed before a sync: it took a proper prefix of the waiting replies, and nothing else was done.
-pub record IsUnheard (before : List ℕ) (old new : Moment) : Type 0 where
+pub record IsUnheard {S : Type 0} (before : List ℕ) (old new : Moment S) : Type 0 where
   pub part : TakesPart before old.taken new.taken
   pub same : new ≡ record old { taken = new.taken; faults = new.faults }
 
 -- A sync could not save, after the sink had taken all waiting replies.
-pub record IsUnsaved (command : Command) (before : List ℕ) (old new : Moment) : Type 0 where
-  pub fails : FailsLine old command new
+pub record IsUnsaved {S : Type 0} (it : Behaviour S) (command : Command) (before : List ℕ) (old new : Moment S) : Type 0 where
+  pub fails : FailsLine it old command new
   pub taken : Appends old.taken new.taken before
 
 -- The effect of a line and of the replies that wait before and after it, by how it ends: its reply was added, or the
 -- sink failed, or a sync could not save.
-pub record LineGathers (ended : Option Broken) (command : Command) (before after : List ℕ) (old new : Moment) : Type 0 where
-  pub whole : ended ≡ None → IsAnswered command before after old new
-  pub broken : ended ≡ Some cause.Sink → IsUnreported command before old new ⊎ IsUnheard before old new
-  pub stopped : ended ≡ Some cause.Files → IsUnsaved command before old new
-  pub keeps : Keeps ended old new
+pub record LineGathers {S : Type 0} (it : Behaviour S) (ended : Option Broken) (command : Command) (before after : List ℕ)
+    (old new : Moment S) : Type 0 where
+  pub whole : ended ≡ None → IsAnswered it command before after old new
+  pub broken : ended ≡ Some cause.Sink → IsUnreported it command before old new ⊎ IsUnheard before old new
+  pub stopped : ended ≡ Some cause.Files → IsUnsaved it command before old new
+  pub keeps : Keeps it ended old new
   pub first : IsFirstFault ended false (counts 0 old.faults old.files) (counts 0 new.faults new.files)
   pub one_of : (ended ≡ None) ⊎ (ended ≡ Some cause.Sink) ⊎ (ended ≡ Some cause.Files)

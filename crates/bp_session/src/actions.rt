@@ -23,22 +23,22 @@ use crate::caches::crash_by_caches;
 use crate::outcome::Outcome;
 use crate::save::{dirty_drained, dirty_each, sync_dirty};
 use crate::work::LineBuffers;
+use bp_fs::FileSystem;
 use bp_io::{Failed, Files, Sink};
 use bp_limits::MAX_LINE;
 use bp_plain::Call;
 use bp_replay::{Cut, choice_of, storm};
 use bp_script::{Line, Syntax};
-use bp_volume::Volume;
 use pm_epochs::{BadChoice, Choice, EventKind};
 use pm_region::Region;
 use pm_steps::Backs;
 use std::alloc::Global;
 
-/// Crashes a volume at the crash point of a choice.
-pub(crate) fn crash_to<R: Region>(volume: &mut Volume<R>, choice: &Choice) -> Outcome
-    ensures { CrashesTo volume.old choice.now.cut result volume.new }
+/// Crashes a file system at the crash point of a choice.
+pub(crate) fn crash_to<V: FileSystem>(system: &mut V, choice: &Choice) -> Outcome
+    ensures { CrashesTo V.behaviour (V.state system.old) choice.now.cut result (V.state system.new) }
 {
-    match volume.crash(choice) {
+    match system.crash(choice) {
         Ok(kept) => Outcome::Kept {
             c: kept.c,
             n: kept.n,
@@ -47,40 +47,40 @@ pub(crate) fn crash_to<R: Region>(volume: &mut Volume<R>, choice: &Choice) -> Ou
     }
 }
 
-/// Crashes a volume as a `crash` line asks.
-fn crash<R: Region>(volume: &mut Volume<R>, asked: &Cut<'_>, choice: &mut Choice) -> Outcome
-    requires roomy { volume.old.capacity ≤ log_events }
+/// Crashes a file system as a `crash` line asks.
+fn crash<V: FileSystem>(system: &mut V, asked: &Cut<'_>, choice: &mut Choice) -> Outcome
+    requires roomy { (V.behaviour.memory (V.state system.old)).capacity ≤ log_events }
     requires mask { mask_places asked.now ≤ max_mask }
     requires room { choice.old.room ≡ max_mask }
-    ensures crashes { CrashesTo volume.old (cut_for volume.old.events (wanted_by asked.now)) result volume.new }
+    ensures crashes { CrashesTo V.behaviour (V.state system.old) (cut_for (V.behaviour.memory (V.state system.old)).events (wanted_by asked.now)) result (V.state system.new) }
     ensures room { choice.new.room ≡ choice.old.room }
 {
     // The log is no longer than its capacity.
-    let _events = volume.region().event_count();
-    match choice_of(volume.region(), asked, choice) {
-        Ok(()) => crash_to(volume, choice),
+    let _events = system.region().event_count();
+    match choice_of(system.region(), asked, choice) {
+        Ok(()) => crash_to(system, choice),
         Err(BadChoice) => Outcome::BadChoice,
     }
 }
 
-/// Crashes a volume at a random point, drawn from the seed of a storm.
-fn crash_by_storm<R: Region>(
-    volume: &mut Volume<R>,
+/// Crashes a file system at a random point, drawn from the seed of a storm.
+fn crash_by_storm<V: FileSystem>(
+    system: &mut V,
     seed: u64,
     backs: &mut Backs,
     choice: &mut Choice,
 ) -> Outcome
-    requires roomy { volume.old.capacity ≤ log_events }
+    requires roomy { (V.behaviour.memory (V.state system.old)).capacity ≤ log_events }
     requires flags { backs.old.room ≡ log_events }
     requires room { choice.old.room ≡ max_mask }
-    ensures crashes { HasCrashed volume.old (storm_cut volume.old.events seed) result volume.new }
+    ensures crashes { HasCrashed V.behaviour (V.state system.old) (storm_cut (V.behaviour.memory (V.state system.old)).events seed) result (V.state system.new) }
     ensures flags { backs.new.room ≡ backs.old.room }
     ensures room { choice.new.room ≡ choice.old.room }
 {
     // The log is no longer than its capacity.
-    let _events = volume.region().event_count();
-    storm(volume.region(), seed, backs, choice);
-    crash_to(volume, choice)
+    let _events = system.region().event_count();
+    storm(system.region(), seed, backs, choice);
+    crash_to(system, choice)
 }
 
 /// Counts the events, barriers and calls of the log of a region.
@@ -121,17 +121,17 @@ fn dirty_call<R: Region>(region: &R, call: &Call<'_>, dirty: &mut [bool])
 // Inlined into its callers, so that an outcome need not go through memory, where it would be read in wider pieces
 // than it was written: the processor stalls then.
 #[inline(always)]
-fn act_but_sync<R: Region>(
+fn act_but_sync<V: FileSystem>(
     alloc: Global,
-    volume: &mut Volume<R>,
+    system: &mut V,
     buffers: &mut LineBuffers,
     dirty: &mut [bool],
 ) -> Outcome
-    requires { volume.old.capacity ≤ log_events }
+    requires { (V.behaviour.memory (V.state system.old)).capacity ≤ log_events }
     ensures does { ¬ (result ≡ Synced) →
-        Does volume.old (command_of (line_in buffers.old)) result (answer_in buffers.new) volume.new }
-    ensures left { result ≡ Synced → (command_of (line_in buffers.old) ≡ sync) × (volume.new ≡ volume.old) }
-    ensures notes { NotesDrain result (command_of (line_in buffers.old)) volume.old dirty.old dirty.new }
+        Does V.behaviour (V.state system.old) (command_of (line_in buffers.old)) result (answer_in buffers.new) (V.state system.new) }
+    ensures left { result ≡ Synced → (command_of (line_in buffers.old) ≡ sync) × (V.state system.new ≡ V.state system.old) }
+    ensures notes { NotesDrain result (command_of (line_in buffers.old)) (V.behaviour.memory (V.state system.old)) dirty.old dirty.new }
     ensures line { line_in buffers.new ≡ line_in buffers.old }
     ensures answer { ¬ (result ≡ Answered) → answer_in buffers.new ≡ answer_in buffers.old }
     ensures waiting { waiting_in buffers.new ≡ waiting_in buffers.old }
@@ -141,47 +141,47 @@ fn act_but_sync<R: Region>(
     }
     match buffers.decoded.line(&buffers.line) {
         Ok(Line::Call(call)) => {
-            dirty_call(volume.region(), &call, dirty);
-            volume.apply(alloc, &call, &mut buffers.reply);
+            dirty_call(system.region(), &call, dirty);
+            system.apply(alloc, &call, &mut buffers.reply);
             Outcome::Answered
         }
         Ok(Line::Sync) => Outcome::Synced,
         Ok(Line::Space) => {
-            let space = volume.space();
+            let space = system.space();
             Outcome::Counted {
                 free: space.free,
                 live: space.live,
             }
         }
-        Ok(Line::Crash(asked)) => crash(volume, &asked, &mut buffers.choice),
+        Ok(Line::Crash(asked)) => crash(system, &asked, &mut buffers.choice),
         Ok(Line::Storm(seed)) => {
-            crash_by_storm(volume, seed, &mut buffers.backs, &mut buffers.choice)
+            crash_by_storm(system, seed, &mut buffers.backs, &mut buffers.choice)
         }
         Ok(Line::Cache(seed)) => crash_by_caches(
             alloc,
-            volume,
+            system,
             seed,
             &mut buffers.caches,
             &mut buffers.choice,
         ),
-        Ok(Line::Log) => count_log(volume.region()),
+        Ok(Line::Log) => count_log(system.region()),
         Err(Syntax) => Outcome::BadSyntax,
     }
 }
 
-/// Carries out the line of the buffers, over a volume only. The answer of a call is in the reply of the buffers. At
-/// `Outcome::Synced` all is written back, and a file that shall hold it has to be saved. The capacity of the volume's
+/// Carries out the line of the buffers, over a file system only. The answer of a call is in the reply of the buffers. At
+/// `Outcome::Synced` all is written back, and a file that shall hold it has to be saved. The capacity of the file system's
 /// log is at most that of the memory of the buffers.
-pub fn act<R: Region>(alloc: Global, volume: &mut Volume<R>, buffers: &mut LineBuffers) -> Outcome
-    requires { volume.old.capacity ≤ log_events }
-    ensures does { Does volume.old (command_of (line_in buffers.old)) result (answer_in buffers.new) volume.new }
+pub fn act<V: FileSystem>(alloc: Global, system: &mut V, buffers: &mut LineBuffers) -> Outcome
+    requires { (V.behaviour.memory (V.state system.old)).capacity ≤ log_events }
+    ensures does { Does V.behaviour (V.state system.old) (command_of (line_in buffers.old)) result (answer_in buffers.new) (V.state system.new) }
     ensures line { line_in buffers.new ≡ line_in buffers.old }
     ensures answer { ¬ (result ≡ Answered) → answer_in buffers.new ≡ answer_in buffers.old }
     ensures waiting { waiting_in buffers.new ≡ waiting_in buffers.old }
 {
-    match act_but_sync(alloc, volume, buffers, &mut []) {
+    match act_but_sync(alloc, system, buffers, &mut []) {
         Outcome::Synced => {
-            volume.sync();
+            system.sync();
             Outcome::Synced
         }
         outcome => outcome,
@@ -212,41 +212,41 @@ fn dirty_crash(outcome: Outcome, dirty: &mut [bool])
 /// the attached file the dirty blocks and those to which a store went since the last drain. The sink breaks it off
 /// before a sync is done, or the files as it saves.
 #[inline(always)]
-pub(crate) fn act_and_save<R: Region, K: Sink, F: Files>(
+pub(crate) fn act_and_save<V: FileSystem, K: Sink, F: Files>(
     alloc: Global,
-    volume: &mut Volume<R>,
+    system: &mut V,
     buffers: &mut LineBuffers,
     dirty: &mut [bool],
     out: &mut K,
     files: &mut F,
 ) -> Result<Outcome, Broken>
-    requires { CanServe volume.old (F.view files.old) }
-    ensures does { IfOk result (DoesHeld F.view K.view
-        buffers.old dirty.old volume.old files.old out.old
-        buffers.new dirty.new volume.new files.new out.new) }
+    requires { CanServe (V.behaviour.memory (V.state system.old)) (F.view files.old) }
+    ensures does { IfOk result (DoesHeld V.behaviour F.view K.view
+        buffers.old dirty.old (V.state system.old) files.old out.old
+        buffers.new dirty.new (V.state system.new) files.new out.new) }
     ensures dirty { IfOk result (λ outcome.
-        LeavesDirty outcome (command_of (line_in buffers.old)) volume.old dirty.old dirty.new) }
-    ensures kept { KeepsClean dirty.old volume.old (F.view files.old) (F.view files.new) }
+        LeavesDirty outcome (command_of (line_in buffers.old)) (V.behaviour.memory (V.state system.old)) dirty.old dirty.new) }
+    ensures kept { KeepsClean dirty.old (V.behaviour.memory (V.state system.old)) (F.view files.old) (F.view files.new) }
     ensures clears { OnOk result (ClearsHeld F.view K.view
         buffers.old files.old out.old
         buffers.new files.new out.new) }
-    ensures stops { IfErr result (StopsBy F.view K.view
-        buffers.old dirty.old volume.old files.old out.old
-        buffers.new dirty.new volume.new files.new out.new) }
+    ensures stops { IfErr result (StopsBy V.behaviour F.view K.view
+        buffers.old dirty.old (V.state system.old) files.old out.old
+        buffers.new dirty.new (V.state system.new) files.new out.new) }
     ensures heard { IfErr result (λ broken. waiting_in buffers.old ≡ [] → broken ≡ cause.Files) }
     ensures synced { OnOk result (command_of (line_in buffers.old) ≡ sync → (F.view files.new).is_flushed ≡ true) }
     ensures flushed { OnOk result ((F.view files.old).is_flushed ≡ true → (F.view files.new).is_flushed ≡ true) }
     ensures sink { OnOk result ((K.view out.new).faults ≡ (K.view out.old).faults) }
     ensures files { OnOk result ((F.view files.new).faults ≡ (F.view files.old).faults) }
-    ensures size { length volume.new.base ≡ length volume.old.base }
-    ensures capacity { volume.new.capacity ≡ volume.old.capacity }
+    ensures size { length (V.behaviour.memory (V.state system.new)).base ≡ length (V.behaviour.memory (V.state system.old)).base }
+    ensures capacity { (V.behaviour.memory (V.state system.new)).capacity ≡ (V.behaviour.memory (V.state system.old)).capacity }
     ensures others { KeepsOthers (F.view files.old) (F.view files.new) }
     ensures attached { StaysAttached (F.view files.old) (F.view files.new) }
     ensures line { line_in buffers.new ≡ line_in buffers.old }
 {
-    match act_but_sync(alloc, volume, buffers, dirty) {
+    match act_but_sync(alloc, system, buffers, dirty) {
         Outcome::Synced => match buffers.replies.hand_over(out) {
-            Ok(()) => match sync_dirty(volume, dirty, files) {
+            Ok(()) => match sync_dirty(system, dirty, files) {
                 Ok(()) => Ok(Outcome::Synced),
                 Err(Failed) => Err(Broken::Files),
             },

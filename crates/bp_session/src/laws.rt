@@ -13,6 +13,7 @@ ghost use Rattle.bp_script.specs.Export.{export_text};
 ghost use Rattle.bp_script.specs.Texts.{LineReply};
 ghost use Rattle.bp_session.specs.Lines.{commands_from};
 ghost use Rattle.bp_session.specs.Session.{State};
+ghost use Rattle.pm_region.specs.Memory.{Memory};
 ghost use Rattle.bp_session.specs.PlainSession.{PlainState};
 ghost use Rattle.bp_session.specs.SessionLaws.{ExportMakesTree, IsOfTree, KeepsCalls, SplitsAt, StaysPlain};
 
@@ -20,26 +21,26 @@ ghost use Rattle.bp_session.specs.SessionLaws.{ExportMakesTree, IsOfTree, KeepsC
 /// tree's, and at the session's end a crash at any point of the log leaves an image that represents the tree after
 /// the calls that it keeps.
 pub fn sessions_are_plain()
-    ensures { (old new : State) (tree : FileTree) (commands : List Command) (replies : List LineReply) →
+    ensures { (old new : State Memory) (tree : FileTree) (commands : List Command) (replies : List LineReply) →
         IsOfTree tree old commands replies new }
 {}
 
 /// Proves the same of a session that begins with words that follow an abstract tree.
 pub fn sessions_stay_plain()
-    ensures { (old new : State) (plain : PlainState) (commands : List Command) (replies : List LineReply) →
+    ensures { (old new : State Memory) (plain : PlainState) (commands : List Command) (replies : List LineReply) →
         StaysPlain plain old commands replies new }
 {}
 
 /// Proves that a crash at any point since the last drain leaves an image that represents the tree after the calls
 /// that it keeps.
 pub fn crashes_keep_calls()
-    ensures { (old new : State) (tree : FileTree) (commands : List Command) (replies : List LineReply) →
+    ensures { (old new : State Memory) (tree : FileTree) (commands : List Command) (replies : List LineReply) →
         KeepsCalls tree old commands replies new }
 {}
 
 /// Proves that a session has a state after each of its lines, so that all that holds at its end holds there.
 pub fn sessions_split()
-    ensures { (old new : State) (first rest : List Command) (replies : List LineReply) →
+    ensures { (old new : State Memory) (first rest : List Command) (replies : List LineReply) →
         SplitsAt old first rest replies new }
 {}
 
@@ -58,6 +59,6 @@ pub fn exports_ask_for_their_calls()
 /// Proves that a session over the script of an export, from an empty file system of the tree's version, ends in that
 /// tree without its snapshot, if no reply reports lack of space.
 pub fn exports_make_their_trees()
-    ensures { (old new : State) (tree : FileTree) (replies : List LineReply) → IsExportable tree → IsOfBytes tree →
+    ensures { (old new : State Memory) (tree : FileTree) (replies : List LineReply) → IsExportable tree → IsOfBytes tree →
         ExportMakesTree tree old replies new }
 {}

@@ -1,4 +1,4 @@
-//! Sessions: the lines of a script, served over a volume, each with its reply to a sink.
+//! Sessions: the lines of a script, served over a file system, each with its reply to a sink.
 #![tactic(auto)]
 
 mod actions;

@@ -8,12 +8,12 @@ ghost use Rattle.bp_session.specs.Changed.{AreDirty, AreClean, CoversChanges, Co
 ghost use Rattle.bp_session.specs.Files.{CanSave, StaysKnown};
 ghost use Rattle.bp_session.specs.Saving.{KeepsClean, SavesDirty, SavesPartly, SavesWords, SavesWordsPartly};
 ghost use Rattle.pm_epochs.specs.Log.{stores};
-ghost use Rattle.pm_region.specs.Memory.{words_in, current_words, drained};
+ghost use Rattle.pm_region.specs.Memory.{words_in, current_words};
 
 use crate::blocks::{RUN_BLOCKS, read_blocks};
+use bp_fs::{FileSystem, needs_drain};
 use bp_io::{BLOCK, Failed, Files};
-use bp_limits::{BLOCK_WORDS, CALL_ROOM, MAX_FILE_BLOCKS};
-use bp_volume::Volume;
+use bp_limits::{BLOCK_WORDS, MAX_FILE_BLOCKS};
 use pm_epochs::EventKind;
 use pm_region::{Region, Row};
 
@@ -151,7 +151,7 @@ fn dirty_stored<R: Region>(region: &R, flags: &mut [bool])
 pub(crate) fn dirty_drained<R: Region>(region: &R, flags: &mut [bool])
     ensures { CoversDrain (R.memory region.now) flags.old flags.new }
 {
-    if region.room() < CALL_ROOM {
+    if needs_drain(region) {
         dirty_stored(region, flags);
     }
 }
@@ -236,16 +236,16 @@ fn save<R: Region, F: Files>(region: &R, flags: &[bool], files: &mut F) -> Resul
 
 /// Syncs and saves, as `sync_and_save` does, by the flags of the blocks. If there are fewer flags than blocks of the
 /// file, the blocks past them are written too.
-pub(crate) fn sync_dirty<R: Region, F: Files>(
-    volume: &mut Volume<R>,
+pub(crate) fn sync_dirty<V: FileSystem, F: Files>(
+    system: &mut V,
     dirty: &mut [bool],
     files: &mut F,
 ) -> Result<(), Failed>
-    requires { CanSave volume.old.base (F.view files.old) }
-    ensures drained { volume.new ≡ drained volume.old }
-    ensures saved { OnOk result (SavesWords dirty.old volume.old (F.view files.old) (F.view files.new)) }
-    ensures partly { OnErr result (SavesWordsPartly (current_words volume.old) (F.view files.old) (F.view files.new)) }
-    ensures kept { KeepsClean dirty.old volume.old (F.view files.old) (F.view files.new) }
+    requires { CanSave (V.behaviour.memory (V.state system.old)).base (F.view files.old) }
+    ensures drained { V.state system.new ≡ V.behaviour.drained (V.state system.old) }
+    ensures saved { OnOk result (SavesWords dirty.old (V.behaviour.memory (V.state system.old)) (F.view files.old) (F.view files.new)) }
+    ensures partly { OnErr result (SavesWordsPartly (current_words (V.behaviour.memory (V.state system.old))) (F.view files.old) (F.view files.new)) }
+    ensures kept { KeepsClean dirty.old (V.behaviour.memory (V.state system.old)) (F.view files.old) (F.view files.new) }
     ensures cleared { OnOk result (AreClean dirty.new) }
     ensures lost { OnErr result (AreDirty dirty.new) }
     ensures flushed { OnOk result ((F.view files.new).is_flushed ≡ true) }
@@ -254,9 +254,9 @@ pub(crate) fn sync_dirty<R: Region, F: Files>(
     ensures attached { StaysAttached (F.view files.old) (F.view files.new) }
     ensures cause { HasCause (F.view files.old).faults (F.view files.new).faults result }
 {
-    dirty_stored(volume.region(), dirty);
-    volume.sync();
-    match save(volume.region(), dirty, files) {
+    dirty_stored(system.region(), dirty);
+    system.sync();
+    match save(system.region(), dirty, files) {
         Ok(()) => {
             dirty_each(dirty, false);
             Ok(())
@@ -272,16 +272,16 @@ pub(crate) fn sync_dirty<R: Region, F: Files>(
 /// it. Only the dirty blocks and those to which a store went since the last drain are written; or all blocks, if the
 /// log has more than four rows of stores a block. After a save no block in the list of flags is dirty; after a
 /// failed save each block counts as dirty.
-pub fn sync_and_save<R: Region, F: Files>(
-    volume: &mut Volume<R>,
+pub fn sync_and_save<V: FileSystem, F: Files>(
+    system: &mut V,
     dirty: &mut DirtyBlocks,
     files: &mut F,
 ) -> Result<(), Failed>
-    requires { CanSave volume.old.base (F.view files.old) }
-    ensures drained { volume.new ≡ drained volume.old }
-    ensures saved { OnOk result (SavesWords (dirty_in dirty.old) volume.old (F.view files.old) (F.view files.new)) }
-    ensures partly { OnErr result (SavesWordsPartly (current_words volume.old) (F.view files.old) (F.view files.new)) }
-    ensures kept { KeepsClean (dirty_in dirty.old) volume.old (F.view files.old) (F.view files.new) }
+    requires { CanSave (V.behaviour.memory (V.state system.old)).base (F.view files.old) }
+    ensures drained { V.state system.new ≡ V.behaviour.drained (V.state system.old) }
+    ensures saved { OnOk result (SavesWords (dirty_in dirty.old) (V.behaviour.memory (V.state system.old)) (F.view files.old) (F.view files.new)) }
+    ensures partly { OnErr result (SavesWordsPartly (current_words (V.behaviour.memory (V.state system.old))) (F.view files.old) (F.view files.new)) }
+    ensures kept { KeepsClean (dirty_in dirty.old) (V.behaviour.memory (V.state system.old)) (F.view files.old) (F.view files.new) }
     ensures cleared { OnOk result (AreClean (dirty_in dirty.new)) }
     ensures lost { OnErr result (AreDirty (dirty_in dirty.new)) }
     ensures flushed { OnOk result ((F.view files.new).is_flushed ≡ true) }
@@ -291,5 +291,5 @@ pub fn sync_and_save<R: Region, F: Files>(
     ensures cause { HasCause (F.view files.old).faults (F.view files.new).faults result }
 {
     let count = dirty.count.min(dirty.flags.len());
-    sync_dirty(volume, &mut dirty.flags[..count], files)
+    sync_dirty(system, &mut dirty.flags[..count], files)
 }

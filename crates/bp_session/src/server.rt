@@ -20,37 +20,37 @@ use crate::broken::Broken;
 use crate::replies::write_by;
 use crate::save::DirtyBlocks;
 use crate::work::Work;
+use bp_fs::FileSystem;
 use bp_io::{Failed, Files, Sink, Source};
 use bp_limits::MAX_INPUT;
 use bp_replies::GATHERED;
-use bp_volume::Volume;
 use memchr::memchr;
 use pm_region::Region;
 use std::alloc::Global;
 
 /// Serves the line that is held. If more than `most` bytes of replies wait then, they go to the sink.
-fn answer_line<R: Region, K: Sink, F: Files>(
+fn answer_line<V: FileSystem, K: Sink, F: Files>(
     alloc: Global,
-    volume: &mut Volume<R>,
+    system: &mut V,
     work: &mut Work,
     most: usize,
     dirty: &mut [bool],
     out: &mut K,
     files: &mut F,
 ) -> Result<(), Broken>
-    requires { CanServe volume.old (F.view files.old) }
-    ensures outcome { GathersHeld result F.view K.view
-        work.old dirty.old volume.old files.old out.old
-        work.new dirty.new volume.new files.new out.new }
+    requires { CanServe (V.behaviour.memory (V.state system.old)) (F.view files.old) }
+    ensures outcome { GathersHeld V.behaviour result F.view K.view
+        work.old dirty.old (V.state system.old) files.old out.old
+        work.new dirty.new (V.state system.new) files.new out.new }
     ensures few { OnOk result (length (held_replies work.new) ≤ most) }
     ensures synced { held_replies work.old ≡ [] → ¬ (result ≡ Err cause.Files) → command_of (held_line work.old) ≡ sync →
         (F.view files.new).is_flushed ≡ true }
-    ensures ready { CanSave volume.new.base (F.view files.new) }
+    ensures ready { CanSave (V.behaviour.memory (V.state system.new)).base (F.view files.new) }
     ensures line { held_line work.new ≡ held_line work.old }
     ensures piece { read_piece work.new ≡ read_piece work.old }
 {
     let Work { buffers, .. } = work;
-    let outcome = act_and_save(alloc, volume, buffers, dirty, out, files)?;
+    let outcome = act_and_save(alloc, system, buffers, dirty, out, files)?;
     match write_by(outcome, &buffers.reply, &mut buffers.replies, most, out) {
         Ok(()) => Ok(()),
         Err(Failed) => Err(Broken::Sink),
@@ -58,70 +58,70 @@ fn answer_line<R: Region, K: Sink, F: Files>(
 }
 
 /// Serves the line that is held, and passes its reply to the sink.
-fn answer_alone<R: Region, K: Sink, F: Files>(
+fn answer_alone<V: FileSystem, K: Sink, F: Files>(
     alloc: Global,
-    volume: &mut Volume<R>,
+    system: &mut V,
     work: &mut Work,
     dirty: &mut [bool],
     out: &mut K,
     files: &mut F,
 ) -> Result<(), Broken>
-    requires { CanServe volume.old (F.view files.old) }
-    ensures outcome { ServesAlone result F.view K.view work.old
-        dirty.old volume.old files.old out.old
-        dirty.new volume.new files.new out.new }
+    requires { CanServe (V.behaviour.memory (V.state system.old)) (F.view files.old) }
+    ensures outcome { ServesAlone V.behaviour result F.view K.view work.old
+        dirty.old (V.state system.old) files.old out.old
+        dirty.new (V.state system.new) files.new out.new }
     ensures synced { ¬ (result ≡ Err cause.Files) → command_of (held_line work.old) ≡ sync → (F.view files.new).is_flushed ≡ true }
-    ensures again { ServesAgain volume.old volume.new (F.view files.new) }
+    ensures again { ServesAgain (V.behaviour.memory (V.state system.old)) (V.behaviour.memory (V.state system.new)) (F.view files.new) }
     ensures line { held_line work.new ≡ held_line work.old }
     ensures piece { read_piece work.new ≡ read_piece work.old }
 {
     work.buffers.replies.clear();
-    answer_line(alloc, volume, work, 0, dirty, out, files)
+    answer_line(alloc, system, work, 0, dirty, out, files)
 }
 
 /// Serves the line that the work holds, and passes its reply to the sink. The sink breaks it off if it does not take
-/// the reply whole, or the files if a sync cannot save. A file has to be attached that has the volume's blocks and
+/// the reply whole, or the files if a sync cannot save. A file has to be attached that has the file system's blocks and
 /// may be written; its contents are not read.
-pub fn serve_line<R: Region, K: Sink, F: Files>(
+pub fn serve_line<V: FileSystem, K: Sink, F: Files>(
     alloc: Global,
-    volume: &mut Volume<R>,
+    system: &mut V,
     work: &mut Work,
     out: &mut K,
     files: &mut F,
 ) -> Result<(), Broken>
-    requires { CanServe volume.old (F.view files.old) }
-    ensures outcome { ServesHeld result F.view K.view work.old
-        volume.old files.old out.old
-        volume.new files.new out.new }
+    requires { CanServe (V.behaviour.memory (V.state system.old)) (F.view files.old) }
+    ensures outcome { ServesHeld V.behaviour result F.view K.view work.old
+        (V.state system.old) files.old out.old
+        (V.state system.new) files.new out.new }
     ensures synced { ¬ (result ≡ Err cause.Files) → command_of (held_line work.old) ≡ sync → (F.view files.new).is_flushed ≡ true }
-    ensures again { ServesAgain volume.old volume.new (F.view files.new) }
+    ensures again { ServesAgain (V.behaviour.memory (V.state system.old)) (V.behaviour.memory (V.state system.new)) (F.view files.new) }
     ensures line { held_line work.new ≡ held_line work.old }
     ensures piece { read_piece work.new ≡ read_piece work.old }
 {
-    answer_alone(alloc, volume, work, &mut [], out, files)
+    answer_alone(alloc, system, work, &mut [], out, files)
 }
 
 /// Serves the line that a newline ends, and begins the next. If more than `most` bytes of replies wait then, they go
 /// to the sink.
-fn end_line<R: Region, K: Sink, F: Files>(
+fn end_line<V: FileSystem, K: Sink, F: Files>(
     alloc: Global,
-    volume: &mut Volume<R>,
+    system: &mut V,
     work: &mut Work,
     most: usize,
     dirty: &mut [bool],
     out: &mut K,
     files: &mut F,
 ) -> Result<(), Broken>
-    requires { CanServe volume.old (F.view files.old) }
-    ensures outcome { GathersHeld result F.view K.view
-        work.old dirty.old volume.old files.old out.old
-        work.new dirty.new volume.new files.new out.new }
+    requires { CanServe (V.behaviour.memory (V.state system.old)) (F.view files.old) }
+    ensures outcome { GathersHeld V.behaviour result F.view K.view
+        work.old dirty.old (V.state system.old) files.old out.old
+        work.new dirty.new (V.state system.new) files.new out.new }
     ensures few { OnOk result (length (held_replies work.new) ≤ most) }
-    ensures ready { CanSave volume.new.base (F.view files.new) }
+    ensures ready { CanSave (V.behaviour.memory (V.state system.new)).base (F.view files.new) }
     ensures line { held_line work.new ≡ [] }
     ensures piece { read_piece work.new ≡ read_piece work.old }
 {
-    let served = answer_line(alloc, volume, work, most, dirty, out, files);
+    let served = answer_line(alloc, system, work, most, dirty, out, files);
     work.buffers.line.clear();
     served
 }
@@ -152,9 +152,9 @@ fn newline_in(bytes: &[u8], from: usize, to: usize) -> Option<usize>
 }
 
 /// Serves the lines of the first `count` bytes of the piece that was read.
-fn take_piece<R: Region, K: Sink, F: Files>(
+fn take_piece<V: FileSystem, K: Sink, F: Files>(
     alloc: Global,
-    volume: &mut Volume<R>,
+    system: &mut V,
     work: &mut Work,
     count: usize,
     most: usize,
@@ -162,18 +162,18 @@ fn take_piece<R: Region, K: Sink, F: Files>(
     out: &mut K,
     files: &mut F,
 ) -> Result<(), Broken>
-    requires serves { CanServe volume.old (F.view files.old) }
+    requires serves { CanServe (V.behaviour.memory (V.state system.old)) (F.view files.old) }
     requires inside { count ≤ piece_size }
-    ensures outcome { TakesPiece result most count F.view K.view
-        work.old dirty.old volume.old files.old out.old
-        work.new dirty.new volume.new files.new out.new }
-    ensures again { ServesAgain volume.old volume.new (F.view files.new) }
+    ensures outcome { TakesPiece V.behaviour result most count F.view K.view
+        work.old dirty.old (V.state system.old) files.old out.old
+        work.new dirty.new (V.state system.new) files.new out.new }
+    ensures again { ServesAgain (V.behaviour.memory (V.state system.old)) (V.behaviour.memory (V.state system.new)) (F.view files.new) }
 {
     let mut at: usize = 0;
     work.buffers.replies.clear();
     while let Some(end) = newline_in(&work.piece, at, count) {
         take_run(work, at, end);
-        end_line(alloc, volume, work, most, dirty, out, files)?;
+        end_line(alloc, system, work, most, dirty, out, files)?;
         at = end + 1;
     }
     take_run(work, at, count);
@@ -184,23 +184,23 @@ fn take_piece<R: Region, K: Sink, F: Files>(
 }
 
 /// Serves a line that ends the input.
-fn finish<R: Region, K: Sink, F: Files>(
+fn finish<V: FileSystem, K: Sink, F: Files>(
     alloc: Global,
-    volume: &mut Volume<R>,
+    system: &mut V,
     work: &mut Work,
     dirty: &mut [bool],
     out: &mut K,
     files: &mut F,
 ) -> Result<(), Broken>
-    requires { CanServe volume.old (F.view files.old) }
-    ensures { EndsHeld result F.view K.view work.old
-        dirty.old volume.old files.old out.old
-        dirty.new volume.new files.new out.new }
+    requires { CanServe (V.behaviour.memory (V.state system.old)) (F.view files.old) }
+    ensures { EndsHeld V.behaviour result F.view K.view work.old
+        dirty.old (V.state system.old) files.old out.old
+        dirty.new (V.state system.new) files.new out.new }
 {
     if work.buffers.line.is_empty() {
         return Ok(());
     }
-    answer_alone(alloc, volume, work, dirty, out, files)
+    answer_alone(alloc, system, work, dirty, out, files)
 }
 
 /// Reads a piece of the input.
@@ -214,9 +214,9 @@ fn fill<S: Source>(src: &mut S, piece: &mut Vec<u8>) -> Result<usize, Failed>
 }
 
 /// Answers each line of a source. Replies of at most `most` bytes wait while more lines of the same piece follow.
-fn serve_by<R: Region, S: Source, K: Sink, F: Files>(
+fn serve_by<V: FileSystem, S: Source, K: Sink, F: Files>(
     alloc: Global,
-    volume: &mut Volume<R>,
+    system: &mut V,
     work: &mut Work,
     most: usize,
     dirty: &mut [bool],
@@ -224,11 +224,11 @@ fn serve_by<R: Region, S: Source, K: Sink, F: Files>(
     out: &mut K,
     files: &mut F,
 ) -> Result<(), Broken>
-    requires { CanServe volume.old (F.view files.old) }
-    ensures outcome { ServesBy result most S.view F.view K.view
-        src.old dirty.old volume.old files.old out.old
-        src.new dirty.new volume.new files.new out.new }
-    ensures again { ServesAgain volume.old volume.new (F.view files.new) }
+    requires { CanServe (V.behaviour.memory (V.state system.old)) (F.view files.old) }
+    ensures outcome { ServesBy V.behaviour result most S.view F.view K.view
+        src.old dirty.old (V.state system.old) files.old out.old
+        src.new dirty.new (V.state system.new) files.new out.new }
+    ensures again { ServesAgain (V.behaviour.memory (V.state system.old)) (V.behaviour.memory (V.state system.new)) (F.view files.new) }
 {
     work.buffers.line.clear();
     let mut taken: usize = 0;
@@ -241,60 +241,60 @@ fn serve_by<R: Region, S: Source, K: Sink, F: Files>(
             break;
         }
         let served = count.min(MAX_INPUT as usize - taken);
-        take_piece(alloc, volume, work, served, most, dirty, out, files)?;
+        take_piece(alloc, system, work, served, most, dirty, out, files)?;
         if served < count {
             return Err(Broken::LongInput);
         }
         taken += count;
     }
-    finish(alloc, volume, work, dirty, out, files)
+    finish(alloc, system, work, dirty, out, files)
 }
 
 /// Answers each line of a source, in whatever pieces it is read, up to its end, or to the first cause that breaks it
 /// off. A line that the work held before is not served. Each reply goes to the sink before the next line is served.
-pub fn serve<R: Region, S: Source, K: Sink, F: Files>(
+pub fn serve<V: FileSystem, S: Source, K: Sink, F: Files>(
     alloc: Global,
-    volume: &mut Volume<R>,
+    system: &mut V,
     work: &mut Work,
     src: &mut S,
     out: &mut K,
     files: &mut F,
 ) -> Result<(), Broken>
-    requires { CanServe volume.old (F.view files.old) }
-    ensures outcome { ServesAtOnce result S.view F.view K.view
-        src.old volume.old files.old out.old
-        src.new volume.new files.new out.new }
-    ensures again { ServesAgain volume.old volume.new (F.view files.new) }
+    requires { CanServe (V.behaviour.memory (V.state system.old)) (F.view files.old) }
+    ensures outcome { ServesAtOnce V.behaviour result S.view F.view K.view
+        src.old (V.state system.old) files.old out.old
+        src.new (V.state system.new) files.new out.new }
+    ensures again { ServesAgain (V.behaviour.memory (V.state system.old)) (V.behaviour.memory (V.state system.new)) (F.view files.new) }
 {
-    serve_by(alloc, volume, work, 0, &mut [], src, out, files)
+    serve_by(alloc, system, work, 0, &mut [], src, out, files)
 }
 
 /// Answers each line of a source, as `serve` does, but gathers replies while more lines of one read follow. They go
-/// to the sink before the next read, before a sync, and at the end. If the sink failed, the volume may be ahead of
+/// to the sink before the next read, before a sync, and at the end. If the sink failed, the file system may be ahead of
 /// the line whose reply was broken off, by later lines of which none is a sync; no file is ahead.
 ///
 /// A sync writes the dirty blocks, which may lack words of the last drain, and those to which a store went since, as
 /// `sync_and_save` does. The caller passes the dirty blocks (none, if the file was just read), and gets them at the
 /// end.
-pub fn serve_gathered<R: Region, S: Source, K: Sink, F: Files>(
+pub fn serve_gathered<V: FileSystem, S: Source, K: Sink, F: Files>(
     alloc: Global,
-    volume: &mut Volume<R>,
+    system: &mut V,
     work: &mut Work,
     dirty: &mut DirtyBlocks,
     src: &mut S,
     out: &mut K,
     files: &mut F,
 ) -> Result<(), Broken>
-    requires { CanServe volume.old (F.view files.old) }
-    ensures outcome { ServesGathered result S.view F.view K.view
-        src.old dirty.old volume.old files.old out.old
-        src.new dirty.new volume.new files.new out.new }
-    ensures again { ServesAgain volume.old volume.new (F.view files.new) }
+    requires { CanServe (V.behaviour.memory (V.state system.old)) (F.view files.old) }
+    ensures outcome { ServesGathered V.behaviour result S.view F.view K.view
+        src.old dirty.old (V.state system.old) files.old out.old
+        src.new dirty.new (V.state system.new) files.new out.new }
+    ensures again { ServesAgain (V.behaviour.memory (V.state system.old)) (V.behaviour.memory (V.state system.new)) (F.view files.new) }
 {
     let count = dirty.count.min(dirty.flags.len());
     serve_by(
         alloc,
-        volume,
+        system,
         work,
         GATHERED,
         &mut dirty.flags[..count],

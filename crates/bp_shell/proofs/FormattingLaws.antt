@@ -15,8 +15,8 @@ use Rattle.bp_io.specs.Views.{Known, HasBytes}
 use Rattle.bp_session.specs.Faults.{Prints}
 use Rattle.bp_session.proofs.BlockLaws.{image_bytes-append, length-image_bytes}
 use Rattle.bp_shell.specs.Formatting.{HasPartly, bytes_there, new_image}
-use Rattle.bp_volume.specs.Laid.{format_events}
-use Rattle.bp_volume.proofs.PrefixLaws.{formatted-append, formatted_words}
+use Rattle.bp_mount.specs.Laid.{format_events}
+use Rattle.bp_shell.proofs.PrefixLaws.{formatted-append, formatted_words}
 use Rattle.pm_region.specs.Memory.{Adds, Memory, current_words}
 use Rattle.pm_region.proofs.MemoryLaws.{length-current_words}
 

@@ -17,7 +17,7 @@ guaranteed before after runs = record {
   all = runs.all;
   replies = runs.reported.replies;
   printed = runs.reported.taken;
-  memory = runs.new.memory;
+  memory = runs.new.system;
   plainly = runs.plainly.whole;
   saved = runs.saved;
 }

@@ -1,6 +1,7 @@
 pub mod OpeningLaws
 pub mod FormattingLaws
 mod SeeingLaws
+mod PrefixLaws
 pub mod RunningLaws
 mod FilesLaws
 mod EndingLaws

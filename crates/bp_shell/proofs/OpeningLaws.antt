@@ -32,7 +32,7 @@ use Rattle.bp_shell.specs.Opening.{FindsImage, HasLoaded, HasSized, RefusesFile,
 use Rattle.bp_shell.specs.Opening.RefusesFile.{by_length, by_image}
 use Rattle.bp_shell.specs.Opening.RefusesImage.{not_formatted, by_count, damaged}
 use Rattle.bp_shell.specs.Stops.{stop_by}
-use Rattle.bp_volume.specs.Faults.{IsMountFault, stored_fault}
+use Rattle.bp_mount.specs.Faults.{IsMountFault, stored_fault}
 use Rattle.bp_shell.specs.declared.stop.Stop.{Stop}
 use Rattle.bp_shell.specs.declared.stop.Stop.TheVariants.{Missing, Outside, Refused, Memory}
 

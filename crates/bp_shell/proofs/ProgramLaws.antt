@@ -3,6 +3,7 @@ use Rattle.std.proofs.Common.{refl, sym, ◌∙◌, ap, subst, ◌≡◌, ◌<�
 use Rattle.std.specs.Prelude.{None, Option, Some, ◌⊎◌}
 use Rattle.std.specs.Io.KnownBytes.{Appends}
 use Rattle.pm_region.specs.Memory.{Memory, current_words, drained}
+use Rattle.bp_fs.specs.ByWords.{by_words}
 use Rattle.bp_io.specs.Causes.{Rose}
 use Rattle.bp_io.specs.Views.{View, SourceView, HasBytes}
 use Rattle.bp_layout.specs.Words.{Image}
@@ -106,32 +107,32 @@ module _ (before after : Outside) (untouched : IsUntouched before after) (flushe
   run_memory taken sink files = run_stopped s.Memory status.Memory (memory_reason before.file) (λ e. absurd (if_memory _ refl e)) (λ _. files) (refl, (taken, sink))
 
 -- a file that was just read holds the words of a region whose log is empty
-pub read_now : (now : Moment) (name : List ℕ) (image : Image) → now.memory ≡ (start image).memory → Holds now.files name image → HoldsAt now name image
+pub read_now : (now : Moment Memory) (name : List ℕ) (image : Image) → now.system ≡ (start image).system → Holds now.files name image → HoldsAt by_words now name image
 read_now now name image same file =
-    let base : now.memory.base ≡ image = ap (λ (m : Memory). m.base) same in
+    let base : now.system.base ≡ image = ap (λ (m : Memory). m.base) same in
     subst (λ (words : Image). HoldsAs now.dirty now.files words name image) (sym base) (holds_drained now.dirty now.files image name file)
 
 -- the outside at a moment, with what is stated of the files by another
-abbrev outside_at : SourceView → Moment → View → List ℕ → Outside
+abbrev outside_at : SourceView → Moment Memory → View → List ℕ → Outside
 outside_at source now files name = outside source (record { taken = now.taken; faults = now.faults }) files name
 
 -- from the moment at which FILE is mounted
-module _ (i j : SourceView) (files : View) (a b : Moment) (name : List ℕ) (image : Image) (found : HoldsFileSystem (files.contents name) image) (same : a.memory ≡ (start image).memory) (holds : HoldsAt a name image)
+module _ (i j : SourceView) (files : View) (a b : Moment Memory) (name : List ℕ) (image : Image) (found : HoldsFileSystem (files.contents name) image) (same : a.system ≡ (start image).system) (holds : HoldsAt by_words a name image)
     (flushed : a.files.is_flushed ≡ files.is_flushed) (calm : a.files.faults ≡ files.faults) where
-  pub run_served : (broken : Broken) → ServeOutcome (Some broken) gathered_size i j a b → RunOutcome (status_by broken) (outside_at i a files name) (outside_at j b b.files name)
+  pub run_served : (broken : Broken) → ServeOutcome by_words (Some broken) gathered_size i j a b → RunOutcome (status_by broken) (outside_at i a files name) (outside_at j b b.files name)
   run_served broken served =
       let before = outside_at i a files name in
       let after = outside_at j b b.files name in
-      let saves = λ (k : Image) (carried : Carries a b image k). (carried name holds).file.bytes in
+      let saves = λ (k : Image) (carried : Carries by_words a b image k). (carried name holds).file.bytes in
       let is = sym (back broken) in
       let reads = λ (unread : ReadsNothing (status_by broken)). broken_reads broken unread in
       run_outcome (status_by broken) before after (λ e. absurd (never_whole broken (is ∙ ap broken_by e)))
-      (λ e. let part = served.part (is ∙ ap broken_by e) in runs_part before after image a.memory b.memory found same part.0 part.1 (Carries a b image) saves part.2 (part.3 image))
-      (λ e. let reported = served.broken (is ∙ ap broken_by e) in runs_broken before after image a.memory b.memory found same reported.0 (Carries a b image) saves reported.1
+      (λ e. let part = served.part (is ∙ ap broken_by e) in runs_part before after image a.system b.system found same part.0 part.1 (Carries by_words a b image) saves part.2 (part.3 image))
+      (λ e. let reported = served.broken (is ∙ ap broken_by e) in runs_broken before after image a.system b.system found same reported.0 (Carries by_words a b image) saves reported.1
       (elim reported.2 [ inl all ↦ inl (λ rest. all rest image) | inr last ↦ inr (last.0, last.1 image) ]))
-      (λ e. let stop = served.stopped (is ∙ ap broken_by e) in inr (inl (runs_stopped before after image a.memory b.memory found same stop.0 (CarriesPartly a b image) (λ k l carried. (carried name holds).bytes) stop.1
+      (λ e. let stop = served.stopped (is ∙ ap broken_by e) in inr (inl (runs_stopped before after image a.system b.system found same stop.0 (CarriesPartly by_words a b image) (λ k l carried. (carried name holds).bytes) stop.1
       (elim stop.2 [ inl all ↦ inl (λ rest. (all rest).stops image) | inr last ↦ inr (last.0, last.1.stops image) ]))))
-      (λ e. let long = served.long (is ∙ ap broken_by e) in runs_long before after image a.memory b.memory found same long.0 long.1 long.2 (Carries a b image) saves long.3 long.4 long.5 long.6 (long.7 image))
+      (λ e. let long = served.long (is ∙ ap broken_by e) in runs_long before after image a.system b.system found same long.0 long.1 long.2 (Carries by_words a b image) saves long.3 long.4 long.5 long.6 (long.7 image))
       (no_stop before after (status_by broken) (λ e. reads (inl e)) (λ e. reads (inr (inr (inl e)))) (λ e. reads (inr (inr (inr (inl e)))))
       (rw (back broken, no_line broken)
       (first_then (Some broken) (counts i.faults a.faults files) (counts i.faults a.faults a.files) (counts j.faults b.faults b.files) refl refl calm served.first)))
@@ -139,14 +140,14 @@ module _ (i j : SourceView) (files : View) (a b : Moment) (name : List ℕ) (ima
       (broken_runs broken)
 
   -- the sync at the end saved, or couldn't
-  module _ (now : View) (served : ServeOutcome None gathered_size i j a b) where
-    pub run_whole : HasBytes (now.contents name) (image_bytes (current_words b.memory)) → now.is_flushed ≡ true → now.faults ≡ b.files.faults
+  module _ (now : View) (served : ServeOutcome by_words None gathered_size i j a b) where
+    pub run_whole : HasBytes (now.contents name) (image_bytes (current_words b.system)) → now.is_flushed ≡ true → now.faults ≡ b.files.faults
         → RunOutcome status.Done (outside_at i a files name) (outside_at j b now name)
     run_whole saved done same_files =
         let before = outside_at i a files name in
         let after = outside_at j b now name in
         let all = served.whole refl in
-        run_outcome status.Done before after (λ _. runs_whole before after image a.memory b.memory found same all.0 (Carries a b image) all.1 all.2 all.3 (all.4 image) saved done)
+        run_outcome status.Done before after (λ _. runs_whole before after image a.system b.system found same all.0 (Carries by_words a b image) all.1 all.2 all.3 (all.4 image) saved done)
         (λ e. absurd cc) (λ e. absurd cc) (λ e. absurd cc) (λ e. absurd cc)
         (no_stop before after status.Done (λ e. cc) (λ e. cc) (λ e. cc)
         (quiet false _ _ (served.first.no_source (λ e. cc)) (served.first.no_sink refl (λ e. cc))
@@ -154,7 +155,7 @@ module _ (i j : SourceView) (files : View) (a b : Moment) (name : List ℕ) (ima
         (λ _ _. done)
         (inl refl)
 
-    pub run_unsaved : (memory : Memory) → memory ≡ drained b.memory → ((was : Image) → Holds b.files name was → HasBlocksOf (now.contents name) (image_bytes was) (image_bytes (current_words b.memory))) → Rose b.files.faults now.faults
+    pub run_unsaved : (memory : Memory) → memory ≡ drained b.system → ((was : Image) → Holds b.files name was → HasBlocksOf (now.contents name) (image_bytes was) (image_bytes (current_words b.system))) → Rose b.files.faults now.faults
         → RunOutcome status.FilesFailed (outside_at i a files name) (outside_at j b now name)
     run_unsaved memory done partly rose =
         let before = outside_at i a files name in
@@ -162,7 +163,7 @@ module _ (i j : SourceView) (files : View) (a b : Moment) (name : List ℕ) (ima
         let all = served.whole refl in
         let reported = all.4 image in
         run_outcome status.FilesFailed before after (λ e. absurd cc) (λ e. absurd cc) (λ e. absurd cc)
-        (λ _. inr (inr (runs_unsaved before after image a.memory memory found same all.0 b.memory (Carries a b image) all.1 all.2 all.3 reported done (partly reported.after (reported.file name holds).file))))
+        (λ _. inr (inr (runs_unsaved before after image a.system memory found same all.0 b.system (Carries by_words a b image) all.1 all.2 all.3 reported done (partly reported.after (reported.file name holds).file))))
         (λ e. absurd cc)
         (no_stop before after status.FilesFailed (λ e. cc) (λ e. cc) (λ e. cc)
         (first_then (Some Files) (counts i.faults a.faults files) (counts j.faults b.faults b.files) (counts j.faults b.faults now) (served.first.no_source (λ e. cc)) (served.first.no_sink refl (λ e. cc))

@@ -3,6 +3,7 @@ use Rattle.std.proofs.Common.{refl, sym, ◌∙◌, ap, arith, ◌≡◌, ℕ, �
 use Rattle.std.specs.Prelude.{Some}
 use Rattle.std.specs.Io.KnownBytes.{Consumes, IsAtEnd}
 use Rattle.pm_region.specs.Memory.{Memory, current_words, drained}
+use Rattle.bp_fs.specs.ByWords.{by_words}
 use Rattle.bp_layout.specs.Formatted.{version_of}
 use Rattle.bp_layout.specs.Words.{Image, word}
 use Rattle.bp_layout.specs.Bytes.{image_bytes}
@@ -40,17 +41,17 @@ use Rattle.bp_session.proofs.ServingLaws.{breaks_as, not_long, serves_as, sessio
 
 -- ---- the end of a run, by its status
 
-module _ (before after : Outside) (image : Image) (memory new : Memory) (found : HoldsFileSystem before.file image) (same : memory ≡ (start image).memory) where
+module _ (before after : Outside) (image : Image) (memory new : Memory) (found : HoldsFileSystem before.file image) (same : memory ≡ (start image).system) where
   abbrev begins : (input : List ℕ) → Consumes before.left after.left input → BeginsRun before after
   begins input read = record { image = image; found = found; tree = tree_of (by_roles image) found.well_formed.first found.well_formed.second; stands = stands_for (by_roles image) found.well_formed.first found.well_formed.second; input = input; read = read }
 
-  plainly : (commands : List Command) (replies : List LineReply) (end : State) → Session (start image) commands replies end → FollowsTree (tree_of (by_roles image) found.well_formed.first found.well_formed.second) (start image) commands replies end
+  plainly : (commands : List Command) (replies : List LineReply) (end : State Memory) → Session by_words (start image) commands replies end → FollowsTree (tree_of (by_roles image) found.well_formed.first found.well_formed.second) (start image) commands replies end
   plainly commands replies end session = follows_tree (start image) (tree_of (by_roles image) found.well_formed.first found.well_formed.second) commands replies end refl (stands_for (by_roles image) found.well_formed.first found.well_formed.second) session
 
   pub runs_whole : (input : List ℕ) (holds : Image → Type 0) → Consumes before.left after.left input → IsAtEnd after.left → length input ≤ 1073741824
-      → ServesAll (state memory image) new holds (commands_from [] input) before.taken after.taken → Saves after (current_words new) → after.is_flushed ≡ true → Runs before after
+      → ServesAll by_words (state memory image) new holds (commands_from [] input) before.taken after.taken → Saves after (current_words new) → after.is_flushed ≡ true → Runs before after
   runs_whole input holds read end few all saved flushed =
-      let reported : Replied (start image) (state new all.after) (commands_from [] input) before.taken after.taken = rw same at all.reported in
+      let reported : Replied by_words (start image) (state new all.after) (commands_from [] input) before.taken after.taken = rw same at all.reported in
       record {
         begins = begins input read;
         all = end;
@@ -62,18 +63,18 @@ module _ (before after : Outside) (image : Image) (memory new : Memory) (found :
         plainly = plainly _ _ _ reported.session;
       }
 
-  serves_from_start : (input keeps : List ℕ) (holds : Image → Type 0) → ((i : Image) → holds i → Saves after i) → Serves (state memory image) new holds [] input keeps before.taken after.taken
-      → Serves (start image) new (Saves after) [] input keeps before.taken after.taken
-  serves_from_start input keeps holds f serves = serves_as (start image) new before.taken after.taken holds (Saves after) f [] input keeps (rw same at serves)
+  serves_from_start : (input keeps : List ℕ) (holds : Image → Type 0) → ((i : Image) → holds i → Saves after i) → Serves by_words (state memory image) new holds [] input keeps before.taken after.taken
+      → Serves by_words (start image) new (Saves after) [] input keeps before.taken after.taken
+  serves_from_start input keeps holds f serves = serves_as by_words (start image) new before.taken after.taken holds (Saves after) f [] input keeps (rw same at serves)
 
   pub runs_part : (input keeps : List ℕ) (holds : Image → Type 0) → ((i : Image) → holds i → Saves after i) → Consumes before.left after.left input
-      → Serves (state memory image) new holds [] input keeps before.taken after.taken → RunsPart before after
+      → Serves by_words (state memory image) new holds [] input keeps before.taken after.taken → RunsPart before after
   runs_part input keeps holds f read serves =
       let reported = serves_from_start input keeps holds f serves in
       record { begins = begins input read; keeps = keeps; memory = new; serves = reported; plainly = plainly _ _ _ reported.reported.session }
 
   pub runs_long : (input more keeps : List ℕ) (holds : Image → Type 0) → ((i : Image) → holds i → Saves after i) → Consumes before.left after.left (input ++ more) → length input ≡ 1073741824 → 1 ≤ length more → length more ≤ 65536
-      → Serves (state memory image) new holds [] input keeps before.taken after.taken → RunsLong before after
+      → Serves by_words (state memory image) new holds [] input keeps before.taken after.taken → RunsLong before after
   runs_long input more keeps holds f read most some few serves =
       let reported = serves_from_start input keeps holds f serves in
       record {
@@ -90,19 +91,19 @@ module _ (before after : Outside) (image : Image) (memory new : Memory) (found :
         plainly = plainly _ _ _ reported.reported.session;
       }
 
-  breaks_plainly : (holds : Image → Type 0) → ((i : Image) → holds i → Saves after i) → (commands : List Command) → BreaksOff gathered_size (state memory image) new holds commands before.taken after.taken
+  breaks_plainly : (holds : Image → Type 0) → ((i : Image) → holds i → Saves after i) → (commands : List Command) → BreaksOff by_words gathered_size (state memory image) new holds commands before.taken after.taken
       → BreaksOffPlainly image (tree_of (by_roles image) found.well_formed.first found.well_formed.second) new before after commands
   breaks_plainly holds f commands breaks =
-      let reported : BreaksOff gathered_size (start image) new (Saves after) commands before.taken after.taken =
-      breaks_as (start image) new before.taken after.taken holds (Saves after) f gathered_size gathered_size commands (λ e. e) (rw same at breaks) in
+      let reported : BreaksOff by_words gathered_size (start image) new (Saves after) commands before.taken after.taken =
+      breaks_as by_words (start image) new before.taken after.taken holds (Saves after) f gathered_size gathered_size commands (λ e. e) (rw same at breaks) in
       record {
         breaks = reported;
         plainly = plainly _ _ _
-            (session_append (start image) reported.middle (state new reported.after) reported.prefix (reported.last ∷ reported.ahead) reported.replies (reported.reply ∷ reported.unheard) reported.session (reported.reached, reported.line, reported.later));
+            (session_append by_words (start image) reported.middle (state new reported.after) reported.prefix (reported.last ∷ reported.ahead) reported.replies (reported.reply ∷ reported.unheard) reported.session (reported.reached, reported.line, reported.later));
       }
 
   pub runs_broken : (input : List ℕ) (holds : Image → Type 0) → ((i : Image) → holds i → Saves after i) → Consumes before.left after.left input
-      → OfLines after.left input (λ commands. BreaksOff gathered_size (state memory image) new holds commands before.taken after.taken) → RunsBroken before after
+      → OfLines after.left input (λ commands. BreaksOff by_words gathered_size (state memory image) new holds commands before.taken after.taken) → RunsBroken before after
   runs_broken input holds f read breaks = record {
     begins = begins input read;
     memory = new;
@@ -112,14 +113,14 @@ module _ (before after : Outside) (image : Image) (memory new : Memory) (found :
     ];
   }
 
-  stops_plainly : (partly : Image → Image → Type 0) → ((i j : Image) → partly i j → SavesSomeBlocks after i j) → (commands : List Command) → StopsAtSave (state memory image) new partly commands before.taken after.taken
+  stops_plainly : (partly : Image → Image → Type 0) → ((i j : Image) → partly i j → SavesSomeBlocks after i j) → (commands : List Command) → StopsAtSave by_words (state memory image) new partly commands before.taken after.taken
       → StopsPlainly image (tree_of (by_roles image) found.well_formed.first found.well_formed.second) new before after commands
   stops_plainly partly f commands stops =
-      let reported : StopsAtSave (start image) new (SavesSomeBlocks after) commands before.taken after.taken = stops_as (start image) new before.taken after.taken partly (SavesSomeBlocks after) f commands (rw same at stops) in
+      let reported : StopsAtSave by_words (start image) new (SavesSomeBlocks after) commands before.taken after.taken = stops_as by_words (start image) new before.taken after.taken partly (SavesSomeBlocks after) f commands (rw same at stops) in
       record { stops = reported; plainly = plainly _ _ _ reported.reported.session }
 
   pub runs_stopped : (input : List ℕ) (partly : Image → Image → Type 0) → ((i j : Image) → partly i j → SavesSomeBlocks after i j) → Consumes before.left after.left input
-      → OfLines after.left input (λ commands. StopsAtSave (state memory image) new partly commands before.taken after.taken) → RunsStopped before after
+      → OfLines after.left input (λ commands. StopsAtSave by_words (state memory image) new partly commands before.taken after.taken) → RunsStopped before after
   runs_stopped input partly f read stops = record {
     begins = begins input read;
     memory = new;
@@ -131,9 +132,9 @@ module _ (before after : Outside) (image : Image) (memory new : Memory) (found :
 
   -- the sync at the input's end
   pub runs_unsaved : (input : List ℕ) (middle : Memory) (holds : Image → Type 0) → Consumes before.left after.left input → IsAtEnd after.left → length input ≤ 1073741824
-      → (all : ServesAll (state memory image) middle holds (commands_from [] input) before.taken after.taken) → new ≡ drained middle → SavesSomeBlocks after all.after (current_words middle) → RunsUnsaved before after
+      → (all : ServesAll by_words (state memory image) middle holds (commands_from [] input) before.taken after.taken) → new ≡ drained middle → SavesSomeBlocks after all.after (current_words middle) → RunsUnsaved before after
   runs_unsaved input middle holds read end few all done file =
-      let reported : Replied (start image) (state middle all.after) (commands_from [] input) before.taken after.taken = rw same at all.reported in
+      let reported : Replied by_words (start image) (state middle all.after) (commands_from [] input) before.taken after.taken = rw same at all.reported in
       record {
         begins = begins input read;
         all = end;

@@ -26,7 +26,7 @@ EndsAs Ends name source_of sink_of files_of source sink files source_now sink_no
     Ends (outside (source_of source) (sink_of sink) (files_of files) name)
     (outside (source_of source_now) (sink_of sink_now) (files_of files_now) name)
 
--- The result of `run` over a volume, from whichever file it was mounted.
+-- The result of `run` over a file system, from whichever file it was mounted.
 abbrev pub RunsMounted : {S K F : Type 0} → Status → (S → SourceView) → (K → SinkView) → (F → View)
     → S → K → F → Memory → S → K → F → Type 0
 RunsMounted answer source_of sink_of files_of source sink files memory source_now sink_now files_now =

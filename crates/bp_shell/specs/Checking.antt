@@ -4,8 +4,8 @@ use Rattle.bp_io.specs.Views.{Known}
 use Rattle.bp_layout.specs.Whole.{HasSpace}
 use Rattle.bp_layout.specs.Words.{Image}
 use Rattle.bp_roles.specs.Mounted.{by_roles}
-use Rattle.bp_scan.specs.Totals.{HasTotals}
-use Rattle.bp_scan.specs.declared.totals.Totals.{Totals}
+use Rattle.bp_layout.specs.Totals.{HasTotals}
+use Rattle.bp_layout.specs.declared.totals.Totals.{Totals}
 use Rattle.bp_script.specs.Sayings.{notice_text}
 use Rattle.bp_script.specs.declared.notices.Notice.{Notice}
 use Rattle.bp_script.specs.declared.notices.Notice.TheVariants.{Clean}

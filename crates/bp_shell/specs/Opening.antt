@@ -80,12 +80,12 @@ pub data RefusesFile (known : Known) : Notice → Type 0 where
       → RefusesImage (by_roles image) (stored_at (roles_of (word image super_magic))) notice → RefusesFile known notice
 
 -- The state in which a run begins.
-abbrev pub start : Image → State
-start image = record { memory = record { base = image; events = []; capacity = log_events; drains = 0; through = 0 }; saved = image }
+abbrev pub start : Image → State Memory
+start image = record { system = record { base = image; events = []; capacity = log_events; drains = 0; through = 0 }; saved = image }
 
 -- The memory with which a run over an image begins.
 abbrev pub IsStart : Image → Memory → Type 0
-IsStart image memory = memory ≡ (start image).memory
+IsStart image memory = memory ≡ (start image).system
 
 -- From whichever file the memory was mounted, the fact holds of the known contents of that file.
 abbrev pub FromAnyFile : Memory → (Known → Type 0) → Type 0

@@ -1,6 +1,7 @@
 -- The result of `play FILE --seed S --count C`, and its conditions.
 use Rattle.std.specs.Prelude.{◌≡◌, ◌++◌, ℕ, List, codes, decimal, flat_map}
 use Rattle.pm_region.specs.Memory.{Memory}
+use Rattle.bp_fs.specs.ByWords.{by_words}
 use Rattle.bp_io.specs.Views.{Known}
 use Rattle.bp_layout.specs.Whole.{HasSpace}
 use Rattle.bp_layout.specs.Words.{Image}
@@ -10,8 +11,8 @@ use Rattle.bp_play.specs.Playing.{Plays}
 use Rattle.bp_play.specs.Turns.{turns}
 use Rattle.bp_play.specs.declared.summary.Summary.{Summary}
 use Rattle.bp_roles.specs.Mounted.{by_roles, served_words}
-use Rattle.bp_scan.specs.Totals.{HasTotals}
-use Rattle.bp_scan.specs.declared.totals.Totals.{Totals}
+use Rattle.bp_layout.specs.Totals.{HasTotals}
+use Rattle.bp_layout.specs.declared.totals.Totals.{Totals}
 use Rattle.bp_session.specs.Acting.{state}
 use Rattle.bp_session.specs.Outside.{Outside}
 use Rattle.bp_session.specs.Prefixes.{FollowsTree}
@@ -53,7 +54,7 @@ play_text count summary totals free = summary_text count summary ++ tree_text to
 -- A play ended with this summary, and with a memory of these totals and this number of free blocks.
 pub record EndsPlay (old : Memory) (seed count : ℕ) (summary : Summary) (totals : Totals) (free : ℕ) : Type 0 where
   pub new : Memory
-  pub plays : Plays old new seed count summary
+  pub plays : Plays by_words old new seed count summary
   pub holds : HasTotals (served_words new) totals
   pub leaves : HasSpace (served_words new) free
 
@@ -65,7 +66,7 @@ pub record PlaysFile (known : Known) (seed count : ℕ) (text : List ℕ) : Type
   pub summary : Summary
   pub totals : Totals
   pub free : ℕ
-  pub ends : EndsPlay (start image).memory seed count summary totals free
+  pub ends : EndsPlay (start image).system seed count summary totals free
   pub reported : text ≡ play_text count summary totals free
   pub plainly : (tree : FileTree) → Stands (by_roles image) tree
       → FollowsTree tree (start image) (turns seed count) ends.plays.replies (state ends.new image)

@@ -2,6 +2,7 @@
 use Rattle.std.specs.Prelude.{Some, true, false, ◌≡◌, ◌⊎◌, ◌≤◌, ℕ, ◌-◌, List, [], ◌∷◌, ◌++◌, length}
 use Rattle.std.specs.Io.KnownBytes.{Appends, Consumes, IsAtEnd}
 use Rattle.pm_region.specs.Memory.{Memory, current_words}
+use Rattle.bp_fs.specs.ByWords.{by_words}
 use Rattle.bp_io.specs.Files.{KeepsFiles, Stays, StaysAttached}
 use Rattle.bp_io.specs.Views.{View, HasBytes}
 use Rattle.bp_limits.specs.Limits.{max_input}
@@ -71,9 +72,9 @@ pub record Runs (before after : Outside) : Type 0 where
   pub begins : BeginsRun before after
   pub all : IsAtEnd after.left
   pub few : length begins.input ≤ max_input
-  pub new : State
-  pub reported : Replied (start begins.image) new (commands_from [] begins.input) before.taken after.taken
-  pub saved : Saves after (current_words new.memory)
+  pub new : State Memory
+  pub reported : Replied by_words (start begins.image) new (commands_from [] begins.input) before.taken after.taken
+  pub saved : Saves after (current_words new.system)
   pub flushed : after.is_flushed ≡ true
   pub plainly : FollowsTree begins.tree (start begins.image) (commands_from [] begins.input) reported.replies new
 
@@ -82,7 +83,7 @@ pub record RunsPart (before after : Outside) : Type 0 where
   pub begins : BeginsRun before after
   pub keeps : List ℕ
   pub memory : Memory
-  pub serves : Serves (start begins.image) memory (Saves after) [] begins.input keeps before.taken after.taken
+  pub serves : Serves by_words (start begins.image) memory (Saves after) [] begins.input keeps before.taken after.taken
   pub plainly : FollowsTree begins.tree (start begins.image) serves.commands serves.reported.replies
       (state memory serves.after)
 
@@ -97,7 +98,7 @@ pub record RunsLong (before after : Outside) : Type 0 where
   pub few : length more ≤ piece_size
   pub keeps : List ℕ
   pub memory : Memory
-  pub serves : Serves (start begins.image) memory (Saves after) [] served keeps before.taken after.taken
+  pub serves : Serves by_words (start begins.image) memory (Saves after) [] served keeps before.taken after.taken
   pub plainly : FollowsTree begins.tree (start begins.image) serves.commands serves.reported.replies
       (state memory serves.after)
 
@@ -105,7 +106,7 @@ pub record RunsLong (before after : Outside) : Type 0 where
 -- after it.
 pub record BreaksOffPlainly (image : Image) (tree : FileTree) (memory : Memory) (before after : Outside)
     (commands : List Command) : Type 0 where
-  pub breaks : BreaksOff gathered_size (start image) memory (Saves after) commands before.taken after.taken
+  pub breaks : BreaksOff by_words gathered_size (start image) memory (Saves after) commands before.taken after.taken
   pub plainly : FollowsTree tree (start image) (breaks.prefix ++ breaks.last ∷ breaks.ahead)
       (breaks.replies ++ breaks.reply ∷ breaks.unheard) (state memory breaks.after)
 
@@ -119,7 +120,7 @@ pub record RunsBroken (before after : Outside) : Type 0 where
 -- the one at the sync.
 pub record StopsPlainly (image : Image) (tree : FileTree) (memory : Memory) (before after : Outside)
     (commands : List Command) : Type 0 where
-  pub stops : StopsAtSave (start image) memory (SavesSomeBlocks after) commands before.taken after.taken
+  pub stops : StopsAtSave by_words (start image) memory (SavesSomeBlocks after) commands before.taken after.taken
   pub plainly : FollowsTree tree (start image) stops.prefix stops.reported.replies stops.middle
 
 -- A sync could not save. Its line was read whole, or ended the input.
@@ -134,9 +135,9 @@ pub record RunsUnsaved (before after : Outside) : Type 0 where
   pub all : IsAtEnd after.left
   pub few : length begins.input ≤ max_input
   pub memory : Memory
-  pub middle : State
-  pub reported : Replied (start begins.image) middle (commands_from [] begins.input) before.taken after.taken
-  pub fails : SyncFails middle memory (SavesSomeBlocks after) sync
+  pub middle : State Memory
+  pub reported : Replied by_words (start begins.image) middle (commands_from [] begins.input) before.taken after.taken
+  pub fails : SyncFails by_words middle memory (SavesSomeBlocks after) sync
   pub plainly : FollowsTree begins.tree (start begins.image) (commands_from [] begins.input) reported.replies middle
 
 -- If FILE is known to have the bytes of a file system of at most `max_file_blocks` blocks, the known source has at most

@@ -9,8 +9,8 @@ use Rattle.bp_layout.specs.Words.{Image, block_count, word}
 use Rattle.bp_limits.specs.Limits.{block_inodes, super_magic}
 use Rattle.bp_roles.specs.Mounted.{roles_of}
 use Rattle.bp_roles.specs.Seen.{MemoryByRoles}
-use Rattle.bp_scan.specs.Totals.{HasTotals}
-use Rattle.bp_scan.specs.declared.totals.Totals.{Totals}
+use Rattle.bp_layout.specs.Totals.{HasTotals}
+use Rattle.bp_layout.specs.declared.totals.Totals.{Totals}
 
 -- The region is seen as a mount sees it, and its log is empty: what is seen is its image `by_roles`.
 pub record IsSeenMounted (region : MemoryByRoles) : Type 0 where

@@ -15,9 +15,9 @@ use crate::output::print;
 use crate::status::Status;
 use bp_io::{Access, Failed, Files, Sink};
 use bp_limits::{BLOCK_SIZE, BLOCK_WORDS, MAX_FILE_BLOCKS, MIN_BLOCKS, Version};
+use bp_mount::lay_first_blocks;
 use bp_script::Notice;
 use bp_session::blocks::read_blocks;
-use bp_volume::lay_first_blocks;
 use pm_region::{ListRegion, Region};
 use std::alloc::{AllocError, Global};
 

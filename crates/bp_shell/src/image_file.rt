@@ -18,10 +18,10 @@ ghost use Rattle.bp_shell.specs.declared.stop.Stop.TheVariants.{Memory, Outside,
 use crate::stop::Stop;
 use bp_io::{Access, BLOCK, Failed, Files};
 use bp_limits::{BLOCK_WORDS, LOG_EVENTS, MAX_FILE_BLOCKS};
+use bp_mount::Mount;
 use bp_scan::{MountFault, image_length};
 use bp_script::Notice;
 use bp_session::blocks::RUN_BLOCKS;
-use bp_volume::Volume;
 use pm_raw::{Filling, RawRegion};
 use std::alloc::Global;
 
@@ -158,17 +158,17 @@ pub(crate) fn load_file<F: Files>(
 }
 
 /// Mounts a region of the words of an image.
-fn mount(alloc: Global, region: RawRegion) -> Result<Volume<RawRegion>, Stop>
+fn mount<M: Mount<Region = RawRegion>>(alloc: Global, region: RawRegion) -> Result<M, Stop>
     requires starts { IsStart region.base region }
     requires sized { IsSized region.base }
-    ensures same { IfOk result (λ volume. volume ≡ region) }
+    ensures same { IfOk result (λ system. M.memory system ≡ region) }
     ensures well_formed { OnOk result (IsFileSystem (by_roles region.base)) }
     ensures refused { IfErr result (λ stop. (known : Known) (notice : Notice) → HasImage known region.base →
         stop ≡ Refused notice → RefusesFile known notice) }
     ensures kinds { IfErr result (λ stop. ((notice : Notice) × (stop ≡ Refused notice)) ⊎ (stop ≡ Memory)) }
 {
-    match Volume::mount(alloc, region) {
-        Ok(volume) => Ok(volume),
+    match M::mount(alloc, region) {
+        Ok(system) => Ok(system),
         Err((_, fault)) => Err(stop_of(fault)),
     }
 }
@@ -181,11 +181,15 @@ fn mount(alloc: Global, region: RawRegion) -> Result<Volume<RawRegion>, Stop>
 /// * `Missing`: the file does not exist.
 /// * `Outside`: the files failed.
 /// * `Refused`: the file is no file system of at most `MAX_FILE_BLOCKS` blocks.
-/// * `Memory`: allocation of memory for the volume failed.
-pub fn open<F: Files>(alloc: Global, name: &str, files: &mut F) -> Result<Volume<RawRegion>, Stop>
-    ensures opened { IfOk result (λ volume. Mounts (F.view files.old) name.now (F.view files.new) volume) }
-    ensures ready { IfOk result (λ volume. CanSave volume.base (F.view files.new)) }
-    ensures capacity { IfOk result (λ volume. volume.capacity ≡ log_events) }
+/// * `Memory`: allocation of memory for the file system failed.
+pub fn open<M: Mount<Region = RawRegion>, F: Files>(
+    alloc: Global,
+    name: &str,
+    files: &mut F,
+) -> Result<M, Stop>
+    ensures opened { IfOk result (λ system. Mounts (F.view files.old) name.now (F.view files.new) (M.memory system)) }
+    ensures ready { IfOk result (λ system. CanSave (M.memory system).base (F.view files.new)) }
+    ensures capacity { IfOk result (λ system. (M.memory system).capacity ≡ log_events) }
     ensures reason { IfErr result (IsReason ((F.view files.old).contents name.now)) }
     ensures cause { HasStopCause (F.view files.old).faults (F.view files.new).faults result }
     ensures kept { KeepsFiles (F.view files.old) (F.view files.new) }
@@ -197,13 +201,13 @@ pub fn open<F: Files>(alloc: Global, name: &str, files: &mut F) -> Result<Volume
 }
 
 /// Mounts the file of a name, which is attached for reading only then. No file is created.
-pub(crate) fn open_to_read<F: Files>(
+pub(crate) fn open_to_read<M: Mount<Region = RawRegion>, F: Files>(
     alloc: Global,
     name: &str,
     files: &mut F,
-) -> Result<Volume<RawRegion>, Stop>
-    ensures opened { IfOk result (λ volume. (image : Image)
-        × HoldsFileSystem ((F.view files.old).contents name.now) image × IsStart image volume) }
+) -> Result<M, Stop>
+    ensures opened { IfOk result (λ system. (image : Image)
+        × HoldsFileSystem ((F.view files.old).contents name.now) image × IsStart image (M.memory system)) }
     ensures reason { IfErr result (IsReason ((F.view files.old).contents name.now)) }
     ensures cause { HasStopCause (F.view files.old).faults (F.view files.new).faults result }
     ensures reads { OnlyReads name.now (F.view files.old) (F.view files.new) }

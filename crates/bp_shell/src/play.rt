@@ -12,12 +12,13 @@ use crate::image_file::open_to_read;
 use crate::output::report_stop;
 use crate::status::Status;
 use crate::stop::Stop;
+use bp_fs::StoredFileSystem;
 use bp_io::{Failed, Files, Sink};
+use bp_layout::Totals;
+use bp_mount::Mount;
 use bp_play::{PlayBuffers, Summary, play_on};
 use bp_replies::send::send;
-use bp_scan::Totals;
-use bp_volume::Volume;
-use pm_region::Region;
+use pm_raw::RawRegion;
 use std::alloc::{AllocError, Global};
 
 /// The outcome of a play.
@@ -28,21 +29,21 @@ struct Played {
     free: u32,
 }
 
-/// Plays over a volume, and counts its totals and free blocks at the end.
-fn play_over<R: Region>(
+/// Plays over a file system, and counts its totals and free blocks at the end.
+fn play_over<V: StoredFileSystem>(
     alloc: Global,
-    volume: &mut Volume<R>,
+    system: &mut V,
     seed: u64,
     count: u32,
 ) -> Result<Played, AllocError>
     requires few { count ≤ max_turns }
-    requires roomy { volume.old.capacity ≤ log_events }
-    ensures { IfOk result (λ played. EndsPlay volume.old seed count played.summary played.totals played.free) }
+    requires roomy { (V.memory system.old).capacity ≤ log_events }
+    ensures { IfOk result (λ played. EndsPlay (V.memory system.old) seed count played.summary played.totals played.free) }
 {
     let mut buffers = PlayBuffers::new(alloc)?;
-    let summary = play_on(alloc, volume, &mut buffers, seed, count);
-    let totals = volume.totals();
-    let space = volume.space();
+    let summary = play_on(alloc, system, &mut buffers, seed, count);
+    let totals = system.totals();
+    let space = system.space();
     Ok(Played {
         summary,
         totals,
@@ -96,21 +97,21 @@ fn text_of(alloc: Global, count: u32, played: &Played) -> Result<String, AllocEr
     Ok(text)
 }
 
-/// Plays over a volume, and returns the five lines that report it.
-fn report_play<R: Region>(
+/// Plays over a file system, and returns the five lines that report it.
+fn report_play<V: StoredFileSystem>(
     alloc: Global,
-    volume: &mut Volume<R>,
+    system: &mut V,
     seed: u64,
     count: u32,
 ) -> Result<String, Stop>
     requires few { count ≤ max_turns }
-    requires roomy { volume.old.capacity ≤ log_events }
-    ensures plays { FromAnyFile volume.old
+    requires roomy { (V.memory system.old).capacity ≤ log_events }
+    ensures plays { FromAnyFile (V.memory system.old)
         (λ known. IfOk result (λ text. PlaysFile known seed count text.bytes.items)) }
     ensures reason { (known : Known) → IfErr result (IsReason known) }
     ensures cause { (faults : ℕ) → HasStopCause faults faults result }
 {
-    let played = match play_over(alloc, volume, seed, count) {
+    let played = match play_over(alloc, system, seed, count) {
         Ok(played) => played,
         Err(_) => return Err(Stop::Memory),
     };
@@ -121,7 +122,7 @@ fn report_play<R: Region>(
 }
 
 /// Plays over the file of a name, in memory only, and returns the five lines that report it.
-fn perform<F: Files>(
+fn perform<M: Mount<Region = RawRegion> + Drop, F: Files>(
     alloc: Global,
     name: &str,
     seed: u64,
@@ -135,14 +136,14 @@ fn perform<F: Files>(
     ensures reads { OnlyReads name.now (F.view files.old) (F.view files.new) }
     ensures flushed { (F.view files.new).is_flushed ≡ (F.view files.old).is_flushed }
 {
-    let mut volume = open_to_read(alloc, name, files)?;
-    report_play(alloc, &mut volume, seed, count)
+    let mut system = open_to_read::<M, F>(alloc, name, files)?;
+    report_play(alloc, &mut system, seed, count)
 }
 
 /// Plays `count` operations over the file of a name, which is only read: changes are made in memory, and dropped. The
 /// status is `Done` if the sink took the five lines, `Missing` if the file does not exist, else `SinkFailed`,
 /// `FilesFailed`, `Refused` or `Memory`.
-pub(crate) fn play_file<K: Sink, F: Files>(
+pub(crate) fn play_file<M: Mount<Region = RawRegion> + Drop, K: Sink, F: Files>(
     alloc: Global,
     name: &str,
     seed: u64,
@@ -156,7 +157,7 @@ pub(crate) fn play_file<K: Sink, F: Files>(
         (K.view out.old) (F.view files.old) (K.view out.new) (F.view files.new) }
     ensures reads { OnlyReads name.now (F.view files.old) (F.view files.new) }
 {
-    let text = match perform(alloc, name, seed, count, files) {
+    let text = match perform::<M, F>(alloc, name, seed, count, files) {
         Ok(text) => text,
         Err(stop) => return report_stop(stop, out),
     };

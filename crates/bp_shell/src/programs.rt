@@ -20,67 +20,68 @@ use crate::play::play_file;
 use crate::status::Status;
 use bp_command::laws::{plain_words_are_taken, words_ask_for_one_program};
 use bp_command::{Program, WordsFault, read_words};
+use bp_fs::StoredFileSystem;
 use bp_io::{Failed, Files, Sink, Source};
 use bp_limits::BLOCK_WORDS;
+use bp_mount::Mount;
 use bp_script::Notice;
 use bp_session::save::{DirtyBlocks, sync_and_save};
 use bp_session::{Work, serve_gathered};
-use bp_volume::Volume;
+use pm_raw::RawRegion;
 use pm_region::Region;
 use std::alloc::Global;
 
-/// Serves the script of a source over a volume whose file was just read, and saves the words of the volume at the
-/// end.
-fn serve_and_save<R: Region, S: Source, K: Sink, F: Files>(
+/// Serves the script of a source over a file system whose file was just read, and saves its words at the end.
+fn serve_and_save<V: StoredFileSystem, S: Source, K: Sink, F: Files>(
     alloc: Global,
-    volume: &mut Volume<R>,
+    system: &mut V,
     work: &mut Work,
     source: &mut S,
     out: &mut K,
     files: &mut F,
 ) -> Status
-    requires { CanServe volume.old (F.view files.old) }
-    // From whichever file the volume was mounted.
+    requires { CanServe (V.memory system.old) (F.view files.old) }
+    // From whichever file it was mounted.
     ensures outcome { RunsMounted result S.view K.view F.view
-        source.old out.old files.old volume.old source.new out.new files.new }
+        source.old out.old files.old (V.memory system.old) source.new out.new files.new }
     ensures unread { ReadsNothing result → source.new ≡ source.old }
     ensures attached { StaysAttached (F.view files.old) (F.view files.new) }
     ensures others { KeepsOthers (F.view files.old) (F.view files.new) }
 {
-    let mut dirty = DirtyBlocks::none((volume.region().words() / BLOCK_WORDS) as u32);
-    if let Err(broken) = serve_gathered(alloc, volume, work, &mut dirty, source, out, files) {
+    let mut dirty = DirtyBlocks::none((system.region().words() / BLOCK_WORDS) as u32);
+    if let Err(broken) = serve_gathered(alloc, system, work, &mut dirty, source, out, files) {
         return Status::from(broken);
     }
-    match sync_and_save(volume, &mut dirty, files) {
+    match sync_and_save(system, &mut dirty, files) {
         Ok(()) => Status::Done,
         Err(Failed) => Status::FilesFailed,
     }
 }
 
-/// Allocates the memory of a run, and serves the script of a source over a volume whose file was just read.
-fn run_over<R: Region, S: Source, K: Sink, F: Files>(
+/// Allocates the memory of a run, and serves the script of a source over a file system whose file was just read.
+fn run_over<V: StoredFileSystem, S: Source, K: Sink, F: Files>(
     alloc: Global,
-    volume: &mut Volume<R>,
+    system: &mut V,
     source: &mut S,
     out: &mut K,
     files: &mut F,
 ) -> Status
-    requires { CanServe volume.old (F.view files.old) }
-    // From whichever file the volume was mounted.
+    requires { CanServe (V.memory system.old) (F.view files.old) }
+    // From whichever file it was mounted.
     ensures outcome { RunsMounted result S.view K.view F.view
-        source.old out.old files.old volume.old source.new out.new files.new }
+        source.old out.old files.old (V.memory system.old) source.new out.new files.new }
     ensures unread { ReadsNothing result → source.new ≡ source.old }
     ensures attached { StaysAttached (F.view files.old) (F.view files.new) }
     ensures others { KeepsOthers (F.view files.old) (F.view files.new) }
 {
     match Work::new(alloc) {
-        Ok(mut work) => serve_and_save(alloc, volume, &mut work, source, out, files),
+        Ok(mut work) => serve_and_save(alloc, system, &mut work, source, out, files),
         Err(_) => Status::Memory,
     }
 }
 
 /// Serves the script of a source over the file of a name.
-fn run_file<S: Source, K: Sink, F: Files>(
+fn run_file<M: Mount<Region = RawRegion> + Drop, S: Source, K: Sink, F: Files>(
     alloc: Global,
     name: &str,
     source: &mut S,
@@ -92,14 +93,14 @@ fn run_file<S: Source, K: Sink, F: Files>(
     ensures unread { ReadsNothing result → source.new ≡ source.old }
     ensures files { OnlyWrites name.now (F.view files.old) (F.view files.new) }
 {
-    match open(alloc, name, files) {
-        Ok(mut volume) => run_over(alloc, &mut volume, source, out, files),
+    match open::<M, F>(alloc, name, files) {
+        Ok(mut system) => run_over(alloc, &mut system, source, out, files),
         Err(stop) => report_stop(stop, out),
     }
 }
 
 /// Does what a program asks for.
-fn run_program<S: Source, K: Sink, F: Files>(
+fn run_program<M: Mount<Region = RawRegion> + Drop, S: Source, K: Sink, F: Files>(
     alloc: Global,
     program: &Program<'_>,
     source: &mut S,
@@ -119,16 +120,18 @@ fn run_program<S: Source, K: Sink, F: Files>(
             blocks,
             version,
         } => format_file(alloc, name, blocks, version, out, files),
-        Program::Run { name } => run_file(alloc, name, source, out, files),
+        Program::Run { name } => run_file::<M, S, K, F>(alloc, name, source, out, files),
         Program::Check { name } => check_file(alloc, name, out, files),
-        Program::Play { name, seed, count } => play_file(alloc, name, seed, count, out, files),
+        Program::Play { name, seed, count } => play_file::<M, K, F>(
+            alloc, name, seed, count, out, files,
+        ),
         Program::Export { name } => export_file(alloc, name, out, files),
     }
 }
 
 /// Does what the arguments ask for, and returns how that ended. The first argument is the name under which the
-/// program was called. `Status` lists when each status comes.
-pub fn run<S: Source, K: Sink, F: Files>(
+/// program was called. A run and a play mount FILE as `M`. `Status` lists when each status comes.
+pub fn run<M: Mount<Region = RawRegion> + Drop, S: Source, K: Sink, F: Files>(
     alloc: Global,
     words: &[&str],
     source: &mut S,
@@ -160,7 +163,7 @@ pub fn run<S: Source, K: Sink, F: Files>(
     plain_words_are_taken();
     words_ask_for_one_program();
     match read_words(alloc, words) {
-        Ok(program) => run_program(alloc, &program, source, out, files),
+        Ok(program) => run_program::<M, S, K, F>(alloc, &program, source, out, files),
         Err(WordsFault::Usage(_)) => {
             report_notice(&Notice::Usage, out);
             Status::Usage

@@ -14,10 +14,11 @@ ghost use Rattle.std.specs.Prelude.{◌*◌, ◌≡◌, ◌⊎◌, IfErr, IfOk, 
 
 use crate::image_file::stop_of;
 use crate::stop::Stop;
+use bp_layout::Totals;
 use bp_limits::BLOCK_WORDS;
+use bp_mount::{Sets, stored_fault};
 use bp_roles::RegionByRoles;
-use bp_scan::{Totals, scan_whole};
-use bp_volume::{Sets, stored_fault};
+use bp_scan::scan_whole;
 use pm_raw::RawRegion;
 use pm_region::Region;
 use std::alloc::Global;

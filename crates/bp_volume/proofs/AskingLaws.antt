@@ -25,7 +25,7 @@ use Rattle.bp_plain.specs.Calls.Answer.{refused, bytes, names, file_of, dir_of, 
 use Rattle.bp_plain.specs.Plain.{walk, refusal, file_refusal, on_parsed, on_path, first, when, listing, stat_answer, path_count, path_named, bytes_in, bytes_at}
 use Rattle.bp_layout.specs.WellFormed.{IsWellFormed}
 use Rattle.bp_read.specs.Names.{name_count}
-use Rattle.bp_volume.specs.Step.{PathFinds}
+use Rattle.bp_fs.specs.Step.{PathFinds}
 use Rattle.bp_volume.specs.Queries.{Answers, StopsAtFile, StopsWalk}
 use Rattle.bp_volume.proofs.WalkLaws.{some_inode, reached_at, node_at, dir_at, walk-found}
 use Rattle.bp_volume.proofs.EntryLaws.{length-entries}

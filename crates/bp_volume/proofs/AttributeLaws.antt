@@ -31,8 +31,8 @@ use Rattle.bp_plain.specs.PlainTree.{FileTree}
 use Rattle.bp_plain.specs.Stands.{Shows, Stands}
 use Rattle.bp_plain.proofs.PathLaws.{first_one}
 use Rattle.bp_stands.proofs.AttributeStands.{attributes_shows}
-use Rattle.bp_volume.specs.Step.{IsChange, PathFinds}
-use Rattle.bp_volume.specs.Step.IsChange.{by_set_attribute}
+use Rattle.bp_fs.specs.Step.{IsChange, PathFinds}
+use Rattle.bp_fs.specs.Step.IsChange.{by_set_attribute}
 use Rattle.bp_volume.specs.Queries.{Answers, RefusesWalk, StopsAtAttributes}
 use Rattle.bp_volume.proofs.CacheLaws.{files_keep_all}
 use Rattle.bp_volume.proofs.ChangeLaws.{MakesChange}

@@ -23,9 +23,9 @@ use Rattle.bp_plain.specs.Plain.{bytes_at, file_refusal, first, is_dir_at, on_pa
 use Rattle.bp_plain.specs.PlainTree.{FileTree}
 use Rattle.bp_plain.specs.Stands.{Stands}
 use Rattle.bp_plain.proofs.Carried.{batch_refused}
-use Rattle.bp_volume.specs.Step.{AreStretches, IsChange, PathFinds}
-use Rattle.bp_volume.specs.Step.AreStretches.{none as no_stretch, more as more_stretches}
-use Rattle.bp_volume.specs.Step.IsChange.{by_batch}
+use Rattle.bp_fs.specs.Step.{AreStretches, IsChange, PathFinds}
+use Rattle.bp_fs.specs.Step.AreStretches.{none as no_stretch, more as more_stretches}
+use Rattle.bp_fs.specs.Step.IsChange.{by_batch}
 use Rattle.bp_volume.specs.Queries.{Refuses, RefusesPiece, RefusesPieces, StopsAtFile, Answers, refusal_of_file}
 use Rattle.bp_volume.proofs.AskingLaws.{at_reached}
 use Rattle.bp_volume.proofs.ChangeLaws.{MakesChange}

@@ -20,8 +20,8 @@ use Rattle.bp_plain.specs.Seen.{refusal_of}
 use Rattle.bp_changes.specs.Performs.{Performs}
 use Rattle.bp_changes.proofs.PerformsLaws.{performs_as, performs_fits}
 use Rattle.bp_calls.specs.Space.{LacksSpace}
-use Rattle.bp_volume.specs.Step.{StepFor, IsChange, Fits}
-use Rattle.bp_volume.specs.Step.StepFor.{changed}
+use Rattle.bp_fs.specs.Step.{StepFor, IsChange, Fits}
+use Rattle.bp_fs.specs.Step.StepFor.{changed}
 use Rattle.bp_volume.specs.Queries.{Answers}
 use Rattle.bp_volume.specs.Carried.{CarriesOut, ChangesTree, PerformsCall}
 use Rattle.bp_volume.specs.Carried.CarriesOut.{changed as carried, unchanged}

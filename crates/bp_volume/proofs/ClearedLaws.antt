@@ -18,7 +18,8 @@ use Rattle.pm_region.proofs.SafeLaws.{room_after_quiet, safe_call, safe_call_end
 use Rattle.bp_cache.specs.Cache.{IsCacheOf}
 use Rattle.bp_cache.specs.declared.cache.DirectoryCache.{DirectoryCache}
 use Rattle.bp_cache.proofs.EffectLaws.{cache_kept, meaning_keeps_all}
-use Rattle.bp_calls.specs.Cleared.{ClearsFrom, IsClearing, IsNextToClear, cleared_inodes}
+use Rattle.bp_calls.specs.Cleared.{ClearsFrom, IsClearing}
+use Rattle.bp_layout.specs.Clearing.{IsNextToClear, cleared_inodes}
 use Rattle.bp_calls.proofs.AfterLaws.{IsPrepared, agrees_prepared}
 use Rattle.bp_calls.proofs.CountLaws.{exact_meaning}
 use Rattle.bp_calls.proofs.SetLaws.{exact_prepared}
@@ -41,8 +42,8 @@ use Rattle.bp_roles.proofs.Likeness.{durable_equivalence}
 use Rattle.bp_roles.proofs.SeenLaws.{seen-call_ends}
 use Rattle.bp_roles.proofs.Unseen.{all_seen_raw}
 use Rattle.bp_plain.specs.declared.errors.FsError.{FsError}
-use Rattle.bp_volume.specs.Called.{CanUpgrade, ClearsInSteps, ClearsSome, ClearsStep}
-use Rattle.bp_volume.specs.Called.ClearsInSteps.{more, none}
+use Rattle.bp_fs.specs.Called.{CanUpgrade, ClearsInSteps, ClearsSome, ClearsStep}
+use Rattle.bp_fs.specs.Called.ClearsInSteps.{more, none}
 use Rattle.bp_volume.specs.Upgraded.{ClearsFirst, MayUpgrade}
 use Rattle.bp_volume.specs.Upgraded.ClearsFirst.{cleared, kept}
 use Rattle.bp_volume.specs.Volume.{IsCachedVolume, IsVolume}

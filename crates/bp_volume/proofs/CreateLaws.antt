@@ -4,7 +4,7 @@ use Rattle.std.specs.Prelude.{not, is_some, if◌then◌else◌, unwrap_or}
 use Rattle.std.specs.Option.{option_map}
 use Rattle.std.specs.FinMap.{get}
 use Rattle.bp_calls.specs.OnTrees.{GainsName}
-use Rattle.bp_calls.specs.Entrant.{entrant_of}
+use Rattle.bp_changes.specs.Entrant.{entrant_of}
 use Rattle.bp_layout.specs.Directory.{ino_at, lookup_in, slot_named}
 use Rattle.bp_layout.specs.Paths.{Name, Path}
 use Rattle.bp_layout.specs.Free.{IsLeastFree}
@@ -24,8 +24,8 @@ use Rattle.bp_plain.specs.Calls.Call.{create, mkdir}
 use Rattle.bp_plain.specs.Calls.Refusal.{exists, not_dir}
 use Rattle.bp_plain.specs.Plain.{walk_parent, on_parsed, on_path, first, when, is_dir_at, is_root_path, parent_of, path_named, tree_after, with_dir, with_file}
 use Rattle.bp_volume.specs.Carried.{making}
-use Rattle.bp_volume.specs.Step.{IsChange, FindsNew, last_of}
-use Rattle.bp_volume.specs.Step.IsChange.{by_create, by_mkdir}
+use Rattle.bp_fs.specs.Step.{IsChange, FindsNew, last_of}
+use Rattle.bp_fs.specs.Step.IsChange.{by_create, by_mkdir}
 use Rattle.bp_volume.specs.Queries.{Refuses, StopsAtNew, refusal_of_new}
 use Rattle.bp_volume.proofs.ChangeLaws.{MakesChange}
 use Rattle.bp_volume.proofs.WalkLaws.{dir_at, get-next, walk-found}

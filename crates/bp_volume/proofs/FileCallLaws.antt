@@ -18,10 +18,10 @@ use Rattle.bp_plain.specs.PlainTree.{FileTree}
 use Rattle.bp_plain.specs.Stands.{Stands}
 use Rattle.bp_changes.specs.Sets.{IsExact}
 use Rattle.bp_volume.specs.Carried.{ChangesTree, PerformsCall}
-use Rattle.bp_volume.specs.Step.{IsChange, Step}
+use Rattle.bp_fs.specs.Step.{IsChange, Step}
 use Rattle.bp_limits.specs.Limits.{call_room}
-use Rattle.bp_volume.specs.FileCall.{IsCheap, has_changed}
-use Rattle.bp_volume.specs.FileCall.IsCheap.{changes}
+use Rattle.bp_fs.specs.FileCall.{IsCheap, has_changed}
+use Rattle.bp_fs.specs.FileCall.IsCheap.{changes}
 use Rattle.bp_volume.specs.Queries.{Answers}
 use Rattle.bp_volume.specs.Volume.{IsVolume}
 use Rattle.bp_volume.proofs.SafeLaws.{whole_safe}

@@ -23,8 +23,8 @@ use Rattle.bp_plain.specs.Calls.Refusal.{is_dir, too_long, too_big}
 use Rattle.bp_plain.specs.Plain.{refusal, file_refusal, on_path, on_parsed, first, when, is_dir_at, path_named, bytes_in, bytes_at, tree_after, with_content, with_written, resized}
 use Rattle.bp_plain.specs.PlainTree.{FileTree}
 use Rattle.bp_plain.specs.Stands.{Shows, Stands}
-use Rattle.bp_volume.specs.Step.{IsChange, PathFinds}
-use Rattle.bp_volume.specs.Step.IsChange.{by_write, by_truncate}
+use Rattle.bp_fs.specs.Step.{IsChange, PathFinds}
+use Rattle.bp_fs.specs.Step.IsChange.{by_write, by_truncate}
 use Rattle.bp_volume.specs.Queries.{Refuses, RefusesFileAt, StopsAtFile, Answers, refusal_of_file}
 use Rattle.bp_volume.proofs.ChangeLaws.{MakesChange}
 use Rattle.bp_volume.proofs.StepLaws.{refused_steps, answer_steps}

@@ -27,9 +27,9 @@ use Rattle.bp_plain.specs.Calls.Refusal.{is_dir, is_root, not_dir, not_empty, to
 use Rattle.bp_plain.specs.Plain.{refusal, file_refusal, changes, is_changing, walk, first, when, is_dir_at, is_empty_dir, is_root_path, bytes_at, path_named}
 use Rattle.bp_plain.specs.PlainTree.{FileTree}
 use Rattle.bp_plain.specs.Stands.{ShowsSnapshot, Stands}
-use Rattle.bp_volume.specs.Step.{FindsEntry, HasNeed, IsChange, IsNeverShort, PathFinds, StandsIn}
-use Rattle.bp_volume.specs.Step.IsChange.{by_unlink, by_rmdir, by_truncate, by_set_attribute}
-use Rattle.bp_volume.specs.Step.StepFor.{no_room, unchanged, changed}
+use Rattle.bp_fs.specs.Step.{FindsEntry, HasNeed, IsChange, IsNeverShort, PathFinds, StandsIn}
+use Rattle.bp_fs.specs.Step.IsChange.{by_unlink, by_rmdir, by_truncate, by_set_attribute}
+use Rattle.bp_fs.specs.Step.StepFor.{no_room, unchanged, changed}
 use Rattle.bp_volume.specs.Queries.{refusal_of_walk}
 use Rattle.bp_volume.proofs.FileLaws.{has_bytes, write_alike}
 use Rattle.bp_volume.proofs.ChangeLaws.{snapshot_once}

@@ -22,8 +22,8 @@ use Rattle.bp_plain.specs.Calls.Refusal.{is_dir, is_root, not_dir, not_empty}
 use Rattle.bp_plain.specs.Plain.{walk, on_path, on_parsed, first, when, is_dir_at, is_empty_dir, is_root_path, parent_of, path_named, refusal, with_nothing}
 use Rattle.bp_plain.specs.PlainTree.{FileTree}
 use Rattle.bp_plain.specs.Stands.{Shows, Stands}
-use Rattle.bp_volume.specs.Step.{FindsEntry, IsChange, StandsIn, last_of}
-use Rattle.bp_volume.specs.Step.IsChange.{by_unlink, by_rmdir}
+use Rattle.bp_fs.specs.Step.{FindsEntry, IsChange, StandsIn, last_of}
+use Rattle.bp_fs.specs.Step.IsChange.{by_unlink, by_rmdir}
 use Rattle.bp_volume.specs.Queries.{Refuses, StopsAtEntry, refusal_of_entry}
 use Rattle.bp_volume.proofs.ChangeLaws.{MakesChange}
 use Rattle.bp_volume.proofs.CreateLaws.{by_parent, not_root}

@@ -21,8 +21,6 @@ pub mod FewMoved
 pub mod MovingLaws
 pub mod CarriedLaws
 pub mod CacheLaws
-pub mod LaidLaws
-pub mod PrefixLaws
 pub mod LinksLaws
 pub mod BesideExact
 pub mod SafeLaws
@@ -32,7 +30,6 @@ pub mod WalkingLaws
 pub mod TargetLaws
 pub mod SpaceLaws
 pub mod ReplyLaws
-pub mod HalfFormat
 pub mod CrashedLaws
 pub mod WholeLaws
 pub mod SharingLaws

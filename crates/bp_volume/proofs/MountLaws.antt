@@ -22,7 +22,7 @@ use Rattle.bp_roles.proofs.AsStored.{seen_as_stored}
 use Rattle.bp_roles.proofs.KeptLaws.{roles_other}
 use Rattle.bp_roles.proofs.Likeness.{durable_equivalence}
 use Rattle.bp_roles.proofs.SeenLaws.{length-seen}
-use Rattle.bp_volume.specs.Laid.{formatted_memory}
+use Rattle.bp_mount.specs.Laid.{formatted_memory}
 use Rattle.bp_volume.proofs.SafeLaws.{whole_self}
 use Rattle.bp_volume.proofs.ScannedLaws.{words_fresh}
 

@@ -25,8 +25,8 @@ use Rattle.bp_rename.specs.MovesPath.{IsFoundTarget, MovesPath}
 use Rattle.bp_rename.specs.declared.moves.Move.{Move}
 use Rattle.bp_rename.proofs.RenamedStands.{found_can_rename}
 use Rattle.bp_volume.specs.Renaming.{FindsEnds, IsMoveOf, MayMove, is_inode}
-use Rattle.bp_volume.specs.Step.{FindsEntry, IsChange, FindsNew, StandsIn, last_of}
-use Rattle.bp_volume.specs.Step.IsChange.{onto, across, within}
+use Rattle.bp_fs.specs.Step.{FindsEntry, IsChange, FindsNew, StandsIn, last_of}
+use Rattle.bp_fs.specs.Step.IsChange.{onto, across, within}
 use Rattle.bp_volume.specs.declared.rename.Ends.{Ends}
 use Rattle.bp_volume.proofs.ChangeLaws.{MakesChange}
 use Rattle.bp_volume.proofs.CreateLaws.{by_parent}

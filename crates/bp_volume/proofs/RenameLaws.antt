@@ -23,9 +23,9 @@ use Rattle.bp_plain.specs.Calls.Refusal.{bad_path, into_self, is_dir, is_root, n
 use Rattle.bp_plain.specs.Plain.{changes, first, is_a_dir, is_dir_at, is_empty_dir, move_refusal, moves_below, moves_dir_onto_file, moves_file_onto_dir, moves_onto_names, on_parsed, on_path, parent_of, path_named, refusal, walk, walk_parent, when}
 use Rattle.bp_plain.specs.PlainTree.{FileTree, is_one}
 use Rattle.bp_plain.specs.Stands.{Stands}
-use Rattle.bp_volume.specs.FileCall.{has_changed}
+use Rattle.bp_fs.specs.FileCall.{has_changed}
 use Rattle.bp_volume.specs.Renaming.{Allows, AreRenameEnds, FindsEnds, IsTarget, MayMove, are_same, is_inode}
-use Rattle.bp_volume.specs.Step.{FindsEntry, IsEntryOn, StepFor, last_of}
+use Rattle.bp_fs.specs.Step.{FindsEntry, IsEntryOn, StepFor, last_of}
 use Rattle.bp_volume.specs.Queries.{Refuses, RefusesEntry, RefusesParent, RefusesRename, Answers}
 use Rattle.bp_volume.specs.declared.rename.Ends.{Ends}
 use Rattle.bp_volume.specs.declared.lookup.Target.{Target}

@@ -23,9 +23,9 @@ use Rattle.bp_roles.proofs.SeenLaws.{seen-call_ends, seen-room}
 use Rattle.bp_roles.proofs.Unseen.{all_seen_raw}
 use Rattle.bp_volume.specs.Carried.{CarriesOut, ChangesTree}
 use Rattle.bp_volume.specs.Carried.CarriesOut.{changed, unchanged}
-use Rattle.bp_volume.specs.FileCall.{FileCall, IsCheap}
+use Rattle.bp_fs.specs.FileCall.{FileCall, IsCheap}
 use Rattle.bp_volume.specs.Queries.{Answers}
-use Rattle.bp_volume.specs.Step.{Step}
+use Rattle.bp_fs.specs.Step.{Step}
 use Rattle.bp_volume.specs.Volume.{IsCachedVolume}
 use Rattle.bp_volume.proofs.CarriedLaws.{file_call_carried}
 use Rattle.bp_volume.proofs.FileCallLaws.{SeenCall, file_call_unchanged}

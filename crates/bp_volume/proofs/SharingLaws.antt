@@ -18,8 +18,8 @@ use Rattle.bp_plain.specs.Seen.{refusal_of}
 use Rattle.bp_plain.specs.Stands.{Shows, Stands}
 use Rattle.bp_plain.specs.declared.errors.FsError.{FsError}
 use Rattle.bp_plain.specs.declared.errors.FsError.TheVariants.{BadPath}
-use Rattle.bp_volume.specs.Step.{FindsNew, IsChange, PathFinds}
-use Rattle.bp_volume.specs.Step.IsChange.{by_link}
+use Rattle.bp_fs.specs.Step.{FindsNew, IsChange, PathFinds}
+use Rattle.bp_fs.specs.Step.IsChange.{by_link}
 use Rattle.bp_volume.specs.Queries.{Refuses, StopsAtFile, StopsAtNew, refusal_of_file, refusal_of_new}
 use Rattle.bp_volume.proofs.ChangeLaws.{MakesChange}
 use Rattle.bp_volume.proofs.CreateLaws.{goes, same_directory, text_path}

@@ -49,8 +49,8 @@ use Rattle.bp_volume.specs.Carried.{ChangesTree}
 use Rattle.bp_volume.specs.Snapped.{Snaps, Unsnaps}
 use Rattle.bp_volume.specs.Snapped.Snaps.{made as has_made, refused as has_refused}
 use Rattle.bp_volume.specs.Snapped.Unsnaps.{gone, refused as refuses}
-use Rattle.bp_volume.specs.SuperEvents.{snap_events, unsnap_events}
-use Rattle.bp_volume.specs.Step.{Fits, IsChange}
+use Rattle.bp_fs.specs.SuperEvents.{snap_events, unsnap_events}
+use Rattle.bp_fs.specs.Step.{Fits, IsChange}
 use Rattle.bp_volume.specs.Queries.{Answers}
 use Rattle.bp_volume.proofs.BesideExact.{beside_exact}
 use Rattle.bp_volume.proofs.LiveBlocks.{others_live}

@@ -16,9 +16,9 @@ use Rattle.bp_plain.specs.Calls.Refusal.{no_memory, no_snap}
 use Rattle.bp_plain.specs.Plain.{answer, answer_or, changes, dir_refusal, file_refusal, is_changing, listing, on_path, on_snap, path_named, plain, read_answer, refusal, snap_nodes, stat_answer, walk}
 use Rattle.bp_plain.specs.PlainTree.{FileTree, PathMap}
 use Rattle.bp_plain.specs.Stands.{ShowsSnapshot, Stands}
-use Rattle.bp_volume.specs.FileCall.{has_changed, is_refused}
-use Rattle.bp_volume.specs.Step.{StepFor}
-use Rattle.bp_volume.specs.Step.StepFor.{no_room, no_listing, no_snap_listing, unchanged, changed}
+use Rattle.bp_fs.specs.FileCall.{has_changed, is_refused}
+use Rattle.bp_fs.specs.Step.{StepFor}
+use Rattle.bp_fs.specs.Step.StepFor.{no_room, no_listing, no_snap_listing, unchanged, changed}
 use Rattle.bp_volume.specs.Queries.{Answers}
 use Rattle.bp_volume.proofs.SafeLaws.{long_words}
 use Rattle.bp_volume.proofs.SnapLaws.{tree_has_none, tree_has_one}

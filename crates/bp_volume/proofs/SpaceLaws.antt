@@ -6,7 +6,7 @@ use Rattle.bp_layout.specs.Trees.{AreInSnapshot}
 use Rattle.bp_layout.specs.WellFormed.{IsWellFormed}
 use Rattle.bp_layout.specs.Whole.{HasSpace}
 use Rattle.bp_layout.specs.Words.{Image}
-use Rattle.bp_scan.specs.Totals.{HasLive}
+use Rattle.bp_layout.specs.Totals.{HasLive}
 use Rattle.bp_scan.proofs.Counting.{few_free, has_live}
 use Rattle.bp_changes.specs.Sets.{AreExact}
 

@@ -9,9 +9,9 @@ use Rattle.bp_plain.specs.Calls.Call.{list, read}
 use Rattle.bp_plain.specs.Calls.Refusal.{not_dir, is_dir, no_memory, no_space}
 use Rattle.bp_plain.specs.Calls.Answer.{refused}
 use Rattle.bp_plain.specs.Plain.{plain, is_changing, refusal, walk, changes, answer, answer_or, on_parsed, on_path, first, when, is_dir_at}
-use Rattle.bp_volume.specs.Step.{StepFor, HasNeed}
-use Rattle.bp_volume.specs.Step.StepFor.{unchanged, no_listing, no_room}
-use Rattle.bp_volume.specs.FileCall.{has_changed, is_refused}
+use Rattle.bp_fs.specs.Step.{StepFor, HasNeed}
+use Rattle.bp_fs.specs.Step.StepFor.{unchanged, no_listing, no_room}
+use Rattle.bp_fs.specs.FileCall.{has_changed, is_refused}
 
 module _ (image : Image) (tree : FileTree) where
   -- a call that is refused

@@ -35,11 +35,11 @@ use Rattle.bp_roles.specs.declared.roles.Roles.TheVariants.{OutsideA}
 use Rattle.bp_roles.proofs.KeptLaws.{IsOutside, LeavesSeen}
 use Rattle.bp_roles.proofs.SwapLaws.{swapped-first}
 use Rattle.bp_volume.specs.Carried.{ChangesTree}
-use Rattle.bp_volume.specs.FileCall.{has_changed}
-use Rattle.bp_volume.specs.FileCall.IsCheap.{reports}
-use Rattle.bp_volume.specs.SuperEvents.{super_events}
-use Rattle.bp_volume.specs.Step.{Fits, StepFor}
-use Rattle.bp_volume.specs.Step.StepFor.{changed}
+use Rattle.bp_fs.specs.FileCall.{has_changed}
+use Rattle.bp_fs.specs.FileCall.IsCheap.{reports}
+use Rattle.bp_fs.specs.SuperEvents.{super_events}
+use Rattle.bp_fs.specs.Step.{Fits, StepFor}
+use Rattle.bp_fs.specs.Step.StepFor.{changed}
 use Rattle.bp_volume.specs.Queries.{Answers}
 use Rattle.bp_volume.specs.Volume.{IsVolume}
 use Rattle.bp_volume.proofs.CarriedLaws.{blocks-adds}

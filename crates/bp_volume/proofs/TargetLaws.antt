@@ -20,7 +20,7 @@ use Rattle.bp_rename.specs.CanRename.{IsSlotAcross}
 use Rattle.bp_rename.specs.declared.moves.Move.{Move}
 use Rattle.bp_volume.specs.Renaming.{IsMoveOf, IsNameIn, IsTarget}
 use Rattle.bp_volume.specs.declared.rename.Ends.{Ends}
-use Rattle.bp_volume.specs.Step.{IsEntryOn, last_of}
+use Rattle.bp_fs.specs.Step.{IsEntryOn, last_of}
 use Rattle.bp_volume.specs.Queries.{RefusesEntry, RefusesParent, refusal_of_walk}
 use Rattle.bp_volume.specs.declared.lookup.Target.{Target}
 use Rattle.bp_volume.proofs.CreateLaws.{by_parent, lookup-name, path_is}

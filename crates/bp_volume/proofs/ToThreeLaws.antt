@@ -36,13 +36,13 @@ use Rattle.bp_stands.proofs.SnapStands.{idle-harmless}
 use Rattle.bp_stands.proofs.UpgradeStands.{to_three_stands}
 use Rattle.bp_roles.specs.Mounted.{KeepsRoles, served_words}
 use Rattle.bp_roles.specs.Seen.{MemoryByRoles, seen}
-use Rattle.bp_volume.specs.Called.{CanUpgrade, Called}
-use Rattle.bp_volume.specs.Called.Called.{at_once, cleared}
+use Rattle.bp_fs.specs.Called.{CanUpgrade, Called}
+use Rattle.bp_fs.specs.Called.Called.{at_once, cleared}
 use Rattle.bp_volume.specs.Carried.{ChangesTree}
-use Rattle.bp_volume.specs.FileCall.{FileCall}
+use Rattle.bp_fs.specs.FileCall.{FileCall}
 use Rattle.bp_volume.specs.Queries.{Answers}
-use Rattle.bp_volume.specs.Step.{Fits, IsChange}
-use Rattle.bp_volume.specs.SuperEvents.{to_three_events}
+use Rattle.bp_fs.specs.Step.{Fits, IsChange}
+use Rattle.bp_fs.specs.SuperEvents.{to_three_events}
 use Rattle.bp_volume.specs.Upgraded.{ClearsFirst, UpgradesToThree}
 use Rattle.bp_volume.specs.Upgraded.ClearsFirst.{cleared as are_cleared, kept}
 use Rattle.bp_volume.specs.Upgraded.UpgradesToThree.{made as has_made, refused as has_refused, third}

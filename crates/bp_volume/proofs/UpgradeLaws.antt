@@ -27,9 +27,9 @@ use Rattle.bp_plain.specs.Calls.Call.{upgrade}
 use Rattle.bp_changes.specs.Sets.{IsExact, in_snapshot_of}
 use Rattle.bp_stands.proofs.UpgradeStands.{upgrade_stands}
 use Rattle.bp_volume.specs.Carried.{ChangesTree}
-use Rattle.bp_volume.specs.Step.{Fits, IsChange}
+use Rattle.bp_fs.specs.Step.{Fits, IsChange}
 use Rattle.bp_volume.specs.Queries.{Answers}
-use Rattle.bp_volume.specs.SuperEvents.{upgrade_events}
+use Rattle.bp_fs.specs.SuperEvents.{upgrade_events}
 use Rattle.bp_volume.specs.Upgraded.{Upgrades}
 use Rattle.bp_volume.specs.Upgraded.Upgrades.{first, second}
 use Rattle.bp_volume.specs.Volume.{IsVolume}

@@ -21,7 +21,7 @@ use Rattle.bp_path.specs.FoundEntries.{IsEntryOf, dir_of, fault_of, walked_of}
 use Rattle.bp_path.specs.Walk.{Walked, walk_from, in_directory}
 use Rattle.bp_path.specs.declared.steps.FoundEntry.{FoundEntry}
 use Rattle.bp_path.specs.declared.steps.WalkFault.{WalkFault}
-use Rattle.bp_volume.specs.Step.{IsEntryOn, IsNewOn, last_of}
+use Rattle.bp_fs.specs.Step.{IsEntryOn, IsNewOn, last_of}
 use Rattle.bp_volume.specs.Queries.{RefusesEntry, RefusesFileAt, RefusesNew, RefusesWalk, refusal_of_new, refusal_of_walk}
 use Rattle.bp_volume.proofs.WalkLaws.{walk-image, walk-found, walk_parent-image, dir_at}
 use Rattle.bp_volume.proofs.CreateLaws.{by_parent, create_stopped, create_there, not_root}

@@ -11,8 +11,8 @@ use Rattle.bp_plain.specs.Stands.{Stands}
 use Rattle.bp_plain.specs.Calls.{Call, Answer}
 use Rattle.bp_plain.specs.Calls.Call.{create, mkdir}
 use Rattle.bp_changes.specs.Performs.{Performs}
-use Rattle.bp_volume.specs.Step.{StepFor, IsChange}
-use Rattle.bp_volume.specs.FileCall.{has_changed}
+use Rattle.bp_fs.specs.Step.{StepFor, IsChange}
+use Rattle.bp_fs.specs.FileCall.{has_changed}
 use Rattle.bp_volume.specs.Queries.{Answers}
 
 -- The call that makes an empty file or an empty directory.

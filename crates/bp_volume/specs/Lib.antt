@@ -1,12 +1,6 @@
-pub mod Step
-pub mod SuperEvents
-pub mod FileCall
-pub mod Called
 pub mod Volume
 pub mod Ready
 pub mod Queries
-pub mod Laid
-pub mod Faults
 pub mod Upgraded
 pub mod Seen
 pub mod Carried

@@ -9,8 +9,8 @@ use Rattle.bp_plain.specs.Plain.{on_path, attribute_refusal, refusal, walk, walk
 use Rattle.bp_plain.specs.Calls.Refusal.{not_found, not_dir}
 use Rattle.bp_path.specs.Walk.{Walked}
 use Rattle.bp_path.specs.Walk.Walked.{found, missing, in_file}
-use Rattle.bp_volume.specs.Step.{StepFor}
-use Rattle.bp_volume.specs.FileCall.{has_changed}
+use Rattle.bp_fs.specs.Step.{StepFor}
+use Rattle.bp_fs.specs.FileCall.{has_changed}
 
 -- The call changes nothing, and this is a possible answer.
 abbrev pub Answers : Image → Call → Answer → Type 0

@@ -16,7 +16,7 @@ use Rattle.bp_plain.specs.PlainTree.{FileTree}
 use Rattle.bp_plain.specs.Stands.{Stands}
 use Rattle.bp_rename.specs.RenamesEntry.{new_slot}
 use Rattle.bp_rename.specs.declared.moves.Move.{Move}
-use Rattle.bp_volume.specs.Step.{IsEntryOn, last_of}
+use Rattle.bp_fs.specs.Step.{IsEntryOn, last_of}
 use Rattle.bp_volume.specs.declared.rename.Ends.{Ends}
 use Rattle.bp_volume.specs.declared.lookup.Target.{Target}
 

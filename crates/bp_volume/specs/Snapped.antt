@@ -7,7 +7,7 @@ use Rattle.bp_limits.specs.CallLimits.{allows_snapshot}
 use Rattle.bp_plain.specs.Calls.{Answer}
 use Rattle.bp_plain.specs.Calls.Answer.{done}
 use Rattle.bp_plain.specs.Calls.Call.{snap, unsnap}
-use Rattle.bp_volume.specs.SuperEvents.{snap_events, unsnap_events}
+use Rattle.bp_fs.specs.SuperEvents.{snap_events, unsnap_events}
 use Rattle.bp_volume.specs.Queries.{Answers}
 
 -- If the version allows a snapshot and the image has none, the call adds `snap_events` and the answer is `done`; else it

@@ -13,8 +13,8 @@ use Rattle.bp_plain.specs.Calls.Refusal.{has_snap}
 use Rattle.bp_plain.specs.declared.errors.FsError.{FsError}
 use Rattle.bp_plain.specs.declared.errors.FsError.TheVariants.{HasSnap}
 use Rattle.bp_roles.specs.Mounted.{served_words}
-use Rattle.bp_volume.specs.Called.{CanUpgrade, ClearsAll}
-use Rattle.bp_volume.specs.SuperEvents.{to_three_events, upgrade_events}
+use Rattle.bp_fs.specs.Called.{CanUpgrade, ClearsAll}
+use Rattle.bp_fs.specs.SuperEvents.{to_three_events, upgrade_events}
 
 -- In version 1 the call adds the events of an upgrade, and from version 2 on it changes nothing.
 pub data Upgrades (old new : Memory) : Type 0 where

@@ -8,7 +8,7 @@ use Rattle.bp_plain.specs.Plain.{bytes_at, path_named}
 use Rattle.bp_plain.specs.PlainTree.{FileTree}
 use Rattle.bp_plain.specs.Stands.{Stands}
 use Rattle.bp_roles.specs.Mounted.{SameDurable}
-use Rattle.bp_volume.specs.Step.{IsNeverShort, PathFinds}
+use Rattle.bp_fs.specs.Step.{IsNeverShort, PathFinds}
 use Rattle.pm_epochs.specs.Replay.{after_calls, kept_calls}
 use Rattle.pm_region.specs.Memory.{Memory}
 use Rattle.pm_steps.specs.Machine.{MachineState, MachineStep, cut_of}

@@ -14,7 +14,7 @@ ghost use Rattle.bp_volume.specs.Carried.{CarriesOut};
 ghost use Rattle.bp_volume.specs.Queries.{Answers, StopsAtAttributes};
 ghost use Rattle.bp_volume.specs.Ready.{IsReady};
 ghost use Rattle.bp_volume.specs.Seen.{attribute_answer, unit_answer};
-ghost use Rattle.bp_volume.specs.Step.{FindsAttributes, PathFinds};
+ghost use Rattle.bp_fs.specs.Step.{FindsAttributes, PathFinds};
 ghost use Rattle.pm_region.specs.Memory.{words_in};
 
 use crate::lookup::{bad_path, inode_on};

@@ -17,7 +17,7 @@ ghost use Rattle.bp_stands.specs.Pieces.{ArePatches, PieceFinds, patch_of};
 ghost use Rattle.bp_volume.specs.Carried.{CarriesOut};
 ghost use Rattle.bp_volume.specs.Ready.{IsReady};
 ghost use Rattle.bp_volume.specs.Seen.{unit_answer};
-ghost use Rattle.bp_volume.specs.Step.{FindsFile, PathFinds};
+ghost use Rattle.bp_fs.specs.Step.{FindsFile, PathFinds};
 ghost use Rattle.bp_volume.specs.Queries.{RefusesPiece, RefusesPieces, StopsAtFile};
 ghost use Rattle.pm_region.specs.Memory.{words_in};
 

@@ -6,7 +6,7 @@ ghost use Rattle.bp_layout.specs.Directory.{empty_slot};
 ghost use Rattle.bp_volume.specs.Carried.{CarriesOut, making};
 ghost use Rattle.bp_volume.specs.Ready.{IsReady};
 ghost use Rattle.bp_volume.specs.Seen.{unit_answer};
-ghost use Rattle.bp_volume.specs.Step.{FindsNew};
+ghost use Rattle.bp_fs.specs.Step.{FindsNew};
 ghost use Rattle.bp_calls.specs.Mounted.{image_in, IsExactIn};
 
 use crate::lookup::{NewName, new_name, slot_for};

@@ -4,7 +4,7 @@ ghost use Rattle.std.specs.Prelude.{ℕ, List};
 ghost use Rattle.bp_plain.specs.Calls.Call.{rmdir, unlink};
 ghost use Rattle.bp_plain.specs.PlainTree.{FileTree};
 ghost use Rattle.bp_roles.specs.Mounted.{SameDurable};
-ghost use Rattle.bp_volume.specs.Step.{IsNeverShort};
+ghost use Rattle.bp_fs.specs.Step.{IsNeverShort};
 ghost use Rattle.bp_volume.specs.VolumeLaws.{SetsInPlace, ShortensInPlace, ShowsFirstCalls, WithoutSnapshot, WritesInPlace};
 ghost use Rattle.pm_region.specs.Memory.{Memory};
 ghost use Rattle.pm_region.specs.Safe.{IsSafe};

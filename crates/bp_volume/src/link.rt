@@ -10,7 +10,7 @@ ghost use Rattle.bp_plain.specs.Seen.{refusal_of};
 ghost use Rattle.bp_volume.specs.Carried.{CarriesOut};
 ghost use Rattle.bp_volume.specs.Ready.{IsReady};
 ghost use Rattle.bp_volume.specs.Seen.{unit_answer};
-ghost use Rattle.bp_volume.specs.Step.{FindsNew, PathFinds};
+ghost use Rattle.bp_fs.specs.Step.{FindsNew, PathFinds};
 ghost use Rattle.bp_volume.specs.Queries.{Refuses};
 ghost use Rattle.pm_region.specs.Memory.{words_in};
 ghost use Rattle.bp_calls.specs.Mounted.{image_in, IsExactIn};

@@ -14,7 +14,7 @@ ghost use Rattle.bp_path.specs.FoundEntries.{fault_of};
 ghost use Rattle.bp_plain.specs.Calls.{Refusal};
 ghost use Rattle.bp_plain.specs.Seen.{refusal_of};
 ghost use Rattle.bp_volume.specs.Renaming.{IsNameIn, IsTarget};
-ghost use Rattle.bp_volume.specs.Step.{FindsEntry, IsEntryOn, IsNewOn, FindsNew, PathFinds};
+ghost use Rattle.bp_fs.specs.Step.{FindsEntry, IsEntryOn, IsNewOn, FindsNew, PathFinds};
 ghost use Rattle.bp_volume.specs.Queries.{RefusesEntry, RefusesFileAt, RefusesNew, RefusesParent, RefusesWalk, refusal_of_walk};
 ghost use Rattle.bp_volume.specs.Queries.{StopsAtEntry, StopsAtFile, StopsAtNew, StopsWalk};
 ghost use Rattle.pm_region.specs.Memory.{words_in};

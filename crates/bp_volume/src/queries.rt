@@ -6,7 +6,7 @@ ghost use Rattle.bp_calls.specs.Mounted.{image_in, IsMountedIn};
 ghost use Rattle.bp_plain.specs.Calls.Call.{links, list, read, stat};
 ghost use Rattle.bp_layout.specs.WellFormed.{IsWellFormed};
 ghost use Rattle.bp_volume.specs.Seen.{links_answer, list_answer_of, read_answer_of, stat_answer_of};
-ghost use Rattle.bp_volume.specs.Step.{PathFinds};
+ghost use Rattle.bp_fs.specs.Step.{PathFinds};
 ghost use Rattle.bp_volume.specs.Queries.{Answers};
 ghost use Rattle.pm_region.specs.Memory.{words_in};
 

@@ -13,7 +13,7 @@ ghost use Rattle.bp_volume.specs.Carried.{CarriesOut};
 ghost use Rattle.bp_volume.specs.Ready.{IsReady};
 ghost use Rattle.bp_volume.specs.Renaming.{Allows, AreRenameEnds, CanUnlinkThere, FindsEnds, IsMoveOf, IsNewName, IsTarget, MayMove, MovesName, are_same};
 ghost use Rattle.bp_volume.specs.Seen.{unit_answer};
-ghost use Rattle.bp_volume.specs.Step.{IsEntryOn};
+ghost use Rattle.bp_fs.specs.Step.{IsEntryOn};
 ghost use Rattle.bp_volume.specs.Queries.{Refuses, RefusesRename};
 ghost use Rattle.pm_region.specs.Memory.{words_in};
 ghost use Rattle.bp_calls.specs.Mounted.{image_in, IsExactIn};

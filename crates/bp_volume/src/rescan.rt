@@ -5,12 +5,13 @@ ghost use Rattle.bp_limits.specs.Limits.{block_inodes};
 ghost use Rattle.bp_layout.specs.Trees.{AreInSnapshot};
 ghost use Rattle.bp_layout.specs.Whole.{IsFileSystem};
 ghost use Rattle.bp_layout.specs.Words.{block_count};
-ghost use Rattle.bp_scan.specs.Totals.{HasTotals};
+ghost use Rattle.bp_layout.specs.Totals.{HasTotals};
 ghost use Rattle.bp_changes.specs.Sets.{in_snapshot_of};
 ghost use Rattle.bp_calls.specs.Mounted.{image_in, IsExactIn};
 
 use bp_free::Parts;
-use bp_scan::{Pending, Totals, scan_known};
+use bp_layout::Totals;
+use bp_scan::{Pending, scan_known};
 use pm_region::Region;
 
 /// Sets the sets and counts to those of the words, which are a file system, whatever they were before, and returns its

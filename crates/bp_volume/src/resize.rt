@@ -8,7 +8,7 @@ ghost use Rattle.bp_plain.specs.Calls.Call.{truncate};
 ghost use Rattle.bp_volume.specs.Carried.{CarriesOut};
 ghost use Rattle.bp_volume.specs.Ready.{IsReady};
 ghost use Rattle.bp_volume.specs.Seen.{unit_answer};
-ghost use Rattle.bp_volume.specs.Step.{PathFinds};
+ghost use Rattle.bp_fs.specs.Step.{PathFinds};
 ghost use Rattle.bp_calls.specs.Mounted.{image_in, IsExactIn};
 
 use crate::lookup::{FoundFile, file_at};

@@ -16,7 +16,7 @@ ghost use Rattle.bp_changes.specs.Sets.{in_snapshot_of};
 ghost use Rattle.bp_volume.specs.Ready.{IsReady};
 ghost use Rattle.bp_volume.specs.Seen.{list_answer_of, read_answer_of, stat_answer_of, unit_answer};
 ghost use Rattle.bp_volume.specs.Snapped.{Snaps, Unsnaps};
-ghost use Rattle.bp_volume.specs.SuperEvents.{snap_events, unsnap_events};
+ghost use Rattle.bp_fs.specs.SuperEvents.{snap_events, unsnap_events};
 ghost use Rattle.bp_volume.specs.Queries.{Answers};
 ghost use Rattle.pm_region.specs.Memory.{Adds, words_in, room_in};
 ghost use Rattle.bp_calls.specs.Mounted.{image_in, IsExactIn};

@@ -3,7 +3,7 @@
 ghost use Rattle.std.specs.Prelude.{◌≤◌};
 ghost use Rattle.bp_layout.specs.Formatted.{IsSized};
 ghost use Rattle.bp_volume.specs.Seen.{unit_answer};
-ghost use Rattle.bp_volume.specs.SuperEvents.{to_three_events};
+ghost use Rattle.bp_fs.specs.SuperEvents.{to_three_events};
 ghost use Rattle.bp_volume.specs.Upgraded.{MayUpgrade, Upgrades, UpgradesToThree};
 ghost use Rattle.pm_region.specs.Memory.{Adds, words_in, room_in};
 

@@ -20,11 +20,11 @@ ghost use Rattle.bp_plain.specs.Stands.{Stands};
 ghost use Rattle.bp_roles.specs.Mounted.{SameDurable, by_roles, roles_of, served_words};
 ghost use Rattle.bp_roles.specs.Seen.{IsWide, seen};
 ghost use Rattle.bp_scan.specs.Faults.{IsFault};
-ghost use Rattle.bp_scan.specs.Totals.{HasLive, HasTotals};
-ghost use Rattle.bp_volume.specs.Called.{Called};
-ghost use Rattle.bp_volume.specs.Faults.{IsMountFault};
-ghost use Rattle.bp_volume.specs.FileCall.{FileCall};
-ghost use Rattle.bp_volume.specs.Laid.{formatted_memory};
+ghost use Rattle.bp_layout.specs.Totals.{HasLive, HasTotals};
+ghost use Rattle.bp_fs.specs.Called.{Called};
+ghost use Rattle.bp_mount.specs.Faults.{IsMountFault};
+ghost use Rattle.bp_fs.specs.FileCall.{FileCall};
+ghost use Rattle.bp_mount.specs.Laid.{formatted_memory};
 ghost use Rattle.bp_volume.specs.Seen.{attribute_answer, links_answer, list_answer_of, read_answer_of, stat_answer_of, unit_answer};
 
 mod looks;
@@ -33,9 +33,8 @@ mod upgrades;
 use crate::attributes::{do_attribute, do_set_attribute};
 use crate::batch::do_batch;
 use crate::create::do_create;
-use crate::faults::stored_fault;
-use crate::format_stores::lay_out;
 use crate::link::do_link;
+use crate::memory::memory_for;
 use crate::queries::{do_links, do_list, do_read, do_stat};
 use crate::remove::{do_rmdir, do_unlink};
 use crate::rename::do_rename;
@@ -44,17 +43,17 @@ use crate::replies::{
 };
 use crate::rescan::rescan;
 use crate::resize::do_truncate;
-use crate::sets::{Sets, memory_for};
 use crate::snapshot::{do_snap, do_snap_list, do_snap_read, do_snap_stat, do_unsnap};
-use crate::space::Space;
 use crate::write::do_write;
 use bp_cache::DirectoryCache;
 use bp_free::Parts;
-use bp_layout::{Kind, Listing, Stat};
-use bp_limits::{BLOCK_WORDS, CALL_ROOM, Version};
+use bp_fs::{Space, needs_drain};
+use bp_layout::{Kind, Listing, Stat, Totals};
+use bp_limits::{BLOCK_WORDS, Version};
+use bp_mount::{MountFault, Sets, lay_out, stored_fault};
 use bp_plain::{Call, FsError, Piece, Reply};
 use bp_roles::{RegionByRoles, Roles};
-use bp_scan::{MountFault, Pending, Totals, scan_whole};
+use bp_scan::{Pending, scan_whole};
 use pm_epochs::{BadChoice, Choice, Kept};
 use pm_region::Region;
 use std::alloc::Global;
@@ -877,7 +876,7 @@ impl<R: Region> Volume<R> {
         ensures memory { self.new ≡ with_room call_room self.old }
         ensures room { call_room ≤ room_in self.new }
     {
-        if self.parts.region.room() < CALL_ROOM {
+        if needs_drain(&self.parts.region) {
             self.parts.region.drain();
         }
     }

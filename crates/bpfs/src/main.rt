@@ -17,6 +17,8 @@ use crate::streams::{leads_to, output_file, take_streams};
 use bp_command::{Program, WordsFault, read_words};
 use bp_disk::{DiskFiles, StdSink, StdSource};
 use bp_shell::{Status, run};
+use bp_volume::Volume;
+use pm_raw::RawRegion;
 use std::alloc::{AllocError, Global};
 use std::env::{self, Env};
 use std::fs::File;
@@ -173,7 +175,7 @@ fn main(runtime: HostRuntime) -> ExitCode {
     };
     let mut source = StdSource::new(runtime.stdin());
     let mut sink = StdSink::new(runtime.stdout());
-    let status = run(alloc, &texts, &mut source, &mut sink, &mut files);
+    let status = run::<Volume<RawRegion>, _, _, _>(alloc, &texts, &mut source, &mut sink, &mut files);
     let last = LastErrors {
         input: source.last_error(),
         output: sink.last_error(),

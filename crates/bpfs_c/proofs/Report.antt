@@ -5,7 +5,7 @@ use Rattle.bp_plain.specs.Seen.{refusal_of}
 use Rattle.bp_roles.specs.Mounted.{served_words}
 use Rattle.bp_volume.specs.Queries.{StopsWalk}
 use Rattle.bp_volume.specs.Seen.{read_answer_of}
-use Rattle.bp_volume.specs.Step.{PathFinds}
+use Rattle.bp_fs.specs.Step.{PathFinds}
 use Rattle.bpfs_c.specs.Codes.{IsRead, ReportsCount, ReportsInode}
 use Rattle.pm_region.specs.Memory.{Memory}
 

@@ -9,7 +9,7 @@ use Rattle.bp_plain.specs.Refusals.{refusal_number}
 use Rattle.bp_plain.specs.Seen.{refusal_of}
 use Rattle.bp_roles.specs.Mounted.{served_words}
 use Rattle.bp_volume.specs.Queries.{StopsWalk}
-use Rattle.bp_volume.specs.Step.{PathFinds}
+use Rattle.bp_fs.specs.Step.{PathFinds}
 use Rattle.pm_region.specs.Memory.{Memory}
 use Rattle.bpfs_c.specs.declared.queries.Found.{Found}
 use Rattle.bpfs_c.specs.declared.codes.Lack.{Lack}

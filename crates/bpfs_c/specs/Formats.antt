@@ -2,7 +2,7 @@
 use Rattle.std.specs.Prelude.{◌≡◌, ◌≤◌, ℕ, List}
 use Rattle.bp_limits.specs.Limits.{max_blocks, min_blocks}
 use Rattle.bp_limits.specs.Numbers.{version_numbered}
-use Rattle.bp_volume.specs.Laid.{format_events}
+use Rattle.bp_mount.specs.Laid.{format_events}
 use Rattle.bpfs_c.specs.Events.{HasEvents}
 use Rattle.bpfs_c.specs.declared.log.Logged.{Logged}
 

@@ -9,7 +9,7 @@ use Rattle.bp_scan.specs.declared.fault.MountFault.{MountFault}
 use Rattle.bp_scan.specs.declared.fault.MountFault.TheVariants.{NotFormatted, BadSize, Damaged, Memory as Lacking}
 use Rattle.pm_region.specs.Memory.{Memory, current_words}
 use Rattle.bp_roles.specs.Mounted.{by_roles}
-use Rattle.bp_volume.specs.Faults.{IsMountFault}
+use Rattle.bp_mount.specs.Faults.{IsMountFault}
 use Rattle.bpfs_c.specs.declared.mounted.Mounted.{Mounted}
 use Rattle.bpfs_c.specs.declared.mount.Fault.{Fault}
 

@@ -7,7 +7,7 @@ use Rattle.bp_limits.specs.Limits.{call_room}
 use Rattle.bp_plain.specs.Calls.{Call, Answer}
 use Rattle.bp_plain.specs.declared.errors.FsError.{FsError}
 use Rattle.bp_roles.specs.Mounted.{served_words}
-use Rattle.bp_volume.specs.FileCall.{FileCall}
+use Rattle.bp_fs.specs.FileCall.{FileCall}
 use Rattle.bp_volume.specs.Queries.{Answers}
 use Rattle.bp_volume.specs.Seen.{unit_answer}
 use Rattle.bpfs_c.specs.Listings.{listing_after}

@@ -3,8 +3,8 @@ use Rattle.std.specs.Prelude.{◌≡◌, ◌^◌, ◌%◌, ◌/◌}
 use Rattle.pm_region.specs.Memory.{Memory}
 use Rattle.bp_layout.specs.Whole.{HasSpace}
 use Rattle.bp_roles.specs.Mounted.{served_words}
-use Rattle.bp_scan.specs.Totals.{HasLive, HasTotals}
-use Rattle.bp_scan.specs.declared.totals.Totals.{Totals}
+use Rattle.bp_layout.specs.Totals.{HasLive, HasTotals}
+use Rattle.bp_layout.specs.declared.totals.Totals.{Totals}
 use Rattle.bpfs_c.specs.declared.space.Blocks.{Blocks}
 use Rattle.bpfs_c.specs.declared.space.Sums.{Sums}
 

@@ -1,12 +1,12 @@
 -- The effect of an upgrade to version 3, which may take several calls.
 use Rattle.std.specs.Prelude.{◌≡◌, ◌≤◌, ℕ, Option, Some}
-use Rattle.bp_calls.specs.Cleared.{IsNextToClear, cleared_inodes}
+use Rattle.bp_layout.specs.Clearing.{IsNextToClear, cleared_inodes}
 use Rattle.bp_limits.specs.Limits.{call_room}
 use Rattle.bp_plain.specs.Calls.{Answer}
 use Rattle.bp_plain.specs.Calls.Call.{upgrade_to_three}
 use Rattle.bp_roles.specs.Mounted.{served_words}
-use Rattle.bp_volume.specs.Called.{CanUpgrade, ClearsSome}
-use Rattle.bp_volume.specs.FileCall.{FileCall}
+use Rattle.bp_fs.specs.Called.{CanUpgrade, ClearsSome}
+use Rattle.bp_fs.specs.FileCall.{FileCall}
 use Rattle.bpfs_c.specs.Codes.{IsEndedBy}
 use Rattle.bpfs_c.specs.declared.mounted.Mounted.{Mounted}
 use Rattle.pm_region.specs.Memory.{Memory, room_in}

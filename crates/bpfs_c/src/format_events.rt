@@ -4,7 +4,7 @@ ghost use Rattle.bpfs_c.specs.Formats.{ReportsFormat};
 use crate::codes::{NO_MEMORY, OK, OUT_OF_RANGE};
 use crate::log::{Logged, copy_events};
 use bp_limits::{BLOCK_WORDS, MAX_BLOCKS, MIN_BLOCKS, Version};
-use bp_volume::lay_first_blocks;
+use bp_mount::lay_first_blocks;
 use pm_runs::RedoRegion;
 use std::alloc::Global;
 

@@ -4,10 +4,9 @@ ghost use Rattle.std.specs.Prelude.{◌≤◌, ◌↔◌, IsTrue};
 ghost use Rattle.bp_limits.specs.Limits.{call_room};
 ghost use Rattle.pm_region.specs.Memory.{room_in};
 
+use bp_fs::needs_drain;
 use bp_layout::Listing;
-use bp_limits::CALL_ROOM;
 use bp_volume::Volume;
-use pm_region::Region;
 use pm_runs::RedoRegion;
 
 /// A mounted volume, and what the library keeps with it.
@@ -27,5 +26,5 @@ pub struct Mounted {
 pub(crate) fn has_room(mounted: &Mounted) -> bool
     ensures { IsTrue result ↔ (call_room ≤ room_in mounted.now.volume) }
 {
-    CALL_ROOM <= mounted.volume.region().room()
+    !needs_drain(mounted.volume.region())
 }

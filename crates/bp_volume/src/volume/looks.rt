@@ -9,7 +9,7 @@ ghost use Rattle.bp_plain.specs.Seen.{refusal_of};
 ghost use Rattle.bp_roles.specs.Mounted.{served_words};
 ghost use Rattle.bp_volume.specs.Queries.{Answers, StopsWalk};
 ghost use Rattle.bp_volume.specs.Seen.{attribute_answer, links_answer, list_answer_of, read_answer_of, stat_answer_of};
-ghost use Rattle.bp_volume.specs.Step.{PathFinds};
+ghost use Rattle.bp_fs.specs.Step.{PathFinds};
 
 use super::Volume;
 use crate::attributes::do_attribute;

@@ -1,21 +1,22 @@
 //! Upgrades of the format.
 
 ghost use Rattle.std.specs.Prelude.{false, ◌≡◌};
-ghost use Rattle.bp_calls.specs.Cleared.{cleared_inodes};
+ghost use Rattle.bp_layout.specs.Clearing.{cleared_inodes};
 ghost use Rattle.bp_layout.specs.Formatted.{version_of};
 ghost use Rattle.bp_layout.specs.Trees.{has_snapshot};
 ghost use Rattle.bp_limits.specs.CallLimits.{allows_attributes};
 ghost use Rattle.bp_plain.specs.Calls.Answer.{done};
 ghost use Rattle.bp_plain.specs.Calls.Call.{upgrade, upgrade_to_three};
 ghost use Rattle.bp_roles.specs.Mounted.{served_words};
-ghost use Rattle.bp_volume.specs.Called.{Called, ClearsSome, ClearsStep};
-ghost use Rattle.bp_volume.specs.FileCall.{FileCall};
+ghost use Rattle.bp_fs.specs.Called.{Called, ClearsSome, ClearsStep};
+ghost use Rattle.bp_fs.specs.FileCall.{FileCall};
 ghost use Rattle.bp_volume.specs.Seen.{unit_answer};
 ghost use Rattle.bp_volume.specs.Upgraded.{ClearsFirst};
 
 use super::Volume;
 use crate::upgrade::{is_before_three, upgrade_region, upgrade_region_to_three};
-use bp_calls::clear::{CLEARED_INODES, clear_some, next_to_clear};
+use bp_calls::clear::{clear_some, next_to_clear};
+use bp_layout::CLEARED_INODES;
 use bp_plain::FsError;
 use pm_region::Region;
 

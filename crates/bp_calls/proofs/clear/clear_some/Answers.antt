@@ -1,7 +1,7 @@
 use Rattle.std.proofs.Common.{◌≤◌, ◌+◌, min, arith}
 use Rattle.bp_layout.specs.Inode.{inode_count}
 use Rattle.pm_region.specs.Memory.{current_words}
-use Rattle.bp_calls.specs.Cleared.{cleared_inodes}
+use Rattle.bp_layout.specs.Clearing.{cleared_inodes}
 use Rattle.bp_calls.proofs.ClearedSteps.{clears_count, clears_from, clears_more, clears_room, clears_well_formed}
 use Rattle.bp_calls.proofs.clear.clear_some.Goals as goal
 

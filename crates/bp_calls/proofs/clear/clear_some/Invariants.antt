@@ -1,5 +1,5 @@
 use Rattle.std.proofs.Common.{◌+◌, ◌≤◌}
-use Rattle.bp_calls.specs.Cleared.{cleared_inodes}
+use Rattle.bp_layout.specs.Clearing.{cleared_inodes}
 use Rattle.bp_calls.proofs.ClearedSteps.{Clears}
 use Rattle.bp_calls.proofs.clear.clear_some.Given as goal
 

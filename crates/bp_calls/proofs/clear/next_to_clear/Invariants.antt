@@ -1,6 +1,6 @@
 use Rattle.std.proofs.Common.{ℕ, ◌<◌, ◌≤◌}
 use Rattle.pm_region.specs.Memory.{current_words}
-use Rattle.bp_calls.specs.Cleared.{IsClearInode}
+use Rattle.bp_layout.specs.Clearing.{IsClearInode}
 use Rattle.bp_calls.proofs.clear.next_to_clear.Given as goal
 
 -- the inodes so far are clear

@@ -6,7 +6,7 @@ use Rattle.bp_layout.specs.Free.{IsLeastFree}
 use Rattle.bp_layout.specs.Need.Change.{enters}
 use Rattle.bp_changes.specs.Sets.{IsExact}
 use Rattle.bp_calls.specs.Created.{EntersName}
-use Rattle.bp_calls.specs.Entrant.{entrant_of}
+use Rattle.bp_changes.specs.Entrant.{entrant_of}
 use Rattle.bp_calls.proofs.EnterThawed.{least_back, least_on}
 use Rattle.bp_calls.proofs.NewNames.{is_reported, lacks_on}
 use Rattle.bp_calls.proofs.ThawedParts.{performed_thawed}

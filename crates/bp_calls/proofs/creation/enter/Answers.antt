@@ -5,7 +5,7 @@ use Rattle.bp_changes.specs.Performs.{PerformsWithin}
 use Rattle.bp_changes.specs.Sets.{in_snapshot_of}
 use Rattle.pm_region.specs.Memory.{current_words}
 use Rattle.bp_calls.specs.Created.{EntersName}
-use Rattle.bp_calls.specs.Entrant.{entrant_of}
+use Rattle.bp_changes.specs.Entrant.{entrant_of}
 use Rattle.bp_calls.specs.Growth.{stores_after_growth}
 use Rattle.bp_calls.specs.Steps.{name_need}
 use Rattle.bp_calls.proofs.CountLaws.{exact_with}

@@ -9,7 +9,7 @@ use Rattle.bp_layout.specs.WordPaths.{WordPath}
 use Rattle.bp_layout.specs.Words.{height_of}
 use Rattle.bp_limits.specs.Limits.{max_height}
 use Rattle.pm_region.specs.Memory.{current_words}
-use Rattle.bp_calls.specs.Entrant.{entrant_of}
+use Rattle.bp_changes.specs.Entrant.{entrant_of}
 use Rattle.bp_calls.proofs.EnterTargets.{more_targets, row_path_at}
 use Rattle.bp_calls.proofs.Refusals.{is_least, is_none}
 use Rattle.bp_calls.proofs.creation.entering_new.Goals as goal

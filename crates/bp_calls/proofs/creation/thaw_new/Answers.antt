@@ -3,7 +3,7 @@ use Rattle.std.specs.Prelude.{OnErr}
 use Rattle.bp_layout.specs.Free.{IsLeastFree}
 use Rattle.bp_layout.specs.Need.Change.{enters}
 use Rattle.bp_free.specs.Set.{members}
-use Rattle.bp_calls.specs.Entrant.{entrant_of}
+use Rattle.bp_changes.specs.Entrant.{entrant_of}
 use Rattle.bp_calls.specs.ThawsFor.{HasRoomToThaw, LacksBlocksToThaw, ThawsFor, thaw_count}
 use Rattle.bp_thaw.specs.Prefixes.{IsWayIn}
 use Rattle.bp_thaw.specs.Thaws.{paths_in}

@@ -4,8 +4,8 @@ use Rattle.bp_play.proofs.play.make_call.Goals as goal
 
 pub returns : goal.returns
 returns g c =
-    let applied = rw c.with_bytes-asked.ensures at c.apply.ensures in
-    let done = does_call c.args.volume.now c.apply.new.self _ _ applied in
+    let applied = rw c.with_bytes-asked.ensures at c.apply.ensures.calls in
+    let done = does_call g.V.FileSystem.behaviour g.met.V.FileSystem.lawful (g.V.FileSystem.state c.args.system.now) (g.V.FileSystem.state c.apply.new.self) _ _ applied in
     record {
       reply = answered c.apply.new.reply.answer;
       line = done.line;

@@ -33,7 +33,7 @@ loop-turn-preserved g c =
     record {
       replies = (
         before.replies.0 ++ taken.reply ∷ [],
-        one_more _ _ _ c.args.seed c.loop-turn._turn _ _ before.replies.0 taken.reply before.generator drawn.asks before.replies.1 taken.line,
+        one_more g.V.FileSystem.behaviour _ _ _ c.args.seed c.loop-turn._turn _ _ before.replies.0 taken.reply before.generator drawn.asks before.replies.1 taken.line,
         taken.counted.sums before.replies.0 before.replies.2,
       );
       generator = state_more c.args.seed c.loop-turn._turn _ _ before.generator drawn.goes_on;
@@ -47,6 +47,6 @@ returns g c =
     let replies = c.loop-turn.invariant.replies in
     record {
       replies = replies.0;
-      session = λ saved. subst (λ (n : ℕ). Session (state c.args.volume.now saved) (turns c.args.seed n) replies.0 (state c.loop-turn.volume saved)) all (replies.1 saved);
+      session = λ saved. subst (λ (n : ℕ). Session g.V.FileSystem.behaviour (state (g.V.FileSystem.state c.args.system.now) saved) (turns c.args.seed n) replies.0 (state (g.V.FileSystem.state c.loop-turn.system) saved)) all (replies.1 saved);
       reported = replies.2;
     }

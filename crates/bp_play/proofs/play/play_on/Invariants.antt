@@ -13,8 +13,8 @@ use Rattle.bp_play.proofs.play.play_on.Given as goal
 abbrev pub invariant-loop-turn : goal.invariant-loop-turn
 invariant-loop-turn g l =
     record {
-      replies : (replies : List LineReply) × ((saved : Image) → Session (state l.fn.volume saved) (turns l.seed l._turn) replies (state l.volume saved)) × (l.summary ≡ sums replies);
+      replies : (replies : List LineReply) × ((saved : Image) → Session g.V.FileSystem.behaviour (state (g.V.FileSystem.state l.fn.system) saved) (turns l.seed l._turn) replies (state (g.V.FileSystem.state l.system) saved)) × (l.summary ≡ sums replies);
       generator : l.generator.state ≡ seed_after l.seed l._turn;
       bounded : IsBounded l._turn l.summary;
-      capacity : l.volume.capacity ≡ l.fn.volume.capacity;
+      capacity : (g.V.FileSystem.behaviour.memory (g.V.FileSystem.state l.system)).capacity ≡ (g.V.FileSystem.behaviour.memory (g.V.FileSystem.state l.fn.system)).capacity;
     }

@@ -10,12 +10,12 @@ pub apply-requires : goal.apply-requires
 apply-requires g c = record { can = rw c.in-Ok-Call.field-0-is at c.in-Ok-Call.ensures.can }
 
 pub returns-then-len-gt-MAX_LINE-clause-does : goal.returns-then-len-gt-MAX_LINE-clause-does
-returns-then-len-gt-MAX_LINE-clause-does g c = λ _. rw (command_long c.args.buffers.now.line.items (omega arith)) (does_long c.args.volume.now _)
+returns-then-len-gt-MAX_LINE-clause-does g c = λ _. rw (command_long c.args.buffers.now.line.items (omega arith)) (does_long g.V.FileSystem.behaviour (g.V.FileSystem.state c.args.system.now) _)
 
 pub returns-in-Ok-Call-clause-does : goal.returns-in-Ok-Call-clause-does
 returns-in-Ok-Call-clause-does g c = λ _.
     let asked = command_short c.args.buffers.now.line.items _ (omega arith) (let meant = rw c.in-Ok-Call.field-0-is at c.in-Ok-Call.ensures.meaning in meant ∙ ap in_grammar c.deref.ensures.value) in
-    rw (← asked) (does_call c.args.volume.now _ _ _ c.apply.ensures)
+    rw (← asked) (does_call g.V.FileSystem.behaviour g.met.V.FileSystem.lawful (g.V.FileSystem.state c.args.system.now) _ _ _ c.apply.ensures.calls)
 
 pub returns-in-Ok-Sync-clause-left : goal.returns-in-Ok-Sync-clause-left
 returns-in-Ok-Sync-clause-left g c = λ _.
@@ -25,39 +25,39 @@ returns-in-Ok-Sync-clause-left g c = λ _.
 pub returns-in-Ok-Space-clause-does : goal.returns-in-Ok-Space-clause-does
 returns-in-Ok-Space-clause-does g c = λ _.
     let asked = command_short c.args.buffers.now.line.items space (omega arith) (let meant = rw c.in-Ok-Space.field-0-is at c.in-Ok-Space.ensures.meaning in meant ∙ ap in_grammar c.deref.ensures.value) in
-    rw (← asked) (does_space c.args.volume.now _ _ _ c.space-space.ensures.free c.space-space.ensures.live)
+    rw (← asked) (does_space g.V.FileSystem.behaviour (g.V.FileSystem.state c.args.system.now) _ _ _ c.space-space.ensures.space)
 
 pub returns-in-Ok-Crash-clause-does : goal.returns-in-Ok-Crash-clause-does
 returns-in-Ok-Crash-clause-does g c = λ _.
     let asked = command_short c.args.buffers.now.line.items _ (omega arith) (let meant = rw c.in-Ok-Crash.field-0-is at c.in-Ok-Crash.ensures.meaning in meant ∙ ap in_grammar c.deref.ensures.value) in
-    rw (← asked) (does_crash c.args.volume.now _ _ _ _ c.crash.ensures.crashes)
+    rw (← asked) (does_crash g.V.FileSystem.behaviour g.met.V.FileSystem.lawful (g.V.FileSystem.state c.args.system.now) _ _ _ _ c.crash.ensures.crashes)
 
 pub returns-in-Ok-Storm-clause-does : goal.returns-in-Ok-Storm-clause-does
 returns-in-Ok-Storm-clause-does g c = λ _.
     let asked = command_short c.args.buffers.now.line.items _ (omega arith) (let meant = rw c.in-Ok-Storm.field-0-is at c.in-Ok-Storm.ensures.meaning in meant ∙ ap in_grammar c.deref.ensures.value) in
-    rw (← asked) (does_storm c.args.volume.now _ _ _ _ c.crash_by_storm.ensures.crashes)
+    rw (← asked) (does_storm g.V.FileSystem.behaviour g.met.V.FileSystem.lawful (g.V.FileSystem.state c.args.system.now) _ _ _ _ c.crash_by_storm.ensures.crashes)
 
 pub returns-in-Ok-Cache-clause-does : goal.returns-in-Ok-Cache-clause-does
 returns-in-Ok-Cache-clause-does g c = λ _.
     let asked = command_short c.args.buffers.now.line.items _ (omega arith) (let meant = rw c.in-Ok-Cache.field-0-is at c.in-Ok-Cache.ensures.meaning in meant ∙ ap in_grammar c.deref.ensures.value) in
-    rw (← asked) (does_cache c.args.volume.now _ _ _ _ c.crash_by_caches.ensures.crashes)
+    rw (← asked) (does_cache g.V.FileSystem.behaviour g.met.V.FileSystem.lawful (g.V.FileSystem.state c.args.system.now) _ _ _ _ c.crash_by_caches.ensures.crashes)
 
 pub returns-in-Ok-Log-clause-does : goal.returns-in-Ok-Log-clause-does
 returns-in-Ok-Log-clause-does g c = λ _.
     let asked = command_short c.args.buffers.now.line.items log (omega arith) (let meant = rw c.in-Ok-Log.field-0-is at c.in-Ok-Log.ensures.meaning in meant ∙ ap in_grammar c.deref.ensures.value) in
-    rw (← asked) (does_log c.args.volume.now _ _ (rw c.region-in-Ok-Log.ensures.memory at c.count_log.ensures))
+    rw (← asked) (does_log g.V.FileSystem.behaviour (g.V.FileSystem.state c.args.system.now) _ _ (rw c.region-in-Ok-Log.ensures at c.count_log.ensures))
 
 pub returns-in-Ok-Crash-clause-left : goal.returns-in-Ok-Crash-clause-left
-returns-in-Ok-Crash-clause-left g c = crash_not_left c.args.volume.now _ _ _ c.crash.ensures.crashes
+returns-in-Ok-Crash-clause-left g c = crash_not_left g.V.FileSystem.behaviour (g.V.FileSystem.state c.args.system.now) _ _ _ c.crash.ensures.crashes
 
 pub returns-in-Ok-Storm-clause-left : goal.returns-in-Ok-Storm-clause-left
-returns-in-Ok-Storm-clause-left g c = not_left _ _ _ _ (does_storm c.args.volume.now _ _ _ (answer_in c.args.buffers.now) c.crash_by_storm.ensures.crashes) (no_sync_storm _)
+returns-in-Ok-Storm-clause-left g c = not_left g.V.FileSystem.behaviour _ _ _ _ (does_storm g.V.FileSystem.behaviour g.met.V.FileSystem.lawful (g.V.FileSystem.state c.args.system.now) _ _ _ (answer_in c.args.buffers.now) c.crash_by_storm.ensures.crashes) (no_sync_storm _)
 
 pub returns-in-Ok-Cache-clause-left : goal.returns-in-Ok-Cache-clause-left
-returns-in-Ok-Cache-clause-left g c = not_left _ _ _ _ (does_cache c.args.volume.now _ _ _ (answer_in c.args.buffers.now) c.crash_by_caches.ensures.crashes) (no_sync_cache _)
+returns-in-Ok-Cache-clause-left g c = not_left g.V.FileSystem.behaviour _ _ _ _ (does_cache g.V.FileSystem.behaviour g.met.V.FileSystem.lawful (g.V.FileSystem.state c.args.system.now) _ _ _ (answer_in c.args.buffers.now) c.crash_by_caches.ensures.crashes) (no_sync_cache _)
 
 pub returns-in-Ok-Log-clause-left : goal.returns-in-Ok-Log-clause-left
-returns-in-Ok-Log-clause-left g c = not_left _ _ _ _ (does_log c.args.volume.now _ (answer_in c.args.buffers.now) (rw c.region-in-Ok-Log.ensures.memory at c.count_log.ensures)) no_sync_log
+returns-in-Ok-Log-clause-left g c = not_left g.V.FileSystem.behaviour _ _ _ _ (does_log g.V.FileSystem.behaviour (g.V.FileSystem.state c.args.system.now) _ (answer_in c.args.buffers.now) (rw c.region-in-Ok-Log.ensures at c.count_log.ensures)) no_sync_log
 
 pub crash-requires-clause-mask : goal.crash-requires-clause-mask
 crash-requires-clause-mask g c =
@@ -68,16 +68,16 @@ crash-requires-clause-mask g c =
 pub returns-in-Ok-Call-clause-notes : goal.returns-in-Ok-Call-clause-notes
 returns-in-Ok-Call-clause-notes g c =
     let asked = command_short c.args.buffers.now.line.items _ (omega arith) (let meant = rw c.in-Ok-Call.field-0-is at c.in-Ok-Call.ensures.meaning in meant ∙ ap in_grammar c.deref.ensures.value) in
-    rw (← asked) (rw c.region.ensures.memory at c.dirty_call.ensures)
+    rw (← asked) (rw c.region.ensures at c.dirty_call.ensures)
 
 pub returns-in-Ok-Crash-clause-notes : goal.returns-in-Ok-Crash-clause-notes
-returns-in-Ok-Crash-clause-notes g c = notes_crash c.args.volume.now _ _ _ _ _ c.crash.ensures.crashes
+returns-in-Ok-Crash-clause-notes g c = notes_crash g.V.FileSystem.behaviour (g.V.FileSystem.state c.args.system.now) _ _ _ _ _ c.crash.ensures.crashes
 
 pub returns-in-Ok-Storm-clause-notes : goal.returns-in-Ok-Storm-clause-notes
-returns-in-Ok-Storm-clause-notes g c = notes_crash c.args.volume.now _ _ _ _ _ (inl c.crash_by_storm.ensures.crashes)
+returns-in-Ok-Storm-clause-notes g c = notes_crash g.V.FileSystem.behaviour (g.V.FileSystem.state c.args.system.now) _ _ _ _ _ (inl c.crash_by_storm.ensures.crashes)
 
 pub returns-in-Ok-Cache-clause-notes : goal.returns-in-Ok-Cache-clause-notes
-returns-in-Ok-Cache-clause-notes g c = notes_cache c.args.volume.now _ _ _ _ _ c.crash_by_caches.ensures.crashes
+returns-in-Ok-Cache-clause-notes g c = notes_cache g.V.FileSystem.behaviour (g.V.FileSystem.state c.args.system.now) _ _ _ _ _ c.crash_by_caches.ensures.crashes
 
 pub returns-in-Ok-Log-clause-notes : goal.returns-in-Ok-Log-clause-notes
-returns-in-Ok-Log-clause-notes g c = notes_log c.args.volume.now _ _ _ _ _ _ c.count_log.ensures
+returns-in-Ok-Log-clause-notes g c = notes_log (g.V.FileSystem.behaviour.memory (g.V.FileSystem.state c.args.system.now)) _ _ _ _ _ _ c.count_log.ensures

@@ -13,8 +13,8 @@ use Rattle.bp_session.proofs.laws.exports_make_their_trees.Goals as goal
 
 pub returns : goal.returns
 returns c = λ old new tree replies can of_bytes empty stands session never.
-    let run = plain_session old (fresh (empty_tree tree.version)) _ replies new (follows_fresh old.memory (empty_tree tree.version) empty stands) session in
+    let run = plain_session old (fresh (empty_tree tree.version)) _ replies new (follows_fresh old.system (empty_tree tree.version) empty stands) session in
     let calls = subst (λ (commands : List Command). PlainSession (fresh (empty_tree tree.version)) commands replies run.plain) (export_asks tree can of_bytes) run.session in
     let is = calls_done (export_calls tree) (fresh (empty_tree tree.version)) run.plain replies (empty_tree tree.version) (without_snapshot tree) refl (export_done tree can)
     calls (recursion_from_All (λ reply. ¬ ReportsNoSpace reply) replies never) in
-    subst (λ (t : FileTree). Stands (served_words new.memory) t) is run.follows.now
+    subst (λ (t : FileTree). Stands (served_words new.system) t) is run.follows.now

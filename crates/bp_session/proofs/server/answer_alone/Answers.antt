@@ -7,7 +7,7 @@ use Rattle.bp_session.proofs.server.answer_alone.Goals as goal
 
 pub returns-clause-outcome : goal.returns-clause-outcome
 returns-clause-outcome g c =
-    line_alone _ _ _ _ (waiting c.answer_line.new.work.buffers.replies)
+    line_alone g.V.FileSystem.behaviour _ _ _ _ (waiting c.answer_line.new.work.buffers.replies)
     (λ e. nil_from_length (waiting c.answer_line.new.work.buffers.replies) (let few : length (waiting c.answer_line.new.work.buffers.replies) ≤ 0 = where_whole c.answer_line.result c.answer_line.ensures.few e in omega (arith, few)))
     (rw c.clear.ensures at c.answer_line.ensures.outcome)
 

@@ -13,7 +13,7 @@ last (x ∷ line) some = commands_at_end x line
 pub returns-then-is_empty : goal.returns-then-is_empty
 returns-then-is_empty g c =
     let empty = nil_from_length c.args.work.now.buffers.line.items (search rules) in
-    rw empty (line_nothing _)
+    rw empty (line_nothing g.V.FileSystem.behaviour _)
 
 pub returns : goal.returns
 returns g c =

@@ -9,7 +9,7 @@ use Rattle.bp_session.proofs.server.serve_by.Goals as goal
 
 pub loop-count-init : goal.loop-count-init
 loop-count-init g c = record {
-  served = ([], Consumes-nil _, refl, rw c.clear.ensures.items (piece_nothing c.args.most _ []));
+  served = ([], Consumes-nil _, refl, rw c.clear.ensures.items (piece_nothing g.V.FileSystem.behaviour c.args.most _ []));
   source = refl;
   taken = search rules;
 }
@@ -17,7 +17,7 @@ loop-count-init g c = record {
 pub returns-in-Err-clause-outcome : goal.returns-in-Err-clause-outcome
 returns-in-Err-clause-outcome g c =
     let before = c.loop-count.invariant.served in
-    serve_part _ _ _ _ _ before.0 _ (Consumes-kept _ _ _ _ before.1 c.in-Err.ensures.bytes) before.3 (rw c.loop-count.invariant.source at c.in-Err.ensures.cause.failed)
+    serve_part g.V.FileSystem.behaviour _ _ _ _ _ before.0 _ (Consumes-kept _ _ _ _ before.1 c.in-Err.ensures.bytes) before.3 (rw c.loop-count.invariant.source at c.in-Err.ensures.cause.failed)
 
 pub loop-count-preserved : goal.loop-count-preserved
 loop-count-preserved g c =
@@ -29,7 +29,7 @@ loop-count-preserved g c =
         before.0 ++ take c.in-Ok.count piece,
         Consumes-trans _ _ _ _ _ before.1 c.in-Ok.ensures.bytes.0,
         omega (arith, length-append before.0 (take c.in-Ok.count piece), length_taken piece c.in-Ok.count c.in-Ok.ensures.bound.0, before.2),
-        piece_then _ _ _ _ _ _ _ before.3 _ _ _ (rw all at c.in_ok-take_piece.ensures.outcome),
+        piece_then g.V.FileSystem.behaviour _ _ _ _ _ _ _ before.3 _ _ _ (rw all at c.in_ok-take_piece.ensures.outcome),
       );
       source = c.in-Ok.ensures.cause.same ∙ c.loop-count.invariant.source;
       taken = search rules;
@@ -43,9 +43,9 @@ returns-in_err-take_piece-clause-outcome g c =
     let piece = c.fill.new.piece.items in
     let served = c.min-served.result in
     let whole = take_more piece served c.in-Ok.count (omega arith) in
-    let ended = piece_stops _ _ _ _ (drop served (take c.in-Ok.count piece)) _ [] _ _ some c.in_err-take_piece.ensures.outcome in
-    rw (p.1, p.2) (serve_ended _ _ _ _ _ _ (before.0 ++ take c.in-Ok.count piece) _ some (Consumes-trans _ _ _ _ _ before.1 c.in-Ok.ensures.bytes.0)
-    (piece_then _ _ _ _ _ _ _ before.3 _ _ _ (rw whole at ended)) (c.in-Ok.ensures.cause.same ∙ c.loop-count.invariant.source))
+    let ended = piece_stops g.V.FileSystem.behaviour _ _ _ _ (drop served (take c.in-Ok.count piece)) _ [] _ _ some c.in_err-take_piece.ensures.outcome in
+    rw (p.1, p.2) (serve_ended g.V.FileSystem.behaviour _ _ _ _ _ _ (before.0 ++ take c.in-Ok.count piece) _ some (Consumes-trans _ _ _ _ _ before.1 c.in-Ok.ensures.bytes.0)
+    (piece_then g.V.FileSystem.behaviour _ _ _ _ _ _ _ before.3 _ _ _ (rw whole at ended)) (c.in-Ok.ensures.cause.same ∙ c.loop-count.invariant.source))
 
 pub returns-then-served-count-clause-outcome : goal.returns-then-served-count-clause-outcome
 returns-then-served-count-clause-outcome g c =
@@ -58,16 +58,16 @@ returns-then-served-count-clause-outcome g c =
     let parts = length-append (take served piece) (drop served (take c.in-Ok.count piece)) in
     let more : length (take served piece) + length (drop served (take c.in-Ok.count piece)) ≡ c.in-Ok.count = sym parts ∙ ap length whole ∙ size in
     let most : c.in-Ok.count ≤ 65536 = search rules in
-    serve_long _ _ _ _ _ (before.0 ++ take served piece) (drop served (take c.in-Ok.count piece)) _
+    serve_long g.V.FileSystem.behaviour _ _ _ _ _ (before.0 ++ take served piece) (drop served (take c.in-Ok.count piece)) _
     (rw (append_assoc before.0 (take served piece) (drop served (take c.in-Ok.count piece)), whole) (Consumes-trans _ _ _ _ _ before.1 c.in-Ok.ensures.bytes.0))
     (omega (arith, length-append before.0 (take served piece), first, before.2))
     (omega (arith, first, more)) (omega (arith, first, more, most))
-    (piece_then _ _ _ _ _ _ _ before.3 _ _ _ c.in_ok-take_piece.ensures.outcome) (c.in-Ok.ensures.cause.same ∙ c.loop-count.invariant.source)
+    (piece_then g.V.FileSystem.behaviour _ _ _ _ _ _ _ before.3 _ _ _ c.in_ok-take_piece.ensures.outcome) (c.in-Ok.ensures.cause.same ∙ c.loop-count.invariant.source)
 
 pub returns-clause-outcome : goal.returns-clause-outcome
 returns-clause-outcome g c =
     let before = c.loop-count.invariant.served in
     let none : Consumes (g.S.Source.view c.loop-count.src).left (g.S.Source.view c.fill.new.src).left [] = rw c.if-count-eq0.true at c.in-Ok.ensures.bytes.0 in
-    serve_end _ _ _ _ _ _ (before.0 ++ []) _ _ (Consumes-trans _ _ _ _ _ before.1 none) (c.in-Ok.ensures.bytes.1 c.if-count-eq0.true (search rules))
+    serve_end g.V.FileSystem.behaviour _ _ _ _ _ _ (before.0 ++ []) _ _ (Consumes-trans _ _ _ _ _ before.1 none) (c.in-Ok.ensures.bytes.1 c.if-count-eq0.true (search rules))
     (omega (arith, length-append before.0 [], before.2, c.loop-count.invariant.taken))
-    (piece_then _ _ _ _ _ _ _ before.3 _ _ _ (piece_nothing _ _ _)) c.finish.ensures (c.in-Ok.ensures.cause.same ∙ c.loop-count.invariant.source)
+    (piece_then g.V.FileSystem.behaviour _ _ _ _ _ _ _ before.3 _ _ _ (piece_nothing g.V.FileSystem.behaviour _ _ _)) c.finish.ensures (c.in-Ok.ensures.cause.same ∙ c.loop-count.invariant.source)

@@ -9,9 +9,9 @@ abbrev pub invariant-loop-count : goal.invariant-loop-count
 invariant-loop-count g l =
     record {
       served : (input : List ℕ) × Consumes (g.S.Source.view l.fn.src).left (g.S.Source.view l.src).left input × (length input ≡ l.taken)
-          × PieceOutcome None l.most [] input l.work.buffers.line.items
-          (with_dirty l.fn.dirty (moment l.fn.volume (g.F.Files.view l.fn.files) (g.K.Sink.view l.fn.out)))
-          (with_dirty l.dirty (moment l.volume (g.F.Files.view l.files) (g.K.Sink.view l.out)));
+          × PieceOutcome g.V.FileSystem.behaviour None l.most [] input l.work.buffers.line.items
+          (with_dirty l.fn.dirty (moment (g.V.FileSystem.state l.fn.system) (g.F.Files.view l.fn.files) (g.K.Sink.view l.fn.out)))
+          (with_dirty l.dirty (moment (g.V.FileSystem.state l.system) (g.F.Files.view l.files) (g.K.Sink.view l.out)));
       source : (g.S.Source.view l.src).faults ≡ (g.S.Source.view l.fn.src).faults;
       taken : l.taken ≤ 1073741824;
     }

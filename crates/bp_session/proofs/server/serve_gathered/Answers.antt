@@ -12,10 +12,10 @@ returns-clause-outcome g c =
     let count = c.args.dirty.now.count in
     let flags = c.args.dirty.now.flags in
     let new = c.serve_by.new in
-    let begun : Moment = moment c.args.volume.now (g.F.Files.view c.args.files.now) (g.K.Sink.view c.args.out.now) in
-    let ended : Moment = moment new.volume (g.F.Files.view new.files) (g.K.Sink.view new.out) in
+    let begun : Moment g.V.FileSystem.State = moment (g.V.FileSystem.state c.args.system.now) (g.F.Files.view c.args.files.now) (g.K.Sink.view c.args.out.now) in
+    let ended : Moment g.V.FileSystem.State = moment (g.V.FileSystem.state new.system) (g.F.Files.view new.files) (g.K.Sink.view new.out) in
     let size : length flags ≡ max_file_blocks = search rules in
     let lent : c.min-count.result ≡ min count (length flags) = omega (arith, size, c.min-count.ensures) in
     let same : length new.dirty ≡ c.min-count.result = omega (arith, lent, c.serve_by.auto.dirty, length-take c.min-count.result flags) in
-    subst₂ (λ old now. ServeOutcome (cause_of c.serve_by.result) gathered_size (g.S.Source.view c.args.src.now) (g.S.Source.view new.src) (with_dirty old begun) (with_dirty now ended))
+    subst₂ (λ old now. ServeOutcome g.V.FileSystem.behaviour (cause_of c.serve_by.result) gathered_size (g.S.Source.view c.args.src.now) (g.S.Source.view new.src) (with_dirty old begun) (with_dirty now ended))
     (ap (λ n. take n flags) lent ∙ take_min count flags) (sym (lent_back count c.min-count.result flags new.dirty lent same)) c.serve_by.ensures.outcome

@@ -10,9 +10,9 @@ invariant-loop-end g l =
     record {
       inside : l.at ≤ l.count;
       piece : l.work.piece.items ≡ l.fn.work.piece.items;
-      waits : Waits (with_dirty l.fn.dirty (moment l.fn.volume (g.F.Files.view l.fn.files) (g.K.Sink.view l.fn.out))) l.most
+      waits : Waits g.V.FileSystem.behaviour (with_dirty l.fn.dirty (moment (g.V.FileSystem.state l.fn.system) (g.F.Files.view l.fn.files) (g.K.Sink.view l.fn.out))) l.most
           l.fn.work.buffers.line.items (take l.at l.fn.work.piece.items) l.work.buffers.line.items (waiting l.work.buffers.replies)
-          (with_dirty l.dirty (moment l.volume (g.F.Files.view l.files) (g.K.Sink.view l.out)));
+          (with_dirty l.dirty (moment (g.V.FileSystem.state l.system) (g.F.Files.view l.files) (g.K.Sink.view l.out)));
     }
 
 abbrev pub decreases-loop-end : goal.decreases-loop-end

@@ -21,4 +21,4 @@ returns-clause-holds g c =
 pub returns-clause-starts : goal.returns-clause-starts
 returns-clause-starts g c =
     c.adopt_all.ensures ∙ ap (λ (m : Memory). record m { base = c.finish.result }) c.in-Ok.ensures
-    ∙ ap (λ (base : List ℕ). (start base).memory) (sym (ap (λ (m : Memory). m.base) c.adopt_all.ensures))
+    ∙ ap (λ (base : List ℕ). (start base).system) (sym (ap (λ (m : Memory). m.base) c.adopt_all.ensures))

@@ -1,4 +1,5 @@
 use Rattle.std.proofs.Common.{refl}
+use Rattle.pm_region.specs.Memory.{Memory}
 use Rattle.bp_session.proofs.OthersLaws.{others_then}
 use Rattle.bp_session.proofs.SavingLaws.{stays_attached}
 use Rattle.bp_session.specs.Changed.{dirty_in}
@@ -8,7 +9,7 @@ use Rattle.bp_shell.proofs.programs.serve_and_save.Goals as goal
 
 pub returns-in-Err-clause-outcome : goal.returns-in-Err-clause-outcome
 returns-in-Err-clause-outcome g c = λ before name image mounted.
-    let begun : Moment = with_dirty (dirty_in c.none-dirty.result) (moment c.args.volume.now (g.F.Files.view c.args.files.now) (g.K.Sink.view c.args.out.now)) in
+    let begun : Moment Memory = with_dirty (dirty_in c.none-dirty.result) (moment (g.V.StoredFileSystem.memory c.args.system.now) (g.F.Files.view c.args.files.now) (g.K.Sink.view c.args.out.now)) in
     let held = read_now begun name image mounted.starts mounted.holds in
     rw c.from.ensures (run_served _ _ before begun _ name image mounted.found mounted.starts held mounted.flushed mounted.calm c.in-Err.broken c.in-Err.ensures.outcome)
 
@@ -17,7 +18,7 @@ returns-in-Err-clause-unread g c unread = absurd (broken_reads c.in-Err.broken (
 
 pub returns-in-Ok-clause-outcome : goal.returns-in-Ok-clause-outcome
 returns-in-Ok-clause-outcome g c = λ before name image mounted.
-    let begun : Moment = with_dirty (dirty_in c.none-dirty.result) (moment c.args.volume.now (g.F.Files.view c.args.files.now) (g.K.Sink.view c.args.out.now)) in
+    let begun : Moment Memory = with_dirty (dirty_in c.none-dirty.result) (moment (g.V.StoredFileSystem.memory c.args.system.now) (g.F.Files.view c.args.files.now) (g.K.Sink.view c.args.out.now)) in
     let held = read_now begun name image mounted.starts mounted.holds in
     let served = c.in_default.ensures.outcome in
     let reported = (served.whole refl).4 image in
@@ -26,7 +27,7 @@ returns-in-Ok-clause-outcome g c = λ before name image mounted.
 
 pub returns-in-Err-sync_and_save-clause-outcome : goal.returns-in-Err-sync_and_save-clause-outcome
 returns-in-Err-sync_and_save-clause-outcome g c = λ before name image mounted.
-    let begun : Moment = with_dirty (dirty_in c.none-dirty.result) (moment c.args.volume.now (g.F.Files.view c.args.files.now) (g.K.Sink.view c.args.out.now)) in
+    let begun : Moment Memory = with_dirty (dirty_in c.none-dirty.result) (moment (g.V.StoredFileSystem.memory c.args.system.now) (g.F.Files.view c.args.files.now) (g.K.Sink.view c.args.out.now)) in
     let held = read_now begun name image mounted.starts mounted.holds in
     let served = c.in_default.ensures.outcome in
     run_unsaved _ _ before begun _ name image mounted.found mounted.starts held mounted.flushed mounted.calm (g.F.Files.view c.sync_and_save.new.files) served _ c.sync_and_save.ensures.drained

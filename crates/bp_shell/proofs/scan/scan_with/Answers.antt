@@ -5,7 +5,7 @@ use Rattle.bp_shell.specs.declared.stop.Stop.TheVariants.{Refused}
 use Rattle.bp_shell.proofs.OpeningLaws.{no_refusal, stop_kinds, stop_refused}
 use Rattle.bp_shell.proofs.SeeingLaws.{length-by_roles, length-seen_now, seen-mounted, sized-seen}
 use Rattle.bp_shell.proofs.scan.scan_with.Goals as goal
-use Rattle.bp_volume.specs.Faults.{stored_fault}
+use Rattle.bp_mount.specs.Faults.{stored_fault}
 
 pub scan_whole-requires-clause-sized : goal.scan_whole-requires-clause-sized
 scan_whole-requires-clause-sized c = sized-seen c.args.region.now c.requires.seen c.requires.sized

@@ -3,7 +3,7 @@ use Rattle.std.proofs.lemmas.Result.{err_from_is_err_and}
 use Rattle.pm_region.specs.Memory.{current_words}
 use Rattle.bp_layout.specs.Inode.{size_of}
 use Rattle.bp_plain.specs.Seen.{piece_in, refusal_of, spanned}
-use Rattle.bp_volume.specs.Step.{PathFinds}
+use Rattle.bp_fs.specs.Step.{PathFinds}
 use Rattle.bp_volume.specs.Queries.{StopsAtFile}
 use Rattle.bp_volume.proofs.BatchLaws.{piece_past, piece_stopped}
 use Rattle.bp_volume.proofs.batch.patch_for.Goals as goal

@@ -11,7 +11,7 @@ use Rattle.bp_plain.specs.PlainTree.{FileTree}
 use Rattle.bp_plain.specs.Seen.{piece_in}
 use Rattle.bp_plain.specs.Stands.{Stands}
 use Rattle.bp_stands.specs.Pieces.{ArePatches}
-use Rattle.bp_volume.specs.Step.{FindsFile}
+use Rattle.bp_fs.specs.Step.{FindsFile}
 use Rattle.pm_region.specs.Memory.{current_words}
 use Rattle.bp_volume.proofs.batch.patches_for.Given as goal
 

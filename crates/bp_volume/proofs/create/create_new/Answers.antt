@@ -1,6 +1,6 @@
 use Rattle.std.proofs.Common.{◌∙◌, ap}
 use Rattle.std.proofs.lemmas.Result.{MatchResult-weaker, err_from_is_err_and, on_err_weaker}
-use Rattle.bp_calls.specs.Entrant.{entrant_of}
+use Rattle.bp_changes.specs.Entrant.{entrant_of}
 use Rattle.bp_calls.proofs.Refusals.{reports}
 use Rattle.bp_free.specs.declared.parts.Parts.{Parts}
 use Rattle.bp_layout.specs.Need.Change.{enters as change_of}

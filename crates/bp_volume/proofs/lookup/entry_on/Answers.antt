@@ -3,7 +3,7 @@ use Rattle.std.proofs.lemmas.Result.{err_from_is_err_and}
 use Rattle.bp_layout.specs.Directory.{slot_named}
 use Rattle.bp_plain.specs.Plain.{parent_of}
 use Rattle.pm_region.specs.Memory.{current_words}
-use Rattle.bp_volume.specs.Step.{last_of}
+use Rattle.bp_fs.specs.Step.{last_of}
 use Rattle.bp_volume.proofs.CreateLaws.{by_parent}
 use Rattle.bp_volume.proofs.WalkingLaws.{entry_ends, entry_found, ok_was, walk_reported}
 use Rattle.bp_volume.proofs.lookup.entry_on.Goals as goal

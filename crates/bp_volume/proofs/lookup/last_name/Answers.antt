@@ -3,7 +3,7 @@ use Rattle.std.proofs.lemmas.Result.{err_from_is_err_and}
 use Rattle.std.specs.Option.{is_some}
 use Rattle.bp_read.specs.Spots.{named_slot}
 use Rattle.bp_plain.specs.Plain.{parent_of}
-use Rattle.bp_volume.specs.Step.{last_of}
+use Rattle.bp_fs.specs.Step.{last_of}
 use Rattle.bp_volume.proofs.CreateLaws.{by_parent}
 use Rattle.bp_volume.proofs.WalkingLaws.{fault_reported, ok_was, parent_stops, name_is_new, name_is_there}
 use Rattle.bp_volume.proofs.lookup.last_name.Goals as goal

@@ -1,7 +1,7 @@
 use Rattle.std.proofs.Common.{sym}
 use Rattle.std.proofs.lemmas.Result.{err_from_is_err_and}
 use Rattle.bp_plain.specs.Plain.{parent_of}
-use Rattle.bp_volume.specs.Step.{last_of}
+use Rattle.bp_fs.specs.Step.{last_of}
 use Rattle.bp_volume.proofs.CreateLaws.{by_parent}
 use Rattle.bp_volume.proofs.TargetLaws.{parent_ends}
 use Rattle.bp_volume.proofs.WalkingLaws.{fault_reported, ok_was}

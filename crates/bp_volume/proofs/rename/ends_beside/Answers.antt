@@ -9,7 +9,7 @@ use Rattle.bp_layout.specs.Lookup.{lookup}
 use Rattle.bp_path.proofs.WalkLaws.{there, low_number, named_reached}
 use Rattle.bp_plain.specs.Calls.Refusal.{is_root}
 use Rattle.bp_plain.specs.Plain.{parent_of}
-use Rattle.bp_volume.specs.Step.{last_of}
+use Rattle.bp_fs.specs.Step.{last_of}
 use Rattle.bp_volume.proofs.CreateLaws.{by_parent}
 use Rattle.bp_volume.proofs.RenameLaws.{source_stops}
 use Rattle.bp_volume.proofs.TargetLaws.{directory_ends, name_found, name_missing, same_parent}

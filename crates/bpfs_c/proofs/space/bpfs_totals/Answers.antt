@@ -1,6 +1,6 @@
 use Rattle.std.proofs.Common.{rules, refl, subst}
 use Rattle.bp_roles.specs.Mounted.{served_words}
-use Rattle.bp_scan.specs.Totals.{HasTotals}
+use Rattle.bp_layout.specs.Totals.{HasTotals}
 use Rattle.bpfs_c.specs.Serves.Looked.{looked}
 use Rattle.bpfs_c.specs.declared.mounted.Mounted.{Mounted}
 use Rattle.bpfs_c.proofs.space.bpfs_totals.Goals as goal

@@ -1,10 +1,10 @@
 use Rattle.std.proofs.Common.{◌≡◌, ◌∙◌, Ok, arith, subst, sym, true}
 use Rattle.std.specs.Prelude.{Err}
-use Rattle.bp_calls.specs.Cleared.{IsNextToClear}
+use Rattle.bp_layout.specs.Clearing.{IsNextToClear}
 use Rattle.bp_layout.specs.Inode.{AreClear, AreClearBelow}
 use Rattle.bp_roles.specs.Mounted.{SameDurable}
 use Rattle.pm_region.specs.Safe.{IsSafe}
-use Rattle.bp_volume.specs.Called.{CanUpgrade}
+use Rattle.bp_fs.specs.Called.{CanUpgrade}
 use Rattle.bp_volume.proofs.ClearedLaws.{HasCleared, can_go_on, can_if_before, cleared_end, cleared_more, cleared_none, clears_none, goes_on}
 use Rattle.bp_volume.proofs.ViewLaws.{cached_safe, served_is}
 use Rattle.bp_volume.proofs.volume.Volume.clear_all.Goals as goal

@@ -1,11 +1,11 @@
 use Rattle.std.proofs.Common.{◌≡◌, true, arith, inl, inr, refl, subst}
-use Rattle.bp_calls.specs.Cleared.{IsNextToClear}
+use Rattle.bp_layout.specs.Clearing.{IsNextToClear}
 use Rattle.bp_layout.specs.Formatted.{version_of}
 use Rattle.bp_layout.specs.Inode.{AreClear}
 use Rattle.bp_limits.specs.CallLimits.{allows_attributes}
 use Rattle.bp_roles.specs.Seen.{seen}
 use Rattle.pm_region.specs.Memory.{current_words}
-use Rattle.bp_volume.specs.Called.{CanUpgrade}
+use Rattle.bp_fs.specs.Called.{CanUpgrade}
 use Rattle.bp_volume.proofs.ClearedLaws.{allows_if_not, can_if_before, step_refused}
 use Rattle.bp_volume.proofs.ViewLaws.{served_is}
 use Rattle.bp_volume.proofs.volume.Volume.clear_for_upgrade.Goals as goal

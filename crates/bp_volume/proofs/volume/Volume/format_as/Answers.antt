@@ -2,7 +2,7 @@ use Rattle.std.proofs.Common.{◌≤◌, ◌∙◌, Bool, ℕ, ap, arith, length
 use Rattle.std.proofs.lemmas.List.{length-replicate}
 use Rattle.bp_limits.specs.Limits.{call_room}
 use Rattle.bp_roles.specs.Seen.{MemoryByRoles}
-use Rattle.bp_volume.proofs.LaidLaws.{drained_format, length_laid}
+use Rattle.bp_mount.proofs.LaidLaws.{drained_format, length_laid}
 use Rattle.bp_volume.proofs.MountLaws.{format_capacity, format_empty, format_fresh, format_roles, format_safe, format_size, format_well_formed, format_wide}
 use Rattle.bp_volume.proofs.volume.Volume.format_as.Goals as goal
 

@@ -3,7 +3,7 @@ use Rattle.std.specs.Prelude.{IfErr, IfOk}
 use Rattle.bp_layout.specs.Words.{Image}
 use Rattle.bp_plain.specs.Seen.{refusal_of}
 use Rattle.bp_volume.specs.Queries.{StopsWalk}
-use Rattle.bp_volume.specs.Step.{PathFinds}
+use Rattle.bp_fs.specs.Step.{PathFinds}
 use Rattle.bp_volume.proofs.ViewLaws.{served_is}
 use Rattle.bp_volume.proofs.volume.Volume.look_inode.Goals as goal
 

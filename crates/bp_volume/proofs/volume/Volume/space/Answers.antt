@@ -1,6 +1,6 @@
 use Rattle.std.proofs.Common.{arith, subst, sym, ◌-◌}
 use Rattle.bp_layout.specs.Whole.{HasSpace}
-use Rattle.bp_scan.specs.Totals.{HasLive}
+use Rattle.bp_layout.specs.Totals.{HasLive}
 use Rattle.pm_region.specs.Memory.{current_words}
 use Rattle.bp_layout.specs.Words.{Image}
 use Rattle.bp_roles.specs.Seen.{seen}

@@ -1,6 +1,6 @@
 use Rattle.std.proofs.Common.{subst}
 use Rattle.bp_layout.specs.Words.{Image}
-use Rattle.bp_scan.specs.Totals.{HasTotals}
+use Rattle.bp_layout.specs.Totals.{HasTotals}
 use Rattle.bp_volume.proofs.ViewLaws.{cached_rescanned, served_is}
 use Rattle.bp_volume.proofs.volume.Volume.totals.Goals as goal
 

@@ -1,9 +1,9 @@
 use Rattle.std.proofs.Common.{rules}
 use Rattle.pm_region.specs.Memory.{Memory, Adds}
 use Rattle.bp_layout.specs.Words.{block_count}
-use Rattle.bp_volume.specs.Laid.{format_events}
-use Rattle.bp_volume.proofs.HalfFormat.{left_by_format}
-use Rattle.bp_volume.proofs.format_stores.lay_out.Goals as goal
+use Rattle.bp_mount.specs.Laid.{format_events}
+use Rattle.bp_mount.proofs.HalfFormat.{left_by_format}
+use Rattle.bp_mount.proofs.format_stores.lay_out.Goals as goal
 
 pub returns-clause-left : goal.returns-clause-left
 returns-clause-left g c image found =

@@ -12,13 +12,13 @@ use Rattle.bp_layout.specs.Whole.{SameFiles}
 use Rattle.bp_layout.specs.Words.{Image}
 use Rattle.bp_limits.specs.CallLimits.{allows_attributes}
 use Rattle.bp_limits.specs.Limits.{call_room}
-use Rattle.bp_calls.specs.Cleared.{IsNextToClear, cleared_inodes}
+use Rattle.bp_layout.specs.Clearing.{IsNextToClear, cleared_inodes}
 use Rattle.bp_plain.specs.Calls.{Call, Answer}
 use Rattle.bp_plain.specs.Calls.Call.{upgrade_to_three}
 use Rattle.bp_plain.specs.declared.errors.FsError.{FsError}
 use Rattle.bp_plain.specs.declared.errors.FsError.TheVariants.{HasSnap}
 use Rattle.bp_roles.specs.Mounted.{SameDurable, served_words}
-use Rattle.bp_volume.specs.FileCall.{FileCall}
+use Rattle.bp_fs.specs.FileCall.{FileCall}
 
 -- The image can be upgraded to version 3: its version is an earlier one, and it has no snapshot.
 pub record CanUpgrade (image : Image) : Type 0 where

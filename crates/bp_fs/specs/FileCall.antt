@@ -16,8 +16,8 @@ use Rattle.bp_layout.specs.Need.{Change}
 use Rattle.bp_layout.specs.Words.{Image}
 use Rattle.bp_changes.specs.Performs.{IsShort}
 use Rattle.bp_roles.specs.Mounted.{SameDurable, served_events, served_words}
-use Rattle.bp_volume.specs.Step.{Step, IsChange}
-use Rattle.bp_volume.specs.SuperEvents.{super_events}
+use Rattle.bp_fs.specs.Step.{Step, IsChange}
+use Rattle.bp_fs.specs.SuperEvents.{super_events}
 
 abbrev pub is_refused : Answer → Bool
 is_refused (refused why) = true

@@ -1,5 +1,5 @@
 -- The events of the calls that change only words of the superblock.
-use Rattle.std.specs.Prelude.{Option, None, Some, List, [], ◌∷◌, flat_map}
+use Rattle.std.specs.Prelude.{ℕ, Option, None, Some, List, [], ◌∷◌, ◌++◌, flat_map, map}
 use Rattle.pm_epochs.specs.declared.event.Event.{Event}
 use Rattle.pm_epochs.specs.declared.event.Event.TheVariants.{Barrier, Store}
 use Rattle.bp_layout.specs.Format.{to_three_epochs, upgrade_epochs}
@@ -7,7 +7,10 @@ use Rattle.bp_layout.specs.Words.{Image, word}
 use Rattle.bp_limits.specs.Limits.{super_root, super_snapshot_root, super_snapshot_size, super_size}
 use Rattle.bp_plain.specs.Calls.{Call}
 use Rattle.bp_plain.specs.Calls.Call.{snap, unsnap, upgrade, upgrade_to_three}
-use Rattle.bp_volume.specs.Laid.{stores_epoch}
+
+-- The events of some stores in an epoch of their own: the stores, and then a barrier.
+abbrev pub stores_epoch : List (ℕ × ℕ) → List Event
+stores_epoch stores = map (λ store. Store store.0 store.1) stores ++ Barrier ∷ []
 
 -- The events of an upgrade: 0 to the words that version 2 uses for the snapshot, and then the magic number of version
 -- 2.

@@ -16,8 +16,9 @@ use Rattle.bp_limits.specs.declared.version.Version.TheVariants.{One, Two, Three
 use Rattle.bp_plain.specs.PlainTree.{empty_tree}
 use Rattle.bp_plain.specs.Stands.{Stands}
 use Rattle.bp_plain.proofs.FormatStands.{format_stands}
-use Rattle.bp_volume.specs.Laid.{IsLeftByFormat, format_events, stores_epoch}
-use Rattle.bp_volume.specs.Laid.IsLeftByFormat.{untouched, no_magic, empty}
+use Rattle.bp_fs.specs.SuperEvents.{stores_epoch}
+use Rattle.bp_mount.specs.Laid.{IsLeftByFormat, format_events}
+use Rattle.bp_mount.specs.Laid.IsLeftByFormat.{untouched, no_magic, empty}
 
 -- a replay of some events keeps stores of some epochs and a mask
 replayed : (base : List ℕ) (events : List Event) (image : List ℕ) (found : IsReplay base events image) → words_after base (stores_of found.cut.epoch found.cut.mask events) ≡ image

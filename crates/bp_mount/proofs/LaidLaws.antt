@@ -6,7 +6,7 @@ use Rattle.pm_region.proofs.MemoryLaws.{length-current_words}
 use Rattle.bp_limits.specs.declared.version.Version.{Version}
 use Rattle.bp_limits.specs.declared.version.Version.TheVariants.{One, Two, Three}
 use Rattle.bp_layout.specs.Words.{block_count}
-use Rattle.bp_volume.specs.Laid.{format_events, formatted_memory}
+use Rattle.bp_mount.specs.Laid.{format_events, formatted_memory}
 
 -- after the stores of a format and a drain
 pub drained_format : (version : Version) (old new : Memory) → old.events ≡ [] → Adds old new (format_events version (block_count old.base)) → drained new ≡ formatted_memory version old

@@ -4,7 +4,7 @@ ghost use Rattle.std.specs.Prelude.{[], ◌*◌, ◌≡◌, ◌≤◌, length};
 ghost use Rattle.bp_layout.specs.Formatted.{IsSized};
 ghost use Rattle.bp_layout.specs.Words.{block_count};
 ghost use Rattle.bp_limits.specs.Limits.{block_words};
-ghost use Rattle.bp_volume.specs.Laid.{IsLeftByFormat, OfEachReplay, format_events};
+ghost use Rattle.bp_mount.specs.Laid.{IsLeftByFormat, OfEachReplay, format_events};
 ghost use Rattle.pm_region.specs.Memory.{Adds, room_in};
 
 use bp_limits::{

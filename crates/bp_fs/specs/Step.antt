@@ -20,7 +20,7 @@ use Rattle.bp_layout.specs.Need.Entrant.{linked}
 use Rattle.bp_layout.specs.Free.{HasFree, IsLeastFree}
 use Rattle.bp_layout.specs.Thaw.{full_need}
 use Rattle.bp_layout.specs.Trees.{AreInSnapshot}
-use Rattle.bp_calls.specs.Entrant.{entrant_of}
+use Rattle.bp_changes.specs.Entrant.{entrant_of}
 
 abbrev pub last_of : Path → Name
 last_of [] = []

@@ -1,7 +1,7 @@
 //! Where the words are stored that a fault names.
 
 ghost use Rattle.std.specs.Prelude.{◌≡◌};
-ghost use Rattle.bp_volume.specs.Faults.{stored_fault};
+ghost use Rattle.bp_mount.specs.Faults.{stored_fault};
 
 use bp_roles::Roles;
 use bp_scan::MountFault;

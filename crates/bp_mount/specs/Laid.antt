@@ -7,13 +7,10 @@ use Rattle.pm_region.specs.Memory.{Memory}
 use Rattle.bp_layout.specs.Format.{format_epochs, formatted}
 use Rattle.bp_plain.specs.PlainTree.{empty_tree}
 use Rattle.bp_plain.specs.Stands.{Stands}
+use Rattle.bp_fs.specs.SuperEvents.{stores_epoch}
 use Rattle.bp_limits.specs.Limits.{super_magic}
 use Rattle.bp_limits.specs.declared.version.Version.{Version}
 use Rattle.bp_layout.specs.Words.{Image, word, block_count}
-
--- The events of some stores in an epoch of their own: the stores, and then a barrier.
-abbrev pub stores_epoch : List (ℕ × ℕ) → List Event
-stores_epoch stores = map (λ store. Store store.0 store.1) stores ++ Barrier ∷ []
 
 abbrev pub format_events : Version → ℕ → List Event
 format_events version blocks = flat_map stores_epoch (format_epochs version blocks)

@@ -8,7 +8,7 @@ use Rattle.bp_layout.specs.Free.{HasFree}
 use Rattle.bp_layout.specs.Inode.{kind_of, size_of}
 use Rattle.bp_layout.specs.Reached.{IsReached}
 use Rattle.bp_layout.specs.Whole.{HasSpace}
-use Rattle.bp_scan.specs.declared.totals.Totals.{Totals}
+use Rattle.bp_layout.specs.declared.totals.Totals.{Totals}
 use Rattle.bp_layout.specs.Thaw.{none_in_snapshot}
 
 -- The inodes that are reachable from the root directory, including itself, in ascending order.

@@ -8,7 +8,7 @@ use Rattle.bp_layout.specs.Words.{Image}
 use Rattle.bp_layout.specs.Stores.{after_stores}
 use Rattle.bp_layout.specs.Format.{format_stores, formatted}
 use Rattle.bp_layout.proofs.LastValue.{AllWithinImage}
-use Rattle.bp_volume.specs.Laid.{format_events}
+use Rattle.bp_mount.specs.Laid.{format_events}
 
 -- stores in a prefix leave what stands after it
 after_stores-append : (prefix back : Image) (stores : List (ℕ × ℕ)) → AllWithinImage (length prefix) stores → after_stores (prefix ++ back) stores ≡ after_stores prefix stores ++ back

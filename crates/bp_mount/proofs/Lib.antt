@@ -1,0 +1,2 @@
+pub mod HalfFormat
+pub mod LaidLaws

@@ -82,6 +82,25 @@ impl Plain {
         }
     }
 
+    /// Returns a copy.
+    ///
+    /// # Errors
+    ///
+    /// - `AllocError`: out of memory.
+    pub fn copied(&self, alloc: Global) -> Result<Plain, AllocError>
+        ensures { IfOk result (λ copy. copy ≡ self.now) }
+    {
+        let snapshot = match self.snapshot() {
+            Some(map) => Some(map.copied(alloc)?),
+            None => None,
+        };
+        Ok(Plain {
+            version: self.version,
+            current: self.current.copied(alloc)?,
+            snapshot,
+        })
+    }
+
     /// Carries out a call and puts its answer into the reply. A read may ask for at most 65,536 bytes, a batch has 1
     /// to 16 pieces whose parts lie within its text, and the number of an attribute is at most 2.
     ///

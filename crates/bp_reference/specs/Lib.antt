@@ -1,0 +1,4 @@
+pub mod Trees
+pub mod ByTree
+pub mod TreeLaws
+pub mod State

@@ -1,5 +1,6 @@
 //! Arguments that the command refuses, and requests for help.
 
+use crate::same::same;
 use bp_command::{WordsFault, mistake_line, read_words};
 use std::alloc::Global;
 
@@ -57,7 +58,7 @@ const REFUSED: [(&[&str], &str); 12] = [
 #[test]
 fn refuses_words(rt: HostRuntime) {
     for (words, line) in &REFUSED {
-        assert_eq!(rt; reported(rt.alloc(), *words).as_deref(), Some(*line));
+        same(&rt, reported(rt.alloc(), *words).as_deref(), Some(*line));
     }
 }
 

@@ -3,6 +3,7 @@
 ghost use Rattle.std.specs.Prelude.{◌≡◌, ◌<◌, IfOk, length, true};
 ghost use Rattle.bp_samples.specs.Cores.{AreTwo};
 
+use crate::same::same;
 use pm_cores::{Cores, NotYet};
 use pm_region::{ListRegion, Region};
 use std::alloc::{AllocError, Global};
@@ -214,7 +215,11 @@ fn caches_of_two_cores(rt: HostRuntime) {
             assert!(rt; gives(*step, &region, &mut cores));
         }
         for (word, value) in *left {
-            assert_eq!(rt; word_of(&region, &cores, *word), Some(*value));
+            same(
+                &rt,
+                (*word, word_of(&region, &cores, *word)),
+                (*word, Some(*value)),
+            );
         }
     }
 }

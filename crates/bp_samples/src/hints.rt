@@ -9,6 +9,7 @@ ghost use Rattle.bp_cache.specs.Names.{known_of};
 ghost use Rattle.pm_region.specs.Memory.{current_words};
 
 use crate::images::{DEEP, EMPTY, laid, put};
+use crate::same::same;
 use bp_cache::Names;
 use bp_free::{Blocks, Counts, Inodes};
 use bp_layout::{Hints, NoHints};
@@ -99,12 +100,12 @@ fn a_second_walk_asks_two_hints_and_learns_nothing(rt: HostRuntime) {
     let region = deep(&rt, rt.alloc());
     let mut hints = nothing_known(&rt, rt.alloc());
     let path = parse(b"/d/f").expect(&rt, "it is a path");
-    assert_eq!(rt; walk_with(&region, &path, &mut hints), Ok(FILE));
-    assert_eq!(rt; (hints.asked, hints.learned), (2, 2));
-    assert_eq!(rt; walk_with(&region, &path, &mut hints), Ok(FILE));
-    assert_eq!(rt; (hints.asked, hints.learned), (4, 2));
-    assert_eq!(rt; walk_parent_with(&region, &path, &mut hints), Ok(2));
-    assert_eq!(rt; (hints.asked, hints.learned), (5, 2));
+    same(&rt, walk_with(&region, &path, &mut hints), Ok(FILE));
+    same(&rt, (hints.asked, hints.learned), (2, 2));
+    same(&rt, walk_with(&region, &path, &mut hints), Ok(FILE));
+    same(&rt, (hints.asked, hints.learned), (4, 2));
+    same(&rt, walk_parent_with(&region, &path, &mut hints), Ok(2));
+    same(&rt, (hints.asked, hints.learned), (5, 2));
 }
 
 /// A missing name, and a name below a file, for which no hint is asked.
@@ -113,31 +114,27 @@ fn what_is_not_found_is_not_learned(rt: HostRuntime) {
     let region = deep(&rt, rt.alloc());
     let mut hints = nothing_known(&rt, rt.alloc());
     let path = parse(b"/d/x").expect(&rt, "it is a path");
-    assert_eq!(rt;
-        walk_with(&region, &path, &mut hints),
-        Err(WalkFault::NotFound)
-    );
-    assert_eq!(rt; (hints.asked, hints.learned), (2, 1));
+    let answer = walk_with(&region, &path, &mut hints);
+    same(&rt, answer, Err(WalkFault::NotFound));
+    same(&rt, (hints.asked, hints.learned), (2, 1));
     let path = parse(b"/d/f/x").expect(&rt, "it is a path");
-    assert_eq!(rt;
-        walk_with(&region, &path, &mut hints),
-        Err(WalkFault::NotDir)
-    );
-    assert_eq!(rt; (hints.asked, hints.learned), (4, 2));
+    let answer = walk_with(&region, &path, &mut hints);
+    same(&rt, answer, Err(WalkFault::NotDir));
+    same(&rt, (hints.asked, hints.learned), (4, 2));
 }
 
 #[test]
 fn who_knows_nothing_is_led_by_the_directories(rt: HostRuntime) {
     let region = deep(&rt, rt.alloc());
     let path = parse(b"/d/f").expect(&rt, "it is a path");
-    assert_eq!(rt; walk(&region, &path), Ok(FILE));
-    assert_eq!(rt; walk_with(&region, &path, &mut NoHints), Ok(FILE));
+    same(&rt, walk(&region, &path), Ok(FILE));
+    same(&rt, walk_with(&region, &path, &mut NoHints), Ok(FILE));
 }
 
 /// Checks the remembered slots of names, each in a directory.
 fn remembers(rt: &impl Abort, names: &mut Names, wanted: &[(u32, &[u8], Option<u64>)]) {
     for (dir, name, slot) in wanted {
-        assert_eq!(rt; names.hint(*dir, *name), *slot, "{dir}");
+        same(rt, (*dir, names.hint(*dir, *name)), (*dir, *slot));
     }
 }
 

@@ -22,14 +22,14 @@ fn has_bytes(rt: &impl Abort, bytes: &[u8], wanted: &[(usize, u8)]) {
 #[test]
 fn disk_files_keep_blocks(rt: HostRuntime) {
     let mut files = DiskFiles::new(rt.alloc(), &rt).expect(&rt, "there is memory");
-    assert_eq!(rt; files.attach("disk.img", Access::Write), Ok(None));
-    assert_eq!(rt; files.attach("disk.img", Access::Make), Ok(Some(0)));
-    assert_eq!(rt; files.set_blocks(8), Ok(()));
+    same(&rt, files.attach("disk.img", Access::Write), Ok(None));
+    same(&rt, files.attach("disk.img", Access::Make), Ok(Some(0)));
+    same(&rt, files.set_blocks(8), Ok(()));
     let block = [77u8; 4096];
-    assert_eq!(rt; files.write_block(3, &block), Ok(()));
-    assert_eq!(rt; files.flush(), Ok(()));
+    same(&rt, files.write_block(3, &block), Ok(()));
+    same(&rt, files.flush(), Ok(()));
     let bytes = fs::read(&rt, "disk.img").expect(&rt, "it is there");
-    assert_eq!(rt; bytes.len(), 32_768);
+    same(&rt, bytes.len(), 32_768);
     let wanted = [(12_287, 0), (12_288, 77), (16_383, 77), (16_384, 0)];
     has_bytes(&rt, &bytes, &wanted);
     fs::remove_file(&rt, "disk.img").expect(&rt, "it is removed");
@@ -127,16 +127,18 @@ fn disk_files_are_read(rt: HostRuntime) {
 fn disk_files_change_at_the_flush(rt: HostRuntime) {
     fs::write(&rt, "whole.img", [5u8; 8192].as_slice()).expect(&rt, "it is written");
     let mut files = DiskFiles::new(rt.alloc(), &rt).expect(&rt, "there is memory");
-    assert_eq!(rt; files.attach("whole.img", Access::Make), Ok(Some(8192)));
-    assert_eq!(rt; files.set_blocks(3), Ok(()));
+    same(&rt, files.attach("whole.img", Access::Make), Ok(Some(8192)));
+    same(&rt, files.set_blocks(3), Ok(()));
     let block = [6u8; 4096];
-    assert_eq!(rt; files.write_block(1, &block), Ok(()));
-    assert_eq!(rt;
-        fs::read(&rt, "whole.img").expect(&rt, "it is there").len(),
-        8192
-    );
+    same(&rt, files.write_block(1, &block), Ok(()));
+    let before = fs::read(&rt, "whole.img").expect(&rt, "it is there");
+    same(&rt, before.len(), 8192);
     // It is flushed before it is detached.
-    assert_eq!(rt; files.attach("whole.img", Access::Read), Ok(Some(12_288)));
+    same(
+        &rt,
+        files.attach("whole.img", Access::Read),
+        Ok(Some(12_288)),
+    );
     let bytes = fs::read(&rt, "whole.img").expect(&rt, "it is there");
     has_bytes(&rt, &bytes, &[(4095, 5), (4096, 6), (8191, 6), (8192, 0)]);
     fs::remove_file(&rt, "whole.img").expect(&rt, "it is removed");
@@ -146,17 +148,19 @@ fn disk_files_change_at_the_flush(rt: HostRuntime) {
 fn disk_files_are_replaced(rt: HostRuntime) {
     fs::write(&rt, "front.img", [5u8; 12_288].as_slice()).expect(&rt, "it is written");
     let mut files = DiskFiles::new(rt.alloc(), &rt).expect(&rt, "there is memory");
-    assert_eq!(rt; files.attach("front.img", Access::Write), Ok(Some(12_288)));
-    let block = [6u8; 4096];
-    assert_eq!(rt; files.replace(&block, 8), Ok(()));
-    assert_eq!(rt; files.write_block(5, &block), Ok(()));
-    assert_eq!(rt;
-        fs::read(&rt, "front.img").expect(&rt, "it is there").len(),
-        12_288
+    same(
+        &rt,
+        files.attach("front.img", Access::Write),
+        Ok(Some(12_288)),
     );
-    assert_eq!(rt; files.flush(), Ok(()));
+    let block = [6u8; 4096];
+    same(&rt, files.replace(&block, 8), Ok(()));
+    same(&rt, files.write_block(5, &block), Ok(()));
+    let before = fs::read(&rt, "front.img").expect(&rt, "it is there");
+    same(&rt, before.len(), 12_288);
+    same(&rt, files.flush(), Ok(()));
     let bytes = fs::read(&rt, "front.img").expect(&rt, "it is there");
-    assert_eq!(rt; bytes.len(), 32_768);
+    same(&rt, bytes.len(), 32_768);
     let prefix = [(0, 6), (4095, 6), (4096, 0), (12_287, 0)];
     has_bytes(&rt, &bytes, &prefix);
     has_bytes(&rt, &bytes, &[(20_480, 6), (24_576, 0)]);
@@ -250,7 +254,7 @@ fn keeps_long<F: Files>(alloc: Global, files: &mut F) -> Result<bool, AllocError
 #[test]
 fn disk_files_keep_many_blocks(rt: HostRuntime) {
     let mut files = DiskFiles::new(rt.alloc(), &rt).expect(&rt, "there is memory");
-    assert_eq!(rt; make_long(&mut files), Ok(true));
+    same(&rt, make_long(&mut files), Ok(true));
     assert!(rt; is_long(&fs::read(&rt, "long.img").expect(&rt, "it is there")));
     drop(files);
     let mut again = DiskFiles::new(rt.alloc(), &rt).expect(&rt, "there is memory");
@@ -287,11 +291,11 @@ fn disk_files_miss_a_lost_block(rt: HostRuntime) {
 fn disk_files_keep_off_a_file_cut_short(rt: HostRuntime) {
     fs::write(&rt, "cut.img", [5u8; 8192].as_slice()).expect(&rt, "it is written");
     let mut files = DiskFiles::new(rt.alloc(), &rt).expect(&rt, "there is memory");
-    assert_eq!(rt; files.attach("cut.img", Access::Write), Ok(Some(8192)));
+    same(&rt, files.attach("cut.img", Access::Write), Ok(Some(8192)));
     fs::write(&rt, "cut.img", [6u8; 5000].as_slice()).expect(&rt, "it is written");
-    assert_eq!(rt; fill_block(&mut files, 0, 7), Err(Failed));
+    same(&rt, fill_block(&mut files, 0, 7), Err(Failed));
     let bytes = fs::read(&rt, "cut.img").expect(&rt, "it is there");
-    assert_eq!(rt; bytes.len(), 5000);
+    same(&rt, bytes.len(), 5000);
     has_bytes(&rt, &bytes, &[(0, 6), (4095, 6), (4999, 6)]);
     fs::remove_file(&rt, "cut.img").expect(&rt, "it is removed");
 }

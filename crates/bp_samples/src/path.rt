@@ -5,6 +5,7 @@ ghost use Rattle.bp_layout.specs.WellFormed.{IsWellFormed};
 ghost use Rattle.pm_region.specs.Memory.{current_words};
 
 use crate::images::{EMPTY, laid};
+use crate::same::same;
 use bp_layout::{Inode, Kind};
 use bp_path::{FoundEntry, WalkFault, parse, walk, walk_parent};
 use bp_read::directory::{count, find, free_slot, is_empty};
@@ -32,7 +33,7 @@ fn leads_to_the_root(rt: HostRuntime) {
         dir: 0,
         slot: 0,
     };
-    assert_eq!(rt; walk(&region, &path), Ok(root));
+    same(&rt, walk(&region, &path), Ok(root));
 }
 
 #[test]
@@ -40,11 +41,11 @@ fn finds_no_name(rt: HostRuntime) {
     let region = fresh(rt.alloc()).expect(&rt, "there is memory");
     let path = parse(b"/a/b.txt").expect(&rt, "it is a path");
     assert!(rt; !path.is_root());
-    assert_eq!(rt; walk(&region, &path), Err(WalkFault::NotFound));
-    assert_eq!(rt; walk_parent(&region, &path), Err(WalkFault::NotFound));
+    same(&rt, walk(&region, &path), Err(WalkFault::NotFound));
+    same(&rt, walk_parent(&region, &path), Err(WalkFault::NotFound));
     let path = parse(b"/a").expect(&rt, "it is a path");
-    assert_eq!(rt; walk_parent(&region, &path), Ok(1));
-    assert_eq!(rt; path.last(), b"a".as_slice());
+    same(&rt, walk_parent(&region, &path), Ok(1));
+    same(&rt, path.last(), b"a".as_slice());
 }
 
 #[test]
@@ -68,14 +69,14 @@ fn reads_an_empty_directory(rt: HostRuntime) -> Result<(), Fail> {
         root: 0,
         size: 0,
     };
-    assert_eq!(rt; inode, root);
+    same(&rt, inode, root);
     let tree = Tree {
         root: inode.root,
         size: inode.size,
     };
-    assert_eq!(rt; find(&region, tree, b"a"), None);
-    assert_eq!(rt; free_slot(&region, tree), None);
-    assert_eq!(rt; count(&region, tree), 0);
+    same(&rt, find(&region, tree, b"a"), None);
+    same(&rt, free_slot(&region, tree), None);
+    same(&rt, count(&region, tree), 0);
     assert!(rt; is_empty(&region, tree));
     Ok(())
 }
@@ -84,10 +85,10 @@ fn reads_an_empty_directory(rt: HostRuntime) -> Result<(), Fail> {
 fn reads_the_inode_file(rt: HostRuntime) -> Result<(), Fail> {
     let region = fresh(rt.alloc())?;
     let inodes = inode_file(&region);
-    assert_eq!(rt; place(&region, 1, 2), 522);
-    assert_eq!(rt; content_word(&region, inodes, 8), 2);
-    assert_eq!(rt; content_place(&region, inodes, 8), 520);
-    assert_eq!(rt; leaf_block(&region, inodes, 0), 1);
-    assert_eq!(rt; node(&region, inodes, 0, 0), 1);
+    same(&rt, place(&region, 1, 2), 522);
+    same(&rt, content_word(&region, inodes, 8), 2);
+    same(&rt, content_place(&region, inodes, 8), 520);
+    same(&rt, leaf_block(&region, inodes, 0), 1);
+    same(&rt, node(&region, inodes, 0, 0), 1);
     Ok(())
 }

@@ -1,5 +1,6 @@
 //! A log of two epochs, the words that a crash leaves of it, and both regions.
 
+use crate::same::same;
 use bp_second::Shown;
 use pm_epochs::{BadChoice, Choice, Event, EventKind, Kept, check_choice, kept_calls, replay_word};
 use pm_raw::RawRegion;
@@ -50,10 +51,11 @@ fn replays_of_two_epochs(rt: HostRuntime) {
             Some(words) => {
                 for word in 0..3u64 {
                     let value = replay_word(0, &TWO_EPOCHS, &choice, word).ok();
-                    assert_eq!(rt; value, Some(words[word as usize]), "{epoch} {word}");
+                    let wanted = Some(words[word as usize]);
+                    same(&rt, (*epoch, word, value), (*epoch, word, wanted));
                 }
             }
-            None => assert_eq!(rt; check_choice(&TWO_EPOCHS, &choice), Err(BadChoice)),
+            None => same(&rt, check_choice(&TWO_EPOCHS, &choice), Err(BadChoice)),
         }
     }
 }
@@ -68,9 +70,9 @@ fn calls_without_a_store_are_kept(rt: HostRuntime) {
         Event::CallEnd,
     ];
     let none = chosen(&rt, rt.alloc(), 0, 0, &[]);
-    assert_eq!(rt; kept_calls(&events, &none).ok(), Some(Kept { c: 1, n: 3 }));
+    same(&rt, kept_calls(&events, &none), Ok(Kept { c: 1, n: 3 }));
     let all = chosen(&rt, rt.alloc(), 5, 1, &[]);
-    assert_eq!(rt; kept_calls(&events, &all).ok(), Some(Kept { c: 3, n: 3 }));
+    same(&rt, kept_calls(&events, &all), Ok(Kept { c: 3, n: 3 }));
 }
 
 fn list(rt: &impl Abort, alloc: Global, words: u32, capacity: usize) -> ListRegion {
@@ -182,7 +184,7 @@ fn takes_steps<R: Region, A: Abort>(rt: &A, region: &mut R) {
     for (step, log, now, base) in &STEPS {
         take_step(region, *step);
         assert!(rt; has_log(region, *log));
-        assert_eq!(rt; Some(region.room()), 2usize.checked_sub(log.len()));
+        same(rt, Some(region.room()), 2usize.checked_sub(log.len()));
         assert!(rt; stands_at(region, now, base));
     }
 }
@@ -195,21 +197,21 @@ fn crash_leaves<R: Region, A: Abort>(
     left: Option<[u64; 3]>,
 ) {
     follow(region, &TWO_EPOCHS);
-    assert_eq!(rt; region.event_count(), 5);
+    same(rt, region.event_count(), 5);
     let answer = region.crash_to(choice);
     match left {
         Some(words) => {
-            assert_eq!(rt; answer, Ok(Kept { c: 0, n: 0 }));
-            assert_eq!(rt; region.event_count(), 0);
+            same(rt, answer, Ok(Kept { c: 0, n: 0 }));
+            same(rt, region.event_count(), 0);
             assert!(rt; region.words() == 3);
             for word in 0..3u64 {
-                assert_eq!(rt; region.load(word), words[word as usize]);
-                assert_eq!(rt; region.base_word(word), words[word as usize]);
+                let found = [region.load(word), region.base_word(word)];
+                same(rt, (word, found), (word, [words[word as usize]; 2]));
             }
         }
         None => {
-            assert_eq!(rt; answer, Err(BadChoice));
-            assert_eq!(rt; region.event_count(), 5);
+            same(rt, answer, Err(BadChoice));
+            same(rt, region.event_count(), 5);
         }
     }
 }
@@ -222,11 +224,10 @@ fn crash_keeps_what_was_written_back<R: Region, A: Abort>(rt: &A, region: &mut R
         Event::CallEnd,
     ];
     follow(region, &events);
-    assert_eq!(rt; region.crash_to(choice).ok(), Some(Kept { c: 0, n: 1 }));
-    assert_eq!(rt; region.event_count(), 0);
+    same(rt, region.crash_to(choice), Ok(Kept { c: 0, n: 1 }));
+    same(rt, region.event_count(), 0);
     assert!(rt; region.words() == 4);
-    assert_eq!(rt; region.load(0), 0);
-    assert_eq!(rt; region.load(1), 2);
+    same(rt, [region.load(0), region.load(1)], [0, 2]);
 }
 
 #[test]
@@ -271,13 +272,13 @@ fn a_second_tree_is_shown_first(rt: HostRuntime) {
     let mut shown = Shown::second(&region);
     assert!(rt; stands_at(&shown, &SECOND, &SECOND));
     assert!(rt; shown.words() == 10);
-    assert_eq!(rt; shown.load_words(8, 2), [8, 9].as_slice());
+    same(&rt, shown.load_words(8, 2), [8, 9].as_slice());
     let none = chosen(&rt, rt.alloc(), 0, 0, &[]);
-    assert_eq!(rt; shown.crash_to(&none).ok(), Some(Kept { c: 0, n: 0 }));
+    same(&rt, shown.crash_to(&none), Ok(Kept { c: 0, n: 0 }));
     shown.drain();
     assert!(rt; has_log(&shown, &[]));
     assert!(rt; stands_at(&shown, &SECOND, &SECOND));
-    assert_eq!(rt; shown.room(), 0);
+    same(&rt, shown.room(), 0);
     takes_event(&rt, &mut Shown::First(&mut region));
 }
 
@@ -343,12 +344,13 @@ fn has_words<R: Region>(machine: &Machine<'_, R>, words: &[u64; 3]) -> bool {
 fn stores_go_back_in_order(rt: HostRuntime) {
     let mut region = list(&rt, rt.alloc(), 3, 8);
     follow(&mut region, &TWO_EPOCHS);
-    assert_eq!(rt; region.event_count(), 5);
+    same(&rt, region.event_count(), 5);
     let mut backs = Backs::new(rt.alloc(), 8).expect(&rt, "there is memory");
     let mut machine = Machine::over(&region, &mut backs);
     execute_all(&mut machine);
     for (which, answer, words) in &WRITE_BACKS {
-        assert_eq!(rt; write_back(&mut machine, *which), Some(*answer));
+        let found = write_back(&mut machine, *which);
+        same(&rt, (*which, found), (*which, Some(*answer)));
         assert!(rt; has_words(&machine, words), "{which}");
     }
 }

@@ -3,10 +3,10 @@
 ghost use Rattle.std.specs.Prelude.{◌*◌, ◌≡◌, length, vec_len};
 ghost use Rattle.bp_limits.specs.Limits.{block_words, min_blocks};
 
-use crate::images::{EMPTY, SECOND, TWO_ENTRIES, TWO_NAMES, laid, put};
+use crate::images::{EMPTY, SECOND, Stores, TWO_ENTRIES, TWO_NAMES, laid, put};
+use crate::same::same;
 use bp_free::{Blocks, Counts, Inodes};
-use bp_layout::Check;
-use bp_layout::Totals;
+use bp_layout::{Check, Totals};
 use bp_scan::{MountFault, Pending, scan_whole};
 use pm_region::ListRegion;
 use std::alloc::Global;
@@ -147,57 +147,45 @@ fn scanned(rt: &impl Abort, alloc: Global, words: Vec<u64>) -> Found
     )
 }
 
+/// Checks the result of a scan of the base image with stores on top of it.
+fn scans_to(rt: &impl Abort, alloc: Global, stores: Stores<'_>, wanted: Found) {
+    let mut words = base(rt, alloc);
+    put(&mut words, stores);
+    same(rt, scanned(rt, alloc, words), wanted);
+}
+
 #[test]
 fn an_image_is_scanned(rt: HostRuntime) {
-    let words = base(&rt, rt.alloc());
-    assert_eq!(rt; scanned(&rt, rt.alloc(), words), BASE);
-    let mut words = base(&rt, rt.alloc());
-    put(&mut words, &[SECOND]);
-    assert_eq!(rt; scanned(&rt, rt.alloc(), words), BASE);
-    let mut words = base(&rt, rt.alloc());
-    put(&mut words, &[(0, 0)]);
-    assert_eq!(rt;
-        scanned(&rt, rt.alloc(), words),
-        refused(MountFault::NotFormatted)
-    );
+    scans_to(&rt, rt.alloc(), &[], BASE);
+    scans_to(&rt, rt.alloc(), &[SECOND], BASE);
+    let unformatted = refused(MountFault::NotFormatted);
+    scans_to(&rt, rt.alloc(), &[(0, 0)], unformatted);
 }
 
 /// Both entries name inode 2, so inode 3 is free.
 #[test]
 fn a_file_has_two_names(rt: HostRuntime) {
-    let mut words = base(&rt, rt.alloc());
-    put(&mut words, &[(1056, 2)]);
     let totals = Totals { files: 1, ..TOTALS };
-    assert_eq!(rt;
-        scanned(&rt, rt.alloc(), words),
-        (Ok(totals), (5, 61, 0), [0, 2, 0])
-    );
+    let wanted = (Ok(totals), (5, 61, 0), [0, 2, 0]);
+    scans_to(&rt, rt.alloc(), &[(1056, 2)], wanted);
 }
 
 /// Block 2 is in both trees, and block 3 only in the second; without the magic number of version 2 there is one tree.
 #[test]
 fn both_trees_are_scanned(rt: HostRuntime) {
-    let mut words = base(&rt, rt.alloc());
-    put(&mut words, &SNAPSHOT);
     let totals = Totals { live: 3, ..TOTALS };
-    assert_eq!(rt;
-        scanned(&rt, rt.alloc(), words),
-        (Ok(totals), (4, 60, 2), [0, 1, 1])
-    );
-    let mut words = base(&rt, rt.alloc());
-    put(&mut words, &SNAPSHOT[1..]);
-    assert_eq!(rt; scanned(&rt, rt.alloc(), words), BASE);
+    let wanted = (Ok(totals), (4, 60, 2), [0, 1, 1]);
+    scans_to(&rt, rt.alloc(), &SNAPSHOT, wanted);
+    scans_to(&rt, rt.alloc(), &SNAPSHOT[1..], BASE);
 }
 
 #[test]
 fn each_check_fails_at_its_word(rt: HostRuntime) {
     for (stores, check, place) in &DAMAGES {
-        let mut words = base(&rt, rt.alloc());
-        put(&mut words, *stores);
         let fault = MountFault::Damaged {
             check: *check,
             place: *place,
         };
-        assert_eq!(rt; scanned(&rt, rt.alloc(), words), refused(fault));
+        scans_to(&rt, rt.alloc(), *stores, refused(fault));
     }
 }

@@ -6,6 +6,7 @@ ghost use Rattle.bp_limits.specs.Limits.{block_words, max_blocks};
 ghost use Rattle.pm_region.specs.Memory.{current_words};
 
 use crate::images::{Start, laid, leaf};
+use crate::same::same;
 use bp_limits::MAX_NAME;
 use bp_read::Tree;
 use bp_read::directory::entry;
@@ -60,16 +61,10 @@ fn names_that_differ(rt: HostRuntime) -> Result<(), Fail> {
         ((1, 0x61), (2, 0x61_61)),
         ((3, 0x2e_2e2e), (8, 0x6161_6161_6161_6161)),
     ] {
-        assert_eq!(rt;
-            checked(rt.alloc(), first, second)?,
-            Ok(()),
-            "{first:?} {second:?}"
-        );
-        assert_eq!(rt;
-            checked_by_order(rt.alloc(), first, second)?,
-            Ok(()),
-            "{first:?} {second:?}"
-        );
+        let answer = checked(rt.alloc(), first, second)?;
+        same(&rt, (first, second, answer), (first, second, Ok(())));
+        let answer = checked_by_order(rt.alloc(), first, second)?;
+        same(&rt, (first, second, answer), (first, second, Ok(())));
     }
     Ok(())
 }
@@ -96,7 +91,8 @@ fn names_of_a_wrong_form(rt: HostRuntime) -> Result<(), Fail> {
         (2, 0x61_2e2e),
     ] {
         let answer = checked(rt.alloc(), (1, 0x61), wrong)?;
-        assert_eq!(rt; answer, Err(NameFault::Form { place: 1569 }), "{wrong:?}");
+        let fault = NameFault::Form { place: 1569 };
+        same(&rt, (wrong, answer), (wrong, Err(fault)));
     }
     Ok(())
 }
@@ -105,9 +101,9 @@ fn names_of_a_wrong_form(rt: HostRuntime) -> Result<(), Fail> {
 fn an_entry_is_read(rt: HostRuntime) -> Result<(), Fail> {
     let region = sample(rt.alloc(), (2, 0x6261), (1, 0x7863))?;
     let second = entry(&region, TREE, 1).expect(&rt, "its block is there");
-    assert_eq!(rt; second.ino(), 3);
-    assert_eq!(rt; second.name_len(), 1);
+    same(&rt, second.ino(), 3);
+    same(&rt, second.name_len(), 1);
     let mut name = [0; MAX_NAME];
-    assert_eq!(rt; second.read_name(&mut name), b"c".as_slice());
+    same(&rt, second.read_name(&mut name), b"c".as_slice());
     Ok(())
 }

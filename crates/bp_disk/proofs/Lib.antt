@@ -1,0 +1,4 @@
+pub mod CompleteLaws
+pub mod CopyLaws
+pub mod CrashLaws
+pub mod SaveLaws

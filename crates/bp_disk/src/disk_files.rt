@@ -2,12 +2,16 @@
 
 ghost use Rattle.std.specs.Prelude.{◌≡◌, ◌/◌, List, ℕ, IfOk, None, true, false, is_some, if◌then◌else◌};
 ghost use Rattle.bp_io.specs.Files.{makes, may_change};
+ghost use Rattle.bp_disk.specs.Calls.{number_of};
+ghost use Rattle.bp_disk.specs.Saves.{IsRight};
 ghost use Rattle.bp_limits.specs.Limits.{block_size};
 
 use crate::exclusive_open::open;
+use crate::host::Host;
+use crate::names::Names;
 use crate::save::Saver;
+use crate::system::System;
 use crate::system_faults::SystemFaults;
-use crate::temp_file::Names;
 use bp_io::{Access, BLOCK, Failed, Files};
 use bp_limits::BLOCK_SIZE;
 use std::alloc::{AllocError, Global};
@@ -79,13 +83,13 @@ use std::{io, rt};
 /// the file, except in place, where a part of it may.
 pub struct DiskFiles<R: rt::Files<File = File> + Drop> {
     alloc: Global,
-    runtime: R,
+    pub(crate) system: Host<R>,
     file: Option<File>,
     blocks: u64,
     may_write: bool,
     is_flushed: bool,
     faults: SystemFaults,
-    saver: Saver,
+    pub(crate) saver: Saver,
 }
 
 impl<R: rt::Files<File = File> + Drop> DiskFiles<R> {
@@ -103,7 +107,7 @@ impl<R: rt::Files<File = File> + Drop> DiskFiles<R> {
     {
         Ok(DiskFiles {
             alloc,
-            runtime,
+            system: Host::new(runtime),
             file: None,
             blocks: 0,
             may_write: false,
@@ -126,14 +130,16 @@ impl<R: rt::Files<File = File> + Drop> DiskFiles<R> {
         ensures flushed { makes access ≡ false → self.new.is_flushed ≡ self.old.is_flushed }
         ensures flushed_before { self.new.is_flushed ≡ true → self.old.is_flushed ≡ true }
         ensures faults { self.new.faults.count ≡ self.old.faults.count }
+        ensures right { IsRight (number_of file) self.new.saver.way self.new.saver.waiting self.new.system.list.calls }
     {
         // A file whose names cannot be determined is written in place.
         let names = if access.may_change() {
-            Names::of(self.alloc, &self.runtime, name).ok()
+            Names::of(self.alloc, &self.system, name).ok()
         } else {
             None
         };
         self.saver.restart(names, length);
+        self.system.attach(&file);
         self.file = Some(file);
         self.blocks = length / BLOCK_SIZE;
         self.may_write = access.may_change();
@@ -147,7 +153,7 @@ impl<R: rt::Files<File = File> + Drop> Drop for DiskFiles<R> {
     fn drop(self) {
         let DiskFiles {
             alloc: _,
-            runtime,
+            mut system,
             file: _file,
             blocks: _,
             may_write: _,
@@ -156,7 +162,7 @@ impl<R: rt::Files<File = File> + Drop> Drop for DiskFiles<R> {
             mut saver,
         } = self;
         // Its lock is released after that.
-        saver.remove_second(&runtime);
+        saver.remove_second(&mut system);
     }
 }
 
@@ -181,15 +187,16 @@ impl<R: rt::Files<File = File> + Drop> Files for DiskFiles<R> {
     } };
 
     fn attach(&mut self, name: &str, access: Access) -> Result<Option<u64>, Failed> {
-        let left = self.saver.leave(&self.runtime, &mut self.file);
+        let left = self.saver.leave(&mut self.system, &mut self.file);
         self.faults.or_fault(left)?;
-        match open(&self.runtime, name, access) {
+        match open(&self.system, name, access) {
             Ok((file, length)) => {
                 self.take(name, access, file, length);
                 Ok(Some(length))
             }
             Err(e) => {
-                self.saver.stay(&self.runtime, &self.file, self.may_write);
+                self.saver
+                    .stay(&mut self.system, &self.file, self.may_write);
                 if !access.makes() && e.kind() == ErrorKind::NotFound {
                     return Ok(None);
                 }
@@ -204,14 +211,14 @@ impl<R: rt::Files<File = File> + Drop> Files for DiskFiles<R> {
             return Ok(());
         };
         let at = BLOCK_SIZE * u64::from(first);
-        let done = self.saver.read(&self.runtime, file, into, at);
+        let done = self.saver.read(&mut self.system, file, into, at);
         self.faults.or_fault(done)
     }
 
     fn write_block(&mut self, i: u32, from: &[u8; BLOCK]) -> Result<(), Failed> {
         self.is_flushed = false;
         let file = attached(&self.file);
-        let done = self.saver.write_block(&self.runtime, file, i, from);
+        let done = self.saver.write_block(&mut self.system, file, i, from);
         self.faults.or_fault(done)
     }
 
@@ -219,7 +226,7 @@ impl<R: rt::Files<File = File> + Drop> Files for DiskFiles<R> {
         self.is_flushed = false;
         let file = attached(&self.file);
         let at = BLOCK_SIZE * u64::from(first);
-        let done = self.saver.write_blocks(&self.runtime, file, from, at);
+        let done = self.saver.write_blocks(&mut self.system, file, from, at);
         self.faults.or_fault(done)
     }
 
@@ -227,7 +234,7 @@ impl<R: rt::Files<File = File> + Drop> Files for DiskFiles<R> {
         self.is_flushed = false;
         let file = attached(&self.file);
         let length = BLOCK_SIZE * u64::from(n);
-        let done = self.saver.set_len(&self.runtime, file, length);
+        let done = self.saver.set_len(&mut self.system, file, length);
         self.faults.or_fault(done)?;
         self.blocks = u64::from(n);
         Ok(())
@@ -237,14 +244,14 @@ impl<R: rt::Files<File = File> + Drop> Files for DiskFiles<R> {
         self.is_flushed = false;
         let file = attached(&self.file);
         let length = BLOCK_SIZE * u64::from(n);
-        let done = self.saver.replace(&self.runtime, file, prefix, length);
+        let done = self.saver.replace(&mut self.system, file, prefix, length);
         self.faults.or_fault(done)?;
         self.blocks = u64::from(n);
         Ok(())
     }
 
     fn flush(&mut self) -> Result<(), Failed> {
-        let done = self.saver.flush(&self.runtime, &mut self.file);
+        let done = self.saver.flush(&mut self.system, &mut self.file);
         self.faults.or_fault(done)?;
         self.is_flushed = true;
         Ok(())

@@ -1,5 +1,7 @@
 //! Opens a file on the disk, for one process at a time.
 
+use crate::host::Host;
+use crate::system::System;
 use bp_io::Access;
 use std::fs::{File, Metadata, OpenOptions, TryLockError};
 use std::io::ErrorKind;
@@ -54,12 +56,8 @@ pub(crate) fn lock(file: &File, access: Access) -> io::Result<()> {
 }
 
 /// Returns whether a name leads to this file.
-pub(crate) fn leads_to<R: rt::Files<File = File>>(
-    runtime: &R,
-    name: &str,
-    file: &File,
-) -> io::Result<bool> {
-    let found = match fs::metadata(runtime, name) {
+pub(crate) fn leads_to<S: System>(system: &S, name: &str, file: &File) -> io::Result<bool> {
+    let found = match system.stat(name) {
         Err(e) if e.kind() == ErrorKind::NotFound => return Ok(false),
         found => found?,
     };
@@ -72,18 +70,15 @@ pub(crate) fn leads_to<R: rt::Files<File = File>>(
 /// # Errors
 ///
 /// The name leads to another file or to none, or the system returned an error.
-pub(crate) fn check_name<R: rt::Files<File = File>>(
-    runtime: &R,
-    name: &str,
-    file: &File,
-) -> io::Result<()> {
-    if leads_to(runtime, name, file)? {
+pub(crate) fn check_name<S: System>(system: &S, name: &str, file: &File) -> io::Result<()> {
+    if leads_to(system, name, file)? {
         return Ok(());
     }
-    let message = if fs::exists(runtime, name)? {
-        "not saved: it was replaced by another file meanwhile"
-    } else {
-        "not saved: it was renamed or removed meanwhile"
+    let message = match system.stat(name) {
+        Ok(_) => "not saved: it was replaced by another file meanwhile",
+        Err(e) if e.kind() == ErrorKind::NotFound =>
+            "not saved: it was renamed or removed meanwhile",
+        Err(e) => return Err(e),
     };
     Err(io::Error::new(ErrorKind::Other, message))
 }
@@ -130,15 +125,15 @@ fn open_once<R: rt::Files<File = File>>(
 /// # Errors
 ///
 /// `in_use`: another process has the file. Otherwise an error of the system.
-pub(crate) fn open<R: rt::Files<File = File>>(
-    runtime: &R,
+pub(crate) fn open<R: rt::Files<File = File> + Drop>(
+    host: &Host<R>,
     name: &str,
     access: Access,
 ) -> io::Result<(File, u64)> {
     for _tries in 0..TRIES {
-        let file = open_once(runtime, name, access)?;
+        let file = open_once(&host.runtime, name, access)?;
         lock(&file, access)?;
-        if leads_to(runtime, name, &file)? {
+        if leads_to(host, name, &file)? {
             let length = file.metadata()?.len();
             return Ok((file, length));
         }

@@ -5,8 +5,13 @@
 mod disk_files;
 mod exclusive_open;
 mod held_blocks;
+mod host;
+pub mod laws;
+mod names;
+mod record;
 mod save;
 mod std_streams;
+mod system;
 mod system_faults;
 mod temp_file;
 mod window;

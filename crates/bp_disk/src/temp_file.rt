@@ -1,26 +1,23 @@
 //! A second file, which takes the place of the first once it is complete.
 
-ghost use Rattle.std.specs.Prelude.{◌<◌, ◌≤◌, ◌+◌, ◌^◌, length};
+ghost use Rattle.bp_disk.specs.Calls.{number_of};
+ghost use Rattle.bp_disk.specs.Disk.{ChangesNone, ChangesOnly, Cuts, HasOnlyBytes, IsCopied, IsNamed, IsOther, Settles, Spares, TakesPlace, Writes, led};
+ghost use Rattle.bp_disk.specs.Held.{IsZeros, Notes};
+ghost use Rattle.bp_disk.specs.Second.{CompletesStates, IsCompleted};
+ghost use Rattle.bp_limits.specs.Limits.{block_size, max_file_blocks};
+ghost use Rattle.std.specs.Int.{div_ceil};
+ghost use Rattle.std.specs.Prelude.{◌≡◌, ◌<◌, ◌≤◌, ◌+◌, ◌*◌, ◌/◌, ◌^◌, ◌↔◌, IfOk, IsTrue, OnErr, OnOk, length, min, take};
 
-use crate::exclusive_open::{check_length, check_name, in_use, lock};
+use crate::exclusive_open::{check_length, lock};
 use crate::held_blocks::{Held, HeldBlocks, TRACKED_BYTES};
+use crate::names::Names;
+use crate::system::System;
 use crate::window::Window;
 use bp_io::Access;
-use std::alloc::Global;
-use std::fs::{File, Metadata, OpenOptions, TryLockError};
+use std::fs::{File, Metadata};
+use std::io;
 use std::io::ErrorKind;
-use std::os::unix::fs::{FileExt, MetadataExt, OpenOptionsExt, fchown};
-use std::path::PathBuf;
-use std::{fs, io, rt};
-
-/// The ending of the name of a second file, after the name of the first.
-const ENDING: &str = "bpfs-sync";
-
-/// The ending of the name that the first file gets while the second one takes its place.
-const OLD_ENDING: &str = "bpfs-sync-old";
-
-/// The permissions of a second file until it has those of the first: its owner may read and write it.
-const PRIVATE: u32 = 0o600;
+use std::os::unix::fs::{MetadataExt, fchown};
 
 /// The number of bytes that the system counts as one block of a file's room.
 const ROOM_UNIT: u64 = 512;
@@ -28,158 +25,19 @@ const ROOM_UNIT: u64 = 512;
 /// The number of bytes that are copied at once.
 const PIECE: usize = 65_536;
 
-/// The names of a file and of its second file, and the name that a file has between the first name and the second,
-/// with all symbolic links resolved.
-#[derive(Drop)]
-pub(crate) struct Names {
-    file: PathBuf,
-    second: PathBuf,
-    old: PathBuf,
-}
-
-impl Names {
-    pub(crate) fn of<R: rt::Files<File = File>>(
-        alloc: Global,
-        runtime: &R,
-        name: &str,
-    ) -> io::Result<Self> {
-        let file = runtime.canonicalize(alloc, name)?;
-        let second = file.with_added_extension(alloc, ENDING)?;
-        let old = file.with_added_extension(alloc, OLD_ENDING)?;
-        Ok(Names { file, second, old })
-    }
-
-    /// Checks that the first name still leads to this file.
-    pub(crate) fn check<R: rt::Files<File = File>>(
-        &self,
-        runtime: &R,
-        first: &File,
-    ) -> io::Result<()> {
-        check_name(runtime, self.file.as_str(), first)
-    }
-
-    /// Removes the second file, if possible.
-    pub(crate) fn remove_second<R: rt::Files<File = File>>(&self, runtime: &R) {
-        let _ = fs::remove_file(runtime, &self.second);
-    }
-
-    /// Removes the second name from a file, if the file has it.
-    pub(crate) fn take_from<R: rt::Files<File = File>>(&self, runtime: &R, file: &File) {
-        if matches!(is_name_of(runtime, self.second.as_str(), file), Ok(true)) {
-            self.remove_second(runtime);
-        }
-    }
-
-    /// Returns whether a file has the second name, and no other one.
-    fn is_second<R: rt::Files<File = File>>(&self, runtime: &R, file: &File) -> io::Result<bool> {
-        Ok(file.metadata()?.nlink() == 1 && is_name_of(runtime, self.second.as_str(), file)?)
-    }
-
-    /// Lets a file wait if it has the second name and no other one. Otherwise it loses that name.
-    pub(crate) fn let_wait<R: rt::Files<File = File>>(
-        &self,
-        runtime: &R,
-        file: File,
-    ) -> Option<Waiting> {
-        match (self.is_second(runtime, &file), Stamp::of(&file)) {
-            (Ok(true), Ok(stamp)) => Some(Waiting { file, stamp }),
-            _ => {
-                self.take_from(runtime, &file);
-                None
-            }
-        }
-    }
-
-    /// Returns the waiting file if it still has the second name and no other one, and was not changed in any way.
-    /// Otherwise it loses that name.
-    pub(crate) fn if_unchanged<R: rt::Files<File = File>>(
-        &self,
-        runtime: &R,
-        waiting: Waiting,
-    ) -> Option<File> {
-        let Waiting { file, stamp } = waiting;
-        match (self.is_second(runtime, &file), Stamp::of(&file)) {
-            (Ok(true), Ok(now)) if now == stamp => Some(file),
-            _ => {
-                self.take_from(runtime, &file);
-                None
-            }
-        }
-    }
-
-    /// Removes the intermediate name if a killed process left it. It may be one more name of the first file, which is
-    /// already locked.
-    fn remove_old<R: rt::Files<File = File>>(&self, runtime: &R, first: &File) {
-        let old = self.old.as_str();
-        let _ = match is_name_of(runtime, old, first) {
-            Ok(true) => fs::remove_file(runtime, old),
-            Ok(false) | Err(_) => remove_leftover(runtime, old),
-        };
-    }
-
-    /// Gives the second file the name of the first, and the first that of the second, if the file system allows two
-    /// names of one file. The name of the first leads to one of them at any time.
-    ///
-    /// # Errors
-    ///
-    /// The names lead where they did before.
-    fn exchange<R: rt::Files<File = File>>(&self, runtime: &R) -> io::Result<()> {
-        let is_kept = fs::hard_link(runtime, &self.file, &self.old).is_ok();
-        let renamed = fs::rename(runtime, &self.second, &self.file);
-        if is_kept && (renamed.is_err() || fs::rename(runtime, &self.old, &self.second).is_err()) {
-            let _ = fs::remove_file(runtime, &self.old);
-        }
-        renamed
-    }
-}
-
-/// The length of a file, and when it was last written or otherwise changed. An equal stamp shows that nobody changed
-/// it since.
-#[derive(Clone, Copy, PartialEq, Eq)]
-struct Stamp {
-    length: u64,
-    modified: (i64, i64),
-    changed: (i64, i64),
-}
-
-impl Stamp {
-    fn of(file: &File) -> io::Result<Self> {
-        let metadata = file.metadata()?;
-        Ok(Stamp {
-            length: metadata.len(),
-            modified: (metadata.mtime(), metadata.mtime_nsec()),
-            changed: (metadata.ctime(), metadata.ctime_nsec()),
-        })
-    }
-}
-
-/// The file that the last flush replaced. It waits under the second name to be the next second file.
-#[derive(Drop)]
-pub(crate) struct Waiting {
-    file: File,
-    stamp: Stamp,
-}
-
-impl Waiting {
-    /// Removes the second name from the file.
-    pub(crate) fn remove<R: rt::Files<File = File>>(&self, runtime: &R, names: &Names) {
-        names.take_from(runtime, &self.file);
-    }
-}
-
 /// A second file of a first one. The state of its blocks is in `HeldBlocks`; the bytes past the blocks whose state is
 /// recorded are final.
 #[derive(Drop)]
 pub(crate) struct TempFile {
-    file: File,
-    folder: File,
+    pub(crate) file: File,
+    pub(crate) folder: File,
     /// The number of bytes of the first file that stay, except those that were written.
-    kept: u64,
+    pub(crate) kept: u64,
     /// The length that the file will have.
-    length: u64,
+    pub(crate) length: u64,
     /// Whether zeros of the first file are left out: this file was newly made, so that it has zeros there by its
     /// length, and the first file has holes as well.
-    has_holes: bool,
+    pub(crate) has_holes: bool,
 }
 
 /// Returns whether an error says that there is no room on the disk.
@@ -201,40 +59,6 @@ pub(crate) fn has_room(file: &File, length: u64) -> io::Result<bool> {
     Ok(length <= metadata.len() && is_full(&metadata))
 }
 
-/// Returns whether this is a name of a file, and no symbolic link to it.
-fn is_name_of<R: rt::Files<File = File>>(runtime: &R, name: &str, file: &File) -> io::Result<bool> {
-    let found = fs::symlink_metadata(runtime, name)?;
-    let own = file.metadata()?;
-    Ok(found.dev() == own.dev() && found.ino() == own.ino())
-}
-
-/// Removes what a killed process left. A name that is no regular file, or whose file is locked or cannot be, was left
-/// by no process.
-fn remove_leftover<R: rt::Files<File = File>>(runtime: &R, name: &str) -> io::Result<()> {
-    if !fs::symlink_metadata(runtime, name)?.is_file() {
-        return Err(ErrorKind::AlreadyExists.into());
-    }
-    let leftover = OpenOptions::new()
-        .read(true)
-        .write(true)
-        .open(runtime, name)?;
-    match leftover.try_lock() {
-        Ok(()) => fs::remove_file(runtime, name),
-        Err(TryLockError::WouldBlock) => Err(in_use()),
-        Err(TryLockError::Error(e)) => Err(e),
-    }
-}
-
-/// Makes a file under a name that does not exist.
-fn make_new<R: rt::Files<File = File>>(runtime: &R, name: &str) -> io::Result<File> {
-    OpenOptions::new()
-        .read(true)
-        .write(true)
-        .create_new(true)
-        .mode(PRIVATE)
-        .open(runtime, name)
-}
-
 /// Gives a file the owner, the group and the permissions of another one on the same file system.
 fn take_after(file: &File, first: &Metadata) -> io::Result<()> {
     let own = file.metadata()?;
@@ -247,46 +71,76 @@ fn take_after(file: &File, first: &Metadata) -> io::Result<()> {
     file.set_permissions(first.permissions())
 }
 
-/// Returns whether a piece has only the bytes of a hole, if there are holes.
-fn is_hole(piece: &[u8], hole: Option<&[u8; PIECE]>) -> bool
-    requires { length piece.now ≤ 65536 }
+/// Returns whether a piece has only zeros.
+fn is_zeros(piece: &[u8]) -> bool
+    ensures { IsTrue result ↔ IsZeros piece.now }
 {
-    match hole {
-        Some(zeros) => piece == &zeros[..piece.len()],
-        None => false,
-    }
+    piece.iter().all(|byte| *byte == 0)
 }
 
-/// Copies the bytes from `start` up to `end` from a file to the same place in another one, through a buffer. Pieces
-/// that have only the bytes of a hole are left out.
-fn copy_bytes(
+/// Copies a piece of a file, from byte `at` on, to the same place in another one, through a buffer of its length. If
+/// the other one has a hole there, zeros are left out.
+fn copy_piece<S: System>(
+    system: &mut S,
+    from: &File,
+    to: &File,
+    at: u64,
+    piece: &mut [u8],
+    has_hole: bool,
+) -> io::Result<()>
+    ensures named { (led (S.calls system.new)).second ≡ (led (S.calls system.old)).second }
+    ensures changes { ChangesOnly (number_of to.now) (S.calls system.old) (S.calls system.new) }
+    ensures copied { OnOk result (IsCopied has_hole (number_of from.now) (number_of to.now) at (at + length piece.old)
+        (S.calls system.old) (S.calls system.new)) }
+{
+    system.read(from, piece, at)?;
+    if has_hole && is_zeros(piece) {
+        return Ok(());
+    }
+    system.write(to, piece, at)
+}
+
+/// Copies the bytes from `start` up to `end` from a file to the same place in another one, through a buffer. If the
+/// other one has holes, pieces that have only zeros are left out.
+fn copy_bytes<S: System>(
+    system: &mut S,
     from: &File,
     to: &File,
     start: u64,
     end: u64,
     piece: &mut [u8; PIECE],
-    hole: Option<&[u8; PIECE]>,
-) -> io::Result<()> {
+    has_holes: bool,
+) -> io::Result<()>
+    ensures named { (led (S.calls system.new)).second ≡ (led (S.calls system.old)).second }
+    ensures changes { ChangesOnly (number_of to.now) (S.calls system.old) (S.calls system.new) }
+    ensures copied { OnOk result (IsCopied has_holes (number_of from.now) (number_of to.now) start end
+        (S.calls system.old) (S.calls system.new)) }
+{
     let mut at = start;
     while at < end {
         let count = (end - at).min(PIECE as u64);
-        let bytes = &mut piece[..count as usize];
-        from.read_exact_at(bytes, at)?;
-        if !is_hole(bytes, hole) {
-            to.write_all_at(bytes, at)?;
-        }
+        copy_piece(
+            system,
+            from,
+            to,
+            at,
+            &mut piece[..count as usize],
+            has_holes,
+        )?;
         at += count;
     }
     Ok(())
 }
 
 /// Writes zeros from byte `start` up to `end`.
-fn write_zeros(file: &File, start: u64, end: u64) -> io::Result<()> {
+fn write_zeros<S: System>(system: &mut S, file: &File, start: u64, end: u64) -> io::Result<()>
+    ensures { ChangesOnly (number_of file.now) (S.calls system.old) (S.calls system.new) }
+{
     let piece = [0u8; PIECE];
     let mut at = start;
     while at < end {
         let count = (end - at).min(PIECE as u64);
-        file.write_all_at(&piece[..count as usize], at)?;
+        system.write(file, &piece[..count as usize], at)?;
         at += count;
     }
     Ok(())
@@ -294,44 +148,59 @@ fn write_zeros(file: &File, start: u64, end: u64) -> io::Result<()> {
 
 /// Replaces a file by these bytes in place, and zeros after them up to its new length. The file frees no room on the
 /// disk that it still needs, and never has a third length.
-pub(crate) fn fill_in_place(file: &File, prefix: &[u8], length: u64) -> io::Result<()> {
+pub(crate) fn fill_in_place<S: System>(
+    system: &mut S,
+    file: &File,
+    prefix: &[u8],
+    length: u64,
+) -> io::Result<()>
+    ensures { ChangesOnly (number_of file.now) (S.calls system.old) (S.calls system.new) }
+{
     let had = file.metadata()?.len();
-    file.set_len(length)?;
-    file.write_all_at(prefix, 0)?;
-    write_zeros(file, prefix.len() as u64, had.min(length))
-}
-
-/// Makes a file of this name, in place of one that a killed process left.
-fn make_second<R: rt::Files<File = File>>(runtime: &R, name: &str) -> io::Result<File> {
-    match make_new(runtime, name) {
-        Err(e) if e.kind() == ErrorKind::AlreadyExists => {
-            remove_leftover(runtime, name)?;
-            make_new(runtime, name)
-        }
-        made => made,
-    }
+    system.set_len(file, length)?;
+    system.write(file, prefix, 0)?;
+    write_zeros(system, file, prefix.len() as u64, had.min(length))
 }
 
 /// Locks a file, and makes it like the first one except for the blocks whose state is recorded.
-fn prepare(file: &File, first: &File, metadata: &Metadata) -> io::Result<()> {
+fn prepare<S: System>(
+    system: &mut S,
+    file: &File,
+    first: &File,
+    metadata: &Metadata,
+) -> io::Result<()>
+    ensures changes { ChangesOnly (number_of file.now) (S.calls system.old) (S.calls system.new) }
+    ensures named { (led (S.calls system.new)).second ≡ (led (S.calls system.old)).second }
+{
     lock(file, Access::Write)?;
     take_after(file, metadata)?;
-    file.set_len(metadata.len())?;
+    system.set_len(file, metadata.len())?;
     copy_bytes(
+        system,
         first,
         file,
         TRACKED_BYTES,
         metadata.len(),
         &mut [0; PIECE],
-        None,
+        false,
     )
 }
 
-/// Opens the directory of a file, so that it can be flushed.
-fn open_folder<R: rt::Files<File = File>>(runtime: &R, file: &PathBuf) -> io::Result<File> {
-    match file.parent() {
-        Some(folder) => File::open(runtime, folder),
-        None => Err(ErrorKind::InvalidFilename.into()),
+/// Returns the file that waits under the second name, or a new one.
+fn take_or_make<S: System>(
+    system: &mut S,
+    names: &Names,
+    first: &File,
+    waiting: Option<File>,
+) -> io::Result<File>
+    ensures spares { Spares (number_of first.now) (S.calls system.old) (S.calls system.new) }
+    ensures other { IsOther (number_of first.now) waiting → IfOk result (λ second. ¬ (number_of second ≡ number_of first.now)) }
+    ensures named { IsNamed (S.calls system.old) waiting → IfOk result (λ second.
+        (led (S.calls system.new)).second ≡ number_of second) }
+{
+    match waiting {
+        Some(file) => Ok(file),
+        None => Ok(names.make_second(system, first)?),
     }
 }
 
@@ -343,43 +212,50 @@ impl TempFile {
     ///
     /// `in_use`: another process has a file of that name. Otherwise no such file can take the place of the first. No
     /// second file is left.
-    pub(crate) fn new<R: rt::Files<File = File>>(
-        runtime: &R,
+    pub(crate) fn new<S: System>(
+        system: &mut S,
         names: &Names,
         first: &File,
         waiting: Option<File>,
         held: &mut HeldBlocks,
-    ) -> io::Result<Self> {
+    ) -> io::Result<Self>
+        ensures spares { IsOther (number_of first.now) waiting → Spares (number_of first.now) (S.calls system.old) (S.calls system.new) }
+        ensures other { IsOther (number_of first.now) waiting → IfOk result (λ second. ¬ (number_of second.file ≡ number_of first.now)) }
+        ensures named { IsNamed (S.calls system.old) waiting → IfOk result (λ second.
+            (led (S.calls system.new)).second ≡ number_of second.file) }
+    {
         if waiting.is_none() {
             held.clear();
         }
         let waits = waiting.is_some();
-        let made = Self::make(runtime, names, first, waiting);
+        let made = Self::make(system, names, first, waiting);
         if waits && made.is_err() {
-            names.remove_second(runtime);
+            names.remove_second(system);
         }
         made
     }
 
-    fn make<R: rt::Files<File = File>>(
-        runtime: &R,
+    fn make<S: System>(
+        system: &mut S,
         names: &Names,
         first: &File,
         waiting: Option<File>,
-    ) -> io::Result<Self> {
-        names.remove_old(runtime, first);
+    ) -> io::Result<Self>
+        ensures spares { IsOther (number_of first.now) waiting → Spares (number_of first.now) (S.calls system.old) (S.calls system.new) }
+        ensures other { IsOther (number_of first.now) waiting → IfOk result (λ second. ¬ (number_of second.file ≡ number_of first.now)) }
+        ensures named { IsNamed (S.calls system.old) waiting → IfOk result (λ second.
+            (led (S.calls system.new)).second ≡ number_of second.file) }
+    {
+        names.remove_old(system, first);
         let metadata = first.metadata()?;
         if metadata.nlink() > 1 {
             return Err(ErrorKind::TooManyLinks.into());
         }
-        let folder = open_folder(runtime, &names.file)?;
+        let folder = names.open_folder(system)?;
         let has_holes = waiting.is_none() && !is_full(&metadata);
-        let file = match waiting {
-            Some(file) => file,
-            None => make_second(runtime, names.second.as_str())?,
-        };
-        if let Err(e) = prepare(&file, first, &metadata) {
-            names.remove_second(runtime);
+        let file = take_or_make(system, names, first, waiting)?;
+        if let Err(e) = prepare(system, &file, first, &metadata) {
+            names.remove_second(system);
             return Err(e);
         }
         Ok(TempFile {
@@ -392,29 +268,73 @@ impl TempFile {
     }
 
     /// Writes these bytes from a byte on.
-    pub(crate) fn write(&self, held: &mut HeldBlocks, from: &[u8], at: u64) -> io::Result<()>
+    pub(crate) fn write<S: System>(
+        &self,
+        system: &mut S,
+        held: &mut HeldBlocks,
+        from: &[u8],
+        at: u64,
+    ) -> io::Result<()>
         requires { at + length from.now < 2 ^ 64 }
+        ensures changes { ChangesOnly (number_of self.now.file) (S.calls system.old) (S.calls system.new) }
+        ensures named { (led (S.calls system.new)).second ≡ (led (S.calls system.old)).second }
+        ensures written { OnOk result (Writes (number_of self.now.file) at from.now (S.calls system.old) (S.calls system.new)) }
+        ensures held { OnOk result (Notes (at / block_size) (div_ceil (at + length from.now) block_size) Held.Written
+            held.old.blocks.items held.new.blocks.items) }
+        ensures failed { OnErr result (held.new ≡ held.old) }
     {
-        self.file.write_all_at(from, at)?;
+        system.write(&self.file, from, at)?;
         held.set_written(at, from.len() as u64);
         Ok(())
     }
 
     /// Writes the blocks that wait.
-    pub(crate) fn take(&self, held: &mut HeldBlocks, window: &mut Window) -> io::Result<()> {
-        self.write(held, window.bytes(), window.start())?;
+    pub(crate) fn take<S: System>(
+        &self,
+        system: &mut S,
+        held: &mut HeldBlocks,
+        window: &mut Window,
+    ) -> io::Result<()>
+        ensures changes { ChangesOnly (number_of self.now.file) (S.calls system.old) (S.calls system.new) }
+        ensures named { (led (S.calls system.new)).second ≡ (led (S.calls system.old)).second }
+        ensures written { OnOk result (Writes (number_of self.now.file) (block_size * window.old.first)
+            (take (block_size * window.old.count) window.old.bytes.items) (S.calls system.old) (S.calls system.new)) }
+        ensures held { OnOk result (Notes window.old.first (window.old.first + window.old.count) Held.Written
+            held.old.blocks.items held.new.blocks.items) }
+        ensures empty { OnOk result (window.new.count ≡ 0) }
+        ensures failed { OnErr result (held.new ≡ held.old) }
+    {
+        self.write(system, held, window.bytes(), window.start())?;
         window.clear();
         Ok(())
     }
 
     /// Copies all bytes of the first file that this one lacks. If the first file has holes, so does this one.
-    pub(crate) fn complete(&self, held: &mut HeldBlocks, first: &File) -> io::Result<()> {
-        let (mut piece, zeros) = ([0; PIECE], [0; PIECE]);
-        let hole = if self.has_holes { Some(&zeros) } else { None };
+    pub(crate) fn complete<S: System>(
+        &self,
+        system: &mut S,
+        held: &mut HeldBlocks,
+        first: &File,
+    ) -> io::Result<()>
+        ensures changes { ChangesOnly (number_of self.now.file) (S.calls system.old) (S.calls system.new) }
+        ensures named { (led (S.calls system.new)).second ≡ (led (S.calls system.old)).second }
+        ensures completed { OnOk result (IsCompleted self.now.has_holes held.old.blocks.items self.now.kept
+            (number_of first.now) (number_of self.now.file) (S.calls system.old) (S.calls system.new)) }
+        ensures held { OnOk result (CompletesStates max_file_blocks held.old.blocks.items held.new.blocks.items) }
+    {
+        let mut piece = [0; PIECE];
         let mut at = 0;
         while let Some(run) = held.run_of(at, Held::Lacking) {
-            let end = run.end.min(self.kept);
-            copy_bytes(first, &self.file, run.start, end, &mut piece, hole)?;
+            let end = run.end().min(self.kept);
+            copy_bytes(
+                system,
+                first,
+                &self.file,
+                run.start(),
+                end,
+                &mut piece,
+                self.has_holes,
+            )?;
             held.set_same(run);
             at = run.next;
         }
@@ -422,8 +342,22 @@ impl TempFile {
     }
 
     /// Sets the length: the file is truncated, or padded with zeros.
-    pub(crate) fn set_len(&mut self, held: &mut HeldBlocks, length: u64) -> io::Result<()> {
-        self.file.set_len(length)?;
+    pub(crate) fn set_len<S: System>(
+        &mut self,
+        system: &mut S,
+        held: &mut HeldBlocks,
+        length: u64,
+    ) -> io::Result<()>
+        ensures changes { ChangesOnly (number_of self.old.file) (S.calls system.old) (S.calls system.new) }
+        ensures named { (led (S.calls system.new)).second ≡ (led (S.calls system.old)).second }
+        ensures file { self.new.file ≡ self.old.file }
+        ensures cut { OnOk result (Cuts (number_of self.old.file) length (S.calls system.old) (S.calls system.new)) }
+        ensures held { OnOk result (Notes (div_ceil (min self.old.length length) block_size) max_file_blocks Held.Zeros
+            held.old.blocks.items held.new.blocks.items) }
+        ensures size { OnOk result (self.new.length ≡ length) }
+        ensures kept { OnOk result (self.new.kept ≡ min self.old.kept length) }
+    {
+        system.set_len(&self.file, length)?;
         held.set_zeros_after(self.length.min(length));
         self.kept = self.kept.min(length);
         self.length = length;
@@ -432,24 +366,35 @@ impl TempFile {
 
     /// Replaces the contents by these bytes, and zeros after them up to the new length. Nothing of the first file
     /// stays.
-    pub(crate) fn replace(
+    pub(crate) fn replace<S: System>(
         &mut self,
+        system: &mut S,
         held: &mut HeldBlocks,
         prefix: &[u8],
         length: u64,
-    ) -> io::Result<()> {
+    ) -> io::Result<()>
+        ensures changes { ChangesOnly (number_of self.old.file) (S.calls system.old) (S.calls system.new) }
+        ensures named { (led (S.calls system.new)).second ≡ (led (S.calls system.old)).second }
+        ensures file { self.new.file ≡ self.old.file }
+        ensures bytes { OnOk result (HasOnlyBytes (number_of self.old.file) prefix.now (S.calls system.new)) }
+        ensures size { OnOk result (self.new.length ≡ length) }
+        ensures kept { OnOk result (self.new.kept ≡ 0) }
+    {
         // Zeros by the length alone take no time, and on most file systems no room.
-        self.file.set_len(0)?;
-        self.file.set_len(length)?;
+        system.set_len(&self.file, 0)?;
+        system.set_len(&self.file, length)?;
         held.set_zeros_after(0);
         self.kept = 0;
         self.length = length;
-        self.write(held, prefix, 0)
+        self.write(system, held, prefix, 0)
     }
 
     /// Reads from the file, which must be complete.
-    pub(crate) fn read(&self, into: &mut [u8], at: u64) -> io::Result<()> {
-        self.file.read_exact_at(into, at)
+    pub(crate) fn read<S: System>(&self, system: &mut S, into: &mut [u8], at: u64) -> io::Result<()>
+        ensures changes { ChangesNone (S.calls system.old) (S.calls system.new) }
+        ensures named { (led (S.calls system.new)).second ≡ (led (S.calls system.old)).second }
+    {
+        system.read(&self.file, into, at)
     }
 
     /// Returns whether its bytes fit into the first file without more room on the disk.
@@ -458,29 +403,53 @@ impl TempFile {
     }
 
     /// Copies the blocks that were written to the first file.
-    fn copy_written(&self, held: &HeldBlocks, first: &File) -> io::Result<()> {
+    fn copy_written<S: System>(
+        &self,
+        system: &mut S,
+        held: &HeldBlocks,
+        first: &File,
+    ) -> io::Result<()>
+        ensures { ChangesOnly (number_of first.now) (S.calls system.old) (S.calls system.new) }
+    {
         let mut piece = [0; PIECE];
         let mut at = 0;
         while let Some(run) = held.run_of(at, Held::Written) {
-            let end = run.end.min(self.length);
-            copy_bytes(&self.file, first, run.start, end, &mut piece, None)?;
+            let end = run.end().min(self.length);
+            copy_bytes(
+                system,
+                &self.file,
+                first,
+                run.start(),
+                end,
+                &mut piece,
+                false,
+            )?;
             at = run.next;
         }
         copy_bytes(
+            system,
             &self.file,
             first,
             TRACKED_BYTES,
             self.length,
             &mut piece,
-            None,
+            false,
         )
     }
 
     /// Writes zeros to the first file where this one has them by its length alone, up to a byte.
-    fn copy_zeros(&self, held: &HeldBlocks, first: &File, end: u64) -> io::Result<()> {
+    fn copy_zeros<S: System>(
+        &self,
+        system: &mut S,
+        held: &HeldBlocks,
+        first: &File,
+        end: u64,
+    ) -> io::Result<()>
+        ensures { ChangesOnly (number_of first.now) (S.calls system.old) (S.calls system.new) }
+    {
         let mut at = 0;
         while let Some(run) = held.run_of(at, Held::Zeros) {
-            write_zeros(first, run.start, run.end.min(end))?;
+            write_zeros(system, first, run.start(), run.end().min(end))?;
             at = run.next;
         }
         Ok(())
@@ -488,11 +457,18 @@ impl TempFile {
 
     /// Writes the contents of this file to the first one, in place. The first file frees no room on the disk that it
     /// still needs, and never has a third length.
-    pub(crate) fn write_to(&self, held: &HeldBlocks, first: &File) -> io::Result<()> {
+    pub(crate) fn write_to<S: System>(
+        &self,
+        system: &mut S,
+        held: &HeldBlocks,
+        first: &File,
+    ) -> io::Result<()>
+        ensures { ChangesOnly (number_of first.now) (S.calls system.old) (S.calls system.new) }
+    {
         let had = first.metadata()?.len();
-        first.set_len(self.length)?;
-        self.copy_written(held, first)?;
-        self.copy_zeros(held, first, had.min(self.length))
+        system.set_len(first, self.length)?;
+        self.copy_written(system, held, first)?;
+        self.copy_zeros(system, held, first, had.min(self.length))
     }
 
     /// Flushes the file, and gives it the name of the first, which must still have that name and this length. The
@@ -501,42 +477,47 @@ impl TempFile {
     /// # Errors
     ///
     /// The name leads where it did before.
-    pub(crate) fn take_place<R: rt::Files<File = File>>(
+    pub(crate) fn take_place<S: System>(
         &self,
-        runtime: &R,
+        system: &mut S,
         names: &Names,
         first: &File,
         first_length: u64,
-    ) -> io::Result<()> {
-        self.file.sync_all()?;
-        names.check(runtime, first)?;
+    ) -> io::Result<()>
+        ensures taken { OnOk result ((led (S.calls system.old)).second ≡ number_of self.now.file →
+            TakesPlace (number_of self.now.file) (S.calls system.old) (S.calls system.new)) }
+        ensures failed { OnErr result (ChangesOnly (number_of self.now.file) (S.calls system.old) (S.calls system.new)) }
+    {
+        system.flush(&self.file)?;
+        names.check(system, first)?;
         check_length(first, first_length)?;
-        names.exchange(runtime)
+        names.exchange(system)?;
+        Ok(())
     }
 
     /// Flushes the new name, as far as the file system supports this. If it does not, the name may still lead to the
     /// first file after a power failure. That file must not be written again, so it is removed.
-    pub(crate) fn settle<R: rt::Files<File = File>>(
-        &self,
-        runtime: &R,
-        names: &Names,
-    ) -> io::Result<()> {
-        match self.folder.sync_all() {
-            Err(e) if matches!(e.kind(), ErrorKind::InvalidInput | ErrorKind::Unsupported) => {
-                names.remove_second(runtime);
-                Ok(())
-            }
-            done => done,
+    pub(crate) fn settle<S: System>(&self, system: &mut S, names: &Names) -> io::Result<()>
+        ensures done { OnOk result (Settles (S.calls system.old) (S.calls system.new)) }
+        ensures failed { OnErr result (ChangesNone (S.calls system.old) (S.calls system.new)) }
+    {
+        if !system.flush_names(&self.folder)? {
+            names.remove_second(system);
         }
+        Ok(())
     }
 
     /// Returns the length that the file will have.
-    pub(crate) fn length(&self) -> u64 {
+    pub(crate) fn length(&self) -> u64
+        ensures { result ≡ self.now.length }
+    {
         self.length
     }
 
     /// Returns the file itself.
-    pub(crate) fn into_file(self) -> File {
+    pub(crate) fn into_file(self) -> File
+        ensures { result ≡ self.file }
+    {
         self.file
     }
 }

@@ -17,7 +17,7 @@ _bpfs() {
     local command=${COMP_WORDS[1]} options=--help offered
     COMPREPLY=()
     if [ "$COMP_CWORD" -eq 1 ]; then
-        offered='format run check play export help --help'
+        offered='format run check play export help --help --version'
     else
         # Bash splits `--version=1` at its equals sign.
         if [ "$before" = = ]; then

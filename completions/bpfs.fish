@@ -8,6 +8,7 @@ complete -c bpfs -n __fish_use_subcommand -a play -d 'Run pseudo-random calls an
 complete -c bpfs -n __fish_use_subcommand -a export -d 'Print a script that recreates all files of FILE'
 complete -c bpfs -n __fish_use_subcommand -a help -d 'Print help'
 complete -c bpfs -s h -l help -f -d 'Print help'
+complete -c bpfs -n __fish_use_subcommand -s V -l version -f -d 'Print the version of the program'
 
 complete -c bpfs -n '__fish_seen_subcommand_from format' -l blocks -x -a '8 64 256 1024 4096 16384 65536' \
     -d 'Size in blocks of 4 KiB, 8 to 65536'

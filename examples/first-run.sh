@@ -135,6 +135,8 @@ leave_unproved() {
        $program format my.img --blocks 256 --version 2
        $program run my.img < $top/examples/first.bpfs
        $program check my.img
+       $program run my.img      # with lines that you type; the line \`help\` lists them
+       $program --help
 END
 }
 

@@ -61,4 +61,5 @@ for word in run export 'play --seed 1 --count 1'; do
 done
 
 python3 "$examples/run_blocks.py" "$program" || failed=1
+python3 "$examples/terminal.py" "$program" || failed=1
 exit $failed

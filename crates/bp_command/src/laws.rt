@@ -1,6 +1,6 @@
 //! Properties of command lines. Each is the contract of a function that does nothing.
 
-ghost use Rattle.std.specs.Prelude.{◌≡◌, List, ℕ};
+ghost use Rattle.std.specs.Prelude.{◌≡◌, ◌∷◌, [], List, codes, ℕ};
 ghost use Rattle.bp_command.specs.Commands.{IsTaken};
 ghost use Rattle.bp_command.specs.Programs.{Asks, IsNamed, Program, Requests};
 
@@ -20,4 +20,10 @@ pub fn taken_words_have_values()
 pub fn words_ask_for_one_program()
     ensures { (words : List (List ℕ)) (program other : Program) → Requests words program → Requests words other →
         other ≡ program }
+{}
+
+/// Proves that a request for the version of the program is no command, so a program may answer it by itself.
+pub fn version_flags_are_no_command()
+    ensures long { (called : List ℕ) → ¬ IsTaken (called ∷ codes "--version" ∷ []) }
+    ensures short { (called : List ℕ) → ¬ IsTaken (called ∷ codes "-V" ∷ []) }
 {}

@@ -8,6 +8,50 @@ use clap::builder::ValueParser;
 use clap::{Arg, Command, value_parser};
 use std::alloc::{AllocError, Global};
 
+/// The end of the help of the program.
+const EXAMPLES: &str = "\
+Examples:
+  bpfs format disk.img --blocks 64 --version 2
+  bpfs run disk.img < script
+
+On a terminal, the lines of `bpfs run FILE` can be typed; its line `help` lists them all.
+`bpfs --version` prints the version of the program.
+Script lines, replies and exit statuses: man bpfs, or docs/script.md";
+
+/// The end of the help of a format.
+const FORMAT_EXAMPLES: &str = "\
+Examples:
+  bpfs format disk.img --blocks 64 --version 2
+  bpfs format large.img --blocks 65536 --version 3
+
+On a terminal, a file that has bytes and is not an image is erased only after a question.";
+
+/// The end of the help of a run.
+const RUN_EXAMPLES: &str = "\
+Examples:
+  bpfs run disk.img < script
+  echo 'list /' | bpfs run disk.img
+
+On a terminal, the lines can be typed; `help` lists them all, and Ctrl-D ends the run.";
+
+/// The end of the help of a check.
+const CHECK_EXAMPLES: &str = "\
+Examples:
+  bpfs check disk.img
+  bpfs check disk.img > totals || echo 'not an image'";
+
+/// The end of the help of a play.
+const PLAY_EXAMPLES: &str = "\
+Examples:
+  bpfs play disk.img --seed 1 --count 1000
+  bpfs play disk.img --seed 1 --count 0";
+
+/// The end of the help of an export.
+const EXPORT_EXAMPLES: &str = "\
+Examples:
+  bpfs export disk.img > script
+  bpfs export disk.img | bpfs run large.img";
+
 /// Defines the file that a program works on. Its name is not empty.
 fn file<'a>(alloc: Global) -> Arg<'a>
     ensures { IsArgument file_rule result }
@@ -71,6 +115,7 @@ fn format_command<'a>(alloc: Global) -> Result<Command<'a>, AllocError>
 {
     Command::new(alloc, "format")
         .about("Make FILE an empty file system, erasing what it held")
+        .after_help(FORMAT_EXAMPLES)
         .arg(file(alloc))?
         .arg(blocks(alloc))?
         .arg(version(alloc))
@@ -81,6 +126,7 @@ fn run_command<'a>(alloc: Global) -> Result<Command<'a>, AllocError>
 {
     Command::new(alloc, "run")
         .about("Run the script on standard input against FILE, one reply a line")
+        .after_help(RUN_EXAMPLES)
         .arg(file(alloc))
 }
 
@@ -89,6 +135,7 @@ fn check_command<'a>(alloc: Global) -> Result<Command<'a>, AllocError>
 {
     Command::new(alloc, "check")
         .about("Verify FILE (read-only) and print its totals")
+        .after_help(CHECK_EXAMPLES)
         .arg(file(alloc))
 }
 
@@ -97,6 +144,7 @@ fn play_command<'a>(alloc: Global) -> Result<Command<'a>, AllocError>
 {
     Command::new(alloc, "play")
         .about("Run pseudo-random calls and power cuts over FILE, without changing it")
+        .after_help(PLAY_EXAMPLES)
         .arg(file(alloc))?
         .arg(seed(alloc))?
         .arg(count(alloc))
@@ -107,6 +155,7 @@ fn export_command<'a>(alloc: Global) -> Result<Command<'a>, AllocError>
 {
     Command::new(alloc, "export")
         .about("Print a script that recreates all files of FILE")
+        .after_help(EXPORT_EXAMPLES)
         .arg(file(alloc))
 }
 
@@ -117,7 +166,7 @@ fn bare<'a>(alloc: Global) -> Command<'a>
         .about(
             "A crash-safe file system for byte-addressable persistent memory, over an image file",
         )
-        .after_help("Script lines, replies and exit statuses: man bpfs, or docs/script.md")
+        .after_help(EXAMPLES)
         .subcommand_required(true)
 }
 

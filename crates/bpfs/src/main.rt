@@ -5,15 +5,25 @@
 //! * `bpfs check FILE` checks whether FILE is a file system, and prints its totals.
 //! * `bpfs play FILE --seed S --count C` prints the outcome of C operations.
 //! * `bpfs export FILE` writes the script that makes its tree.
+//! * `bpfs --version` prints the version of the program.
+//!
+//! At a terminal, a run shows a prompt before each line, and a format asks before it erases a file that is no image.
 #![tactic(auto)]
 
-ghost use Rattle.std.specs.Prelude.{◌≡◌, IfOk, map, string_bytes};
+ghost use Rattle.bp_command.specs.Commands.{IsTaken};
+ghost use Rattle.bpfs.specs.Asking.{AsksForProgramVersion, IsVersionFlag};
+ghost use Rattle.std.specs.Prelude.{◌≡◌, ◌↔◌, IfOk, IsTrue, map, string_bytes};
 
+mod asking;
 mod reasons;
 mod streams;
+mod typing;
 
+use crate::asking::kept_file;
 use crate::reasons::{Reason, report_reason, report_unreported, report_usage};
 use crate::streams::{leads_to, output_file, take_streams};
+use crate::typing::{Prompts, Typed};
+use bp_command::laws::version_flags_are_no_command;
 use bp_command::{Program, WordsFault, read_words};
 use bp_disk::{DiskFiles, StdSink, StdSource};
 use bp_shell::{Status, run};
@@ -22,9 +32,12 @@ use pm_raw::RawRegion;
 use std::alloc::{AllocError, Global};
 use std::env::{self, Env};
 use std::fs::File;
-use std::io::ErrorKind;
+use std::io::{ErrorKind, IsTerminal};
 use std::process::ExitCode;
 use std::{io, rt};
+
+/// The version of the program, which is that of the file `VERSION`.
+const VERSION: &str = "0.1.0";
 
 /// Borrows the arguments as text.
 fn texts(alloc: Global, words: &[String]) -> Result<Vec<&str>, AllocError>
@@ -150,6 +163,79 @@ fn out_of_memory<E: Eprint>(runtime: &E) -> ExitCode {
     refuse(runtime, Status::Memory, Reason::Memory)
 }
 
+/// Returns whether an argument asks for the version of the program.
+fn is_version_flag(word: &str) -> bool
+    ensures { IsTrue result ↔ IsVersionFlag word.now }
+{
+    matches!(word, "--version" | "-V")
+}
+
+/// Returns whether the arguments ask for the version of the program, and for nothing else.
+fn asks_for_version(texts: &[&str]) -> bool
+    ensures asks { IsTrue result ↔ AsksForProgramVersion (map (λ text. text.now) texts.now) }
+    // So nothing that is a command is answered by the version.
+    ensures other { IsTrue result → ¬ IsTaken (map (λ text. text.now) texts.now) }
+{
+    version_flags_are_no_command();
+    match texts {
+        [_called, word] => is_version_flag(word),
+        _ => false,
+    }
+}
+
+/// Prints the version of the program, and returns the exit status.
+fn print_version<R: Print + Eprint>(runtime: &R) -> ExitCode {
+    match println!(runtime; "bpfs {VERSION}") {
+        Ok(()) => ExitCode::from(Status::Done.code()),
+        Err(error) => refuse(runtime, Status::SinkFailed, Reason::Output(Some(error))),
+    }
+}
+
+/// Returns the reason for which nothing is done: replies would be written over the image, or a file is not to be
+/// erased.
+fn objection<'a>(
+    runtime: &HostRuntime,
+    alloc: Global,
+    texts: &'a [&'a str],
+) -> Result<Option<Reason<'a>>, AllocError> {
+    match own_output(runtime, alloc, texts) {
+        Ok(None) => {
+            let is_terminal = runtime.stdin().is_terminal() && runtime.stderr().is_terminal();
+            kept_file(runtime, alloc, texts, is_terminal)
+        }
+        found => found,
+    }
+}
+
+/// Does what the arguments ask for, prints why that ended, and returns the exit status.
+fn do_program(runtime: &HostRuntime, alloc: Global, texts: &[&str]) -> ExitCode {
+    let Ok(mut files) = DiskFiles::new(alloc, runtime) else {
+        return out_of_memory(runtime);
+    };
+    let (input, output) = (runtime.stdin(), runtime.stdout());
+    let prompts = Prompts::at(
+        input.is_terminal(),
+        output.is_terminal(),
+        runtime.stderr().is_terminal(),
+    );
+    let mut source = Typed::new(StdSource::new(input), runtime, prompts);
+    let mut sink = StdSink::new(output);
+    let status = run::<Volume<RawRegion>, _, _, _>(
+        alloc,
+        texts,
+        &mut source,
+        &mut sink,
+        &mut files,
+    );
+    let last = LastErrors {
+        input: source.into_source().last_error(),
+        output: sink.last_error(),
+        files: files.last_error(),
+    };
+    report_end(runtime, alloc, status, texts, last);
+    ExitCode::from(status.code())
+}
+
 fn main(runtime: HostRuntime) -> ExitCode {
     let _streams = match take_streams(&runtime) {
         Ok(streams) => streams,
@@ -165,22 +251,12 @@ fn main(runtime: HostRuntime) -> ExitCode {
     let Ok(texts) = texts(alloc, &words) else {
         return out_of_memory(&runtime);
     };
-    match own_output(&runtime, alloc, &texts) {
-        Ok(None) => {}
-        Ok(Some(reason)) => return refuse(&runtime, Status::FilesFailed, reason),
-        Err(AllocError) => return out_of_memory(&runtime),
+    if asks_for_version(&texts) {
+        return print_version(&runtime);
     }
-    let Ok(mut files) = DiskFiles::new(alloc, &runtime) else {
-        return out_of_memory(&runtime);
-    };
-    let mut source = StdSource::new(runtime.stdin());
-    let mut sink = StdSink::new(runtime.stdout());
-    let status = run::<Volume<RawRegion>, _, _, _>(alloc, &texts, &mut source, &mut sink, &mut files);
-    let last = LastErrors {
-        input: source.last_error(),
-        output: sink.last_error(),
-        files: files.last_error(),
-    };
-    report_end(&runtime, alloc, status, &texts, last);
-    ExitCode::from(status.code())
+    match objection(&runtime, alloc, &texts) {
+        Ok(None) => do_program(&runtime, alloc, &texts),
+        Ok(Some(reason)) => refuse(&runtime, Status::FilesFailed, reason),
+        Err(AllocError) => out_of_memory(&runtime),
+    }
 }

@@ -17,6 +17,8 @@ pub(crate) enum Reason<'a> {
     File(&'a str, Option<io::Error>),
     /// Standard output goes to the file of this name.
     OwnOutput(&'a str),
+    /// The file of this name was not to be erased.
+    Kept(&'a str),
     /// There is no file of this name.
     Missing(&'a str),
     /// The file of this name is no file system.
@@ -49,6 +51,9 @@ pub(crate) fn report_reason<E: Eprint>(runtime: &E, reason: Reason<'_>) {
         Reason::File(name, error) => report_fault(runtime, name, error),
         Reason::OwnOutput(name) => eprintln!(runtime;
             "bpfs: {name}: standard output is the image itself"
+        ),
+        Reason::Kept(name) => eprintln!(runtime;
+            "bpfs: {name}: not formatted: the answer was not y or yes"
         ),
         Reason::Missing(name) => eprintln!(runtime; "bpfs: {name}: no such file"),
         Reason::Refused(name) => eprintln!(runtime; "bpfs: {name}: not a file system"),

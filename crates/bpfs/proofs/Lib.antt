@@ -1,0 +1,2 @@
+pub mod HelpLaws
+pub mod TextLaws

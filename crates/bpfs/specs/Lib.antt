@@ -1,0 +1,3 @@
+-- What the program does at a terminal.
+pub mod Typing
+pub mod Asking

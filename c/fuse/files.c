@@ -1,5 +1,6 @@
 #define _GNU_SOURCE
 #include "files.h"
+#include "blocks.h"
 #include "calls.h"
 #include "hidden.h"
 #include "times.h"
@@ -8,9 +9,11 @@
 
 /* An empty file takes 64 bytes for its inode and 256 for its name (docs/format.md). */
 enum { FILES_PER_BLOCK = 4096 / (64 + 256) };
+enum { BLOCK = 4096, SECTORS = BLOCK / 512 /* the unit of st_blocks */, MOST_COPIED = 16 << 20 };
 
 static bpfs_lack lack;
 static uint64_t file_count; /* without what is hidden */
+static size_t exposed;      /* open files without a hidden link: each of them may need one */
 
 /* ---- looking */
 
@@ -36,35 +39,66 @@ int files_lookup(node *dir, const char *text, node **found) {
     return code ? code : enter(&at, dir, text, found);
 }
 
-/* What is at a path, and its mode and owner. */
-static int look_at(const path *at, bpfs_found *found, attributes *it) {
-    int code = LOOK(bpfs_stat(&volume.fs, P(*at), found));
-    return code ? code : attributes_get(at, found->is_dir, it);
+/* Whether a directory is at a path, or a file, with its number of links; and its mode and owner.
+ * bpfs_stat would count the names of a directory. */
+static int look_at(const path *at, bool *is_dir, uint32_t *links, attributes *it) {
+    int code = LOOK(bpfs_links(&volume.fs, P(*at), links));
+    *is_dir = code == -EISDIR;
+    return code && !*is_dir ? code : attributes_get(at, *is_dir, it);
 }
 
 static void stat_deleted_directory(const node *it, struct stat *st) {
-    *st = (struct stat){.st_ino = it->number, .st_mode = it->mode, .st_uid = it->owner, .st_gid = it->group};
+    *st = (struct stat){
+        .st_ino = it->number, .st_mode = it->mode, .st_uid = it->owner, .st_gid = it->group};
     st->st_blksize = 4096;
     st->st_atim = st->st_mtim = st->st_ctim = times_now();
 }
 
-int files_stat(const node *it, struct stat *st) {
-    bpfs_found found;
+/* ---- blocks */
+
+/* How many blocks of a file have a byte of a part of it, which begins at the start of a block. An
+ * index of blocks counts as none. */
+static uint64_t blocks_in(const node *it, uint64_t first, uint64_t end) {
+    content tree;
+    return blocks_of(it->number, &tree) ? 0 : blocks_count(&tree, first, end);
+}
+
+static uint64_t blocks_of_file(node *it) {
+    if (!it->has_blocks) it->blocks = blocks_in(it, 0, UINT64_MAX);
+    it->has_blocks = true;
+    return it->blocks;
+}
+
+off_t files_seek(const node *it, off_t offset, bool to_hole) {
+    content tree;
+    if (offset < 0 || it->is_deleted) return -ENXIO;
+    int code = blocks_of(it->number, &tree);
+    if (code) return code;
+    off_t found = blocks_seek(&tree, (uint64_t)offset, to_hole);
+    if (!it->maps || (uint64_t)offset >= tree.size) return found;
+    return to_hole ? (off_t)tree.size : offset;
+}
+
+/* ---- attributes */
+
+int files_stat(node *it, struct stat *st) {
+    bpfs_found found = {0};
     attributes set;
-    uint32_t links = 1;
+    uint32_t links;
+    bool is_dir;
     path at;
     if (it->is_deleted && it->mode) return stat_deleted_directory(it, st), 0;
     int code = nodes_path(it, &at);
-    if (!code) code = look_at(&at, &found, &set);
-    if (!code && !found.is_dir) code = LOOK(bpfs_links(&volume.fs, P(at), &links));
+    if (!code) code = look_at(&at, &is_dir, &links, &set);
+    if (!code && !is_dir) code = LOOK(bpfs_stat(&volume.fs, P(at), &found));
     if (code) return code;
     memset(st, 0, sizeof *st);
     st->st_ino = it->number;
     st->st_mode = set.mode, st->st_uid = set.owner, st->st_gid = set.group;
-    st->st_nlink = found.is_dir ? 2 : links - it->is_hidden;
-    st->st_size = found.is_dir ? 0 : (off_t)found.size;
+    st->st_nlink = is_dir ? 2 : links - it->is_hidden;
+    st->st_size = (off_t)found.size;
     st->st_blksize = 4096;
-    st->st_blocks = (st->st_size + 511) / 512;
+    st->st_blocks = is_dir ? 0 : (blkcnt_t)blocks_of_file(it) * SECTORS;
     st->st_atim = st->st_mtim = st->st_ctim = times_of(it);
     return 0;
 }
@@ -81,8 +115,8 @@ int files_entry(const node *dir, const char *text, bool is_dir, struct stat *st)
     return 0;
 }
 
-/* The format has no limit of the number of files, but space. So the number of free inodes is how many empty files would
- * fit. */
+/* The format has no limit of the number of files, but space. So the number of free inodes is how
+ * many empty files would fit. */
 int files_space(struct statvfs *st) {
     bpfs_blocks blocks;
     int code = error_of(bpfs_space(&volume.fs, &blocks));
@@ -101,7 +135,8 @@ int files_read(const node *it, char *into, size_t size, off_t offset) {
     size_t count = 0;
     path at;
     int code = nodes_path(it, &at);
-    if (!code) code = LOOK(bpfs_read(&volume.fs, P(at), (uint64_t)offset, (uint8_t *)into, size, &count));
+    if (!code)
+        code = LOOK(bpfs_read(&volume.fs, P(at), (uint64_t)offset, (uint8_t *)into, size, &count));
     return code ? code : (int)count;
 }
 
@@ -153,7 +188,8 @@ int files_symlink(const char *target, node *dir, const char *text, attributes wa
     code = attributes_inherit(dir, &wanted);
     if (!code) code = hidden_create(&hidden);
     if (code) return code;
-    code = CHANGE(bpfs_write(&volume.fs, P(hidden), 0, (const uint8_t *)target, strlen(target), &lack));
+    code = CHANGE(
+        bpfs_write(&volume.fs, P(hidden), 0, (const uint8_t *)target, strlen(target), &lack));
     if (!code) code = attributes_set(&hidden, &wanted);
     if (!code) code = CHANGE(bpfs_rename(&volume.fs, P(hidden), P(at), &lack));
     if (code) return unmake(&hidden, wanted.mode), code;
@@ -182,18 +218,20 @@ typedef struct loss {
     node *dir;
     const char *text;
     bool is_replaced; /* by another file, in the same call */
-    node *it;         /* NULL: nobody knows the file. It has one lookup more while the loss goes on */
+    node *it; /* NULL: nobody knows the file. It has one lookup more while the loss goes on */
     bool is_last;     /* programs can't find the file afterwards */
     bool is_deleted;  /* the file has no link afterwards, not even a hidden one */
     bool was_added;   /* a hidden link keeps the file */
     attributes of_dir;
 } loss;
 
-/* Whether the file needs a hidden link: it is open, or about to be. A program that looked up a name just before the file
- * was replaced opens the old file. With an error here, the name would seem to be gone. */
+/* Whether the file needs a hidden link: it is open, or about to be. A program that looked up a name
+ * just before the file was replaced opens the old file. With an error here, the name would seem to
+ * be gone. */
 static bool needs_link(const loss *going, const node *it, bool is_dir) {
     bool has_other = nodes_has_other_name(it, going->dir, going->text);
-    return !is_dir && !has_other && (it->opens || (going->is_replaced && it->lookups));
+    if (is_dir || has_other) return false;
+    return it->opens || (going->is_replaced && it->lookups && hidden_reserve(exposed + 1));
 }
 
 /* Before the operation. */
@@ -212,11 +250,13 @@ static int prepare(loss *going, const path *at) {
         code = hidden_add(it, at);
         if (code && it->opens) return code;
         going->was_added = !code;
+        if (it->opens && !code) exposed--;
     }
     if (going->was_added) going->is_deleted = false;
     going->it = it;
     it->lookups++;
-    if (!going->is_deleted && !nodes_has_other_name(it, going->dir, going->text)) times_store_of(it);
+    if (!going->is_deleted && !nodes_has_other_name(it, going->dir, going->text))
+        times_store_of(it);
     return 0;
 }
 
@@ -226,7 +266,8 @@ static void finish(const loss *going) {
     file_count -= going->is_last;
     if (!it) return;
     if (going->is_deleted) {
-        it->mode = going->of_dir.mode, it->owner = going->of_dir.owner, it->group = going->of_dir.group;
+        it->mode = going->of_dir.mode, it->owner = going->of_dir.owner,
+        it->group = going->of_dir.group;
         times_forget(it);
         nodes_delete(it);
     } else {
@@ -245,6 +286,8 @@ static void unhide(node *it) {
         return;
     }
     it->is_hidden = going.is_last = false; /* programs could not find it before */
+    hidden_removed();
+    if (it->opens) exposed++; /* it has another name */
     finish(&going);
 }
 
@@ -319,14 +362,19 @@ int files_rename(node *from_dir, const char *from, node *to_dir, const char *to,
 
 /* ---- contents and attributes */
 
-int files_open(node *it) {
+int files_open(node *it, bool maps) {
     if (!it->names) return -ESTALE;
-    it->opens++;
+    bool is_first = !it->opens++;
+    it->maps += maps;
+    if (is_first && !it->is_hidden) exposed++;
+    if (volume.carrier_count) hidden_reserve(exposed);
     return 0;
 }
 
-void files_close(node *it) {
+void files_close(node *it, bool maps) {
     it->opens--;
+    it->maps -= maps;
+    if (!it->opens && !it->is_hidden) exposed--;
     nodes_drop(it);
 }
 
@@ -335,35 +383,54 @@ void files_forget(node *it, uint64_t lookups) {
     nodes_forget(it, lookups);
 }
 
+/* A write makes blocks of its own bytes only, so the others are not counted again. */
 int files_write(node *it, const char *bytes, size_t size, off_t offset) {
     path at;
     int code = nodes_path(it, &at);
     if (code) return code;
     size_t done = 0;
+    uint64_t first = (uint64_t)offset / BLOCK * BLOCK, end = (uint64_t)offset + size;
+    uint64_t before = it->has_blocks ? blocks_in(it, first, end) : 0;
     for (size_t n; done < size && !code; done += code ? 0 : n) {
         n = size - done < volume.max_write ? size - done : volume.max_write;
         const uint8_t *from = (const uint8_t *)bytes + done;
         code = CHANGE(bpfs_write(&volume.fs, P(at), (uint64_t)offset + done, from, n, &lack));
     }
+    if (it->has_blocks) it->blocks += blocks_in(it, first, end) - before;
     if (code && !done) return code;
     times_touch(it);
     return (int)done;
+}
+
+int files_copy(const node *from, off_t offset, node *to, off_t to_offset, size_t size) {
+    static char bytes[BPFS_MAX_WRITE_2];
+    size_t most = size < MOST_COPIED ? size : MOST_COPIED, done = 0;
+    int count = 1;
+    while (done < most && count > 0) {
+        size_t part = most - done < sizeof bytes ? most - done : sizeof bytes;
+        count = files_read(from, bytes, part, offset + (off_t)done);
+        if (count > 0) count = files_write(to, bytes, (size_t)count, to_offset + (off_t)done);
+        if (count > 0) done += (size_t)count;
+    }
+    return done ? (int)done : count;
 }
 
 int files_truncate(node *it, off_t size) {
     path at;
     int code = nodes_path(it, &at);
     if (!code) code = CHANGE(bpfs_truncate(&volume.fs, P(at), (uint64_t)size, &lack));
+    it->has_blocks = false;
     if (!code) times_touch(it);
     return code;
 }
 
 int files_set_attributes(const node *it, mode_t mode, uid_t owner, gid_t group) {
-    bpfs_found found;
     attributes wanted;
+    uint32_t links;
+    bool is_dir;
     path at;
     int code = nodes_path(it, &at);
-    if (!code) code = look_at(&at, &found, &wanted);
+    if (!code) code = look_at(&at, &is_dir, &links, &wanted);
     if (code) return code;
     if (mode != (mode_t)-1) wanted.mode = (wanted.mode & S_IFMT) | (mode & 07777);
     if (owner != (uid_t)-1) wanted.owner = owner;
@@ -375,6 +442,7 @@ int files_set_attributes(const node *it, mode_t mode, uid_t owner, gid_t group) 
 
 void files_begin(void) {
     bpfs_sums sums = {0};
+    exposed = 0;
     bpfs_totals(&volume.fs, &sums);
     file_count = sums.files + sums.dirs - (hidden_directory() != NULL);
 }

@@ -1,9 +1,11 @@
-/* fsx_test.c - pseudo-random system calls on a mounted volume and on a normal folder, with the same results.
+/* fsx_test.c - pseudo-random system calls on a mounted volume and on a normal folder, with the same
+ * results.
  *
  *     fsx_test MOUNTED NORMAL SEED COUNT [MOUNTPOINT]
  *
- * Both folders are empty. Each call is made in both: it has to return the same number, errno and bytes. There are few names,
- * so files get several links, are renamed over each other, and are deleted while they are open or mapped.
+ * Both folders are empty. Each call is made in both: it has to return the same number, errno and
+ * bytes. There are few names, so files get several links, are renamed over each other, and are
+ * deleted while they are open or mapped.
  */
 #define _GNU_SOURCE
 #include <dirent.h>
@@ -19,7 +21,17 @@
 #include <sys/stat.h>
 #include <unistd.h>
 
-enum { SIDES = 2, FILES = 6, DIRS = 4, OPEN = 6, MAPS = 4, MOST = 1 << 17, MAP_LENGTH = 1 << 16, ROOM = 32, HISTORY = 40 };
+enum {
+    SIDES = 2,
+    FILES = 6,
+    DIRS = 4,
+    OPEN = 6,
+    MAPS = 4,
+    MOST = 1 << 17,
+    MAP_LENGTH = 1 << 16,
+    ROOM = 32,
+    HISTORY = 40
+};
 
 static const char *const dirs[DIRS] = {".", "d", "d/e", "g"};
 static int folders[SIDES];
@@ -49,7 +61,8 @@ static uint64_t number(uint64_t below) {
 }
 
 static void differ(const char *what) {
-    for (long i = calls < HISTORY ? 0 : calls - HISTORY; i < calls; i++) fprintf(stderr, "%ld: %s\n", i, history[i % HISTORY]);
+    for (long i = calls < HISTORY ? 0 : calls - HISTORY; i < calls; i++)
+        fprintf(stderr, "%ld: %s\n", i, history[i % HISTORY]);
     fprintf(stderr, "fsx_test: call %ld: %s\n", calls, what);
     exit(1);
 }
@@ -70,13 +83,18 @@ static void set(results *it, int side, long value) {
 static bool same(const results *it) {
     char text[160];
     if (it->value[0] == it->value[1] && it->error[0] == it->error[1]) return it->value[0] != -1;
-    snprintf(text, sizeof text, "%ld (%s) on the mount, %ld (%s) in the folder", it->value[0], strerror(it->error[0]),
-             it->value[1], strerror(it->error[1]));
+    snprintf(text, sizeof text, "%ld (%s) on the mount, %ld (%s) in the folder", it->value[0],
+             strerror(it->error[0]), it->value[1], strerror(it->error[1]));
     differ(text);
     return false;
 }
 
-#define BOTH(call) do { results it; for (int side = 0; side < SIDES; side++) set(&it, side, (call)); same(&it); } while (0)
+#define BOTH(call)                                                                                 \
+    do {                                                                                           \
+        results it;                                                                                \
+        for (int side = 0; side < SIDES; side++) set(&it, side, (call));                           \
+        same(&it);                                                                                 \
+    } while (0)
 
 static void same_stat(const struct stat *a, const struct stat *b) {
     if ((a->st_mode & S_IFMT) != (b->st_mode & S_IFMT)) differ("another kind");
@@ -143,7 +161,8 @@ static void do_stat(void) {
     struct stat st[SIDES];
     results it;
     NOTE("stat %s", random_file(path));
-    for (int side = 0; side < SIDES; side++) set(&it, side, fstatat(folders[side], path, &st[side], AT_SYMLINK_NOFOLLOW));
+    for (int side = 0; side < SIDES; side++)
+        set(&it, side, fstatat(folders[side], path, &st[side], AT_SYMLINK_NOFOLLOW));
     if (same(&it)) same_stat(&st[0], &st[1]);
 }
 
@@ -185,7 +204,8 @@ static void compare_names(const char *path) {
     char *names[SIDES];
     for (int side = 0; side < SIDES; side++) names[side] = names_of(folders[side], path);
     if (!names[0] != !names[1] || (names[0] && strcmp(names[0], names[1]))) {
-        fprintf(stderr, "on the mount:\n%sin the folder:\n%s", names[0] ? names[0] : "", names[1] ? names[1] : "");
+        fprintf(stderr, "on the mount:\n%sin the folder:\n%s", names[0] ? names[0] : "",
+                names[1] ? names[1] : "");
         differ("other names");
     }
     for (int side = 0; side < SIDES; side++) free(names[side]);
@@ -212,8 +232,15 @@ static void close_both(int fd[SIDES]) {
 }
 
 static void do_open(void) {
-    static const int flags[] = {O_RDWR, O_RDWR | O_CREAT, O_RDWR | O_CREAT, O_RDWR | O_CREAT, O_RDWR | O_CREAT | O_EXCL,
-                                O_RDWR | O_TRUNC, O_RDWR | O_CREAT | O_TRUNC, O_RDWR | O_CREAT | O_APPEND, O_RDWR | O_APPEND};
+    static const int flags[] = {O_RDWR,
+                                O_RDWR | O_CREAT,
+                                O_RDWR | O_CREAT,
+                                O_RDWR | O_CREAT,
+                                O_RDWR | O_CREAT | O_EXCL,
+                                O_RDWR | O_TRUNC,
+                                O_RDWR | O_CREAT | O_TRUNC,
+                                O_RDWR | O_CREAT | O_APPEND,
+                                O_RDWR | O_APPEND};
     char path[ROOM];
     opened *at = &files[number(OPEN)];
     int with = flags[number(sizeof flags / sizeof *flags)];
@@ -246,17 +273,20 @@ static void do_write(void) {
     size_t count = number(number(4) ? 5000 : MOST / 2);
     off_t offset = (off_t)number(MOST / 2);
     if (!at) return;
-    NOTE("%s %ld at %ld, %zu bytes", at->appends ? "append" : "write", (long)(at - files), (long)offset, count);
+    NOTE("%s %ld at %ld, %zu bytes", at->appends ? "append" : "write", (long)(at - files),
+         (long)offset, count);
     fill(bytes, count);
     struct stat st;
     if (at->appends && fstat(at->fd[1], &st) == 0 && st.st_size > MOST) return;
-    BOTH(at->appends ? write(at->fd[side], bytes, count) : pwrite(at->fd[side], bytes, count, offset));
+    BOTH(at->appends ? write(at->fd[side], bytes, count)
+                     : pwrite(at->fd[side], bytes, count, offset));
 }
 
 static void compare_read(const int fd[SIDES], off_t offset, size_t count) {
     static uint8_t bytes[SIDES][2 * MOST];
     results it;
-    for (int side = 0; side < SIDES; side++) set(&it, side, pread(fd[side], bytes[side], count, offset));
+    for (int side = 0; side < SIDES; side++)
+        set(&it, side, pread(fd[side], bytes[side], count, offset));
     if (same(&it) && memcmp(bytes[0], bytes[1], (size_t)it.value[0])) differ("other bytes");
 }
 
@@ -293,6 +323,22 @@ static void do_fsync(void) {
     BOTH(fsync(at->fd[side]));
 }
 
+/* All bytes of what is reported as a hole are 0, on the mount. */
+static void look_at_holes(int fd) {
+    static uint8_t bytes[2 * MOST];
+    off_t size = lseek(fd, 0, SEEK_END), data = 0;
+    for (off_t hole = 0; hole < size; hole = lseek(fd, data, SEEK_HOLE)) {
+        data = lseek(fd, hole, SEEK_DATA);
+        if (data < 0 && errno == ENXIO) data = size;
+        if (hole < 0 || data < hole) differ("SEEK_DATA or SEEK_HOLE fails");
+        if (pread(fd, bytes, (size_t)(data - hole), hole) != data - hole)
+            differ("a hole is not read");
+        for (off_t i = 0; i < data - hole; i++)
+            if (bytes[i]) differ("a hole has bytes");
+        if (data == size) break;
+    }
+}
+
 /* All bytes of a file, by a new descriptor. */
 static void compare_file(const char *path) {
     int fd[SIDES];
@@ -303,6 +349,7 @@ static void compare_file(const char *path) {
     }
     if (!same(&it)) return;
     compare_read(fd, 0, 2 * MOST);
+    look_at_holes(fd[0]);
     close_both(fd);
 }
 
@@ -373,7 +420,8 @@ static void do_read_map(void) {
 
 /* ---- all of it */
 
-/* Lets the kernel forget all names of the mount that are not in use, so that they are looked up again. Only root can do it. */
+/* Lets the kernel forget all names of the mount that are not in use, so that they are looked up
+ * again. Only root can do it. */
 static void do_forget(void) {
     if (!mountpoint) return;
     NOTE("forget");
@@ -384,10 +432,11 @@ static const struct call {
     void (*it)(void);
     unsigned weight;
 } all[] = {
-    {do_open, 10},   {do_close, 4},   {do_write, 12}, {do_read, 8},      {do_read_path, 6}, {do_fstat, 4},
-    {do_stat, 8},    {do_compare, 4}, {do_list, 3},   {do_ftruncate, 3}, {do_fsync, 1},     {do_map, 4},
-    {do_unmap, 2},   {do_write_map, 8}, {do_read_map, 8}, {do_link, 8},  {do_rename, 8},    {do_rename_dir, 2},
-    {do_unlink, 6},  {do_mkdir, 3},   {do_rmdir, 2},  {do_symlink, 1},   {do_forget, 2},
+    {do_open, 10}, {do_close, 4},   {do_write, 12},     {do_read, 8},      {do_read_path, 6},
+    {do_fstat, 4}, {do_stat, 8},    {do_compare, 4},    {do_list, 3},      {do_ftruncate, 3},
+    {do_fsync, 1}, {do_map, 4},     {do_unmap, 2},      {do_write_map, 8}, {do_read_map, 8},
+    {do_link, 8},  {do_rename, 8},  {do_rename_dir, 2}, {do_unlink, 6},    {do_mkdir, 3},
+    {do_rmdir, 2}, {do_symlink, 1}, {do_forget, 2},
 };
 
 static void one_call(void) {
@@ -410,7 +459,8 @@ static void compare_all(void) {
 }
 
 int main(int argc, char **argv) {
-    if (argc < 5) return fprintf(stderr, "usage: fsx_test MOUNTED NORMAL SEED COUNT [MOUNTPOINT]\n"), 2;
+    if (argc < 5)
+        return fprintf(stderr, "usage: fsx_test MOUNTED NORMAL SEED COUNT [MOUNTPOINT]\n"), 2;
     mountpoint = argv[5];
     state = strtoull(argv[3], NULL, 10) * 0x9e3779b97f4a7c15u + 1;
     for (int side = 0; side < SIDES; side++) {

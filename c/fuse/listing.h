@@ -9,7 +9,8 @@ typedef struct listing {
     char *text;     /* of each entry, '/' for a directory or ' ' for a file, its name, and 0 */
 } listing;
 
-/* Replaces a listing by one of the directory at a path. 0, or a negative errno: the listing is as it was. */
+/* Replaces a listing by one of the directory at a path. 0, or a negative errno: the listing is as
+ * it was. */
 int listing_take(listing *it, const path *at);
 
 /* Gets a name by its index, and whether it is that of a directory. */

@@ -1,14 +1,20 @@
 /* mounted_test.c - system calls on a mounted volume, each with the result that README.md states.
  *
- *     mounted_test calls FOLDER VERSION   a series of system calls; FOLDER is empty, and on a mount of this version
- *     mounted_test others FOLDER          calls of other users, on a mount with allow_other; needs root
- *     mounted_test looks FOLDER COUNT     COUNT times statx of one file, not from the kernel's cache
- *     mounted_test many FOLDER COUNT      makes COUNT files of 1,000 bytes, syncs the last one, and prints both times
- *     mounted_test appends FOLDER COUNT   two processes append COUNT lines each, by two names of one file
- *     mounted_test opens FOLDER COUNT     a process opens a file COUNT times, which another one replaces by renames meanwhile
- *     mounted_test forgets FOLDER COUNT   looks up names COUNT times, and lets the kernel forget them. FOLDER is a mount point.
- *                                         Without root: makes COUNT files, one after the other, and deletes each
- *     mounted_test replaces FOLDER SIZE   replaces an open file by renames until a call fails. It has SIZE equal bytes
+ *     mounted_test calls FOLDER VERSION   a series of system calls; FOLDER is empty, and on a
+ *                                         mount of this version
+ *     mounted_test others FOLDER          calls of other users, on a mount with allow_other
+ *     mounted_test looks FOLDER COUNT     COUNT times statx of one file, not from a cache
+ *     mounted_test many FOLDER COUNT      makes COUNT files of 1,000 bytes, syncs the last one, and
+ *                                         prints both times
+ *     mounted_test appends FOLDER COUNT   two processes append COUNT lines each, by two names
+ *     mounted_test opens FOLDER COUNT     a process opens a file COUNT times, which another one
+ *                                         replaces by renames meanwhile
+ *     mounted_test forgets FOLDER COUNT   looks up names COUNT times, and lets the kernel forget
+ *                                         them. FOLDER is a mount point. Without root: makes COUNT
+ *                                         files, one after the other, and deletes each
+ *     mounted_test removes FOLDER COUNT   opens COUNT files, fills the volume, and deletes them all
+ *     mounted_test replaces FOLDER SIZE   replaces an open file by renames until a call fails. It
+ *                                         has SIZE equal bytes
  *     mounted_test whole FOLDER SIZE      whether that file has SIZE equal bytes
  */
 #define _GNU_SOURCE
@@ -166,6 +172,85 @@ static void links(void) {
     FAILS(EPERM, mknod("p", S_IFIFO | 0644, 0));
 }
 
+/* ---- holes, and copies within the kernel */
+
+static long blocks_of(const char *path) {
+    struct stat it;
+    return stat(path, &it) ? -1 : (long)it.st_blocks;
+}
+
+static void holes(void) {
+    enum { AT = 5 << 20, SIZE = 1 << 30, BLOCK = 4096, SECTORS = BLOCK / 512 };
+    close(make("a", ""));
+    WORKS(truncate("a", SIZE));
+    IS(0, blocks_of("a"));
+    int reader = open("a", O_RDONLY);
+    FAILS(ENXIO, lseek(reader, 0, SEEK_DATA));
+    IS(0, lseek(reader, 0, SEEK_HOLE));
+    int fd = open("a", O_WRONLY);
+    IS(1, pwrite(fd, "x", 1, AT));
+    IS(SECTORS, blocks_of("a"));
+    IS(AT, lseek(reader, 0, SEEK_DATA));
+    IS(AT + 7, lseek(reader, AT + 7, SEEK_DATA));
+    IS(AT + BLOCK, lseek(reader, AT, SEEK_HOLE));
+    IS(AT + BLOCK + 1, lseek(reader, AT + BLOCK + 1, SEEK_HOLE));
+    FAILS(ENXIO, lseek(reader, AT + BLOCK, SEEK_DATA));
+    FAILS(ENXIO, lseek(reader, SIZE, SEEK_DATA));
+    FAILS(ENXIO, lseek(reader, SIZE, SEEK_HOLE));
+    IS(2 * BLOCK, pwrite(fd, (char[2 * BLOCK]){1}, 2 * BLOCK, AT + BLOCK));
+    IS(3 * SECTORS, blocks_of("a"));
+    IS(AT + 3 * BLOCK, lseek(reader, AT, SEEK_HOLE));
+    WORKS(ftruncate(fd, AT + BLOCK));
+    IS(SECTORS, blocks_of("a"));
+    IS(AT + BLOCK, lseek(reader, AT, SEEK_HOLE)); /* the end */
+    close(fd);
+    close(reader);
+    WORKS(unlink("a"));
+}
+
+/* The kernel hands over mapped bytes later. Until then, no hole is reported where they may be. */
+static void holes_that_are_mapped(void) {
+    enum { AT = 8192, SIZE = 1 << 20 };
+    close(make("a", ""));
+    WORKS(truncate("a", SIZE));
+    int fd = open("a", O_RDWR), reader = open("a", O_RDONLY);
+    char *map = mmap(NULL, SIZE, PROT_READ | PROT_WRITE, MAP_SHARED, fd, 0);
+    IS(1, map != MAP_FAILED);
+    close(fd);
+    map[AT] = 'x';
+    IS(0, lseek(reader, 0, SEEK_DATA));
+    IS(SIZE, lseek(reader, 0, SEEK_HOLE));
+    WORKS(munmap(map, SIZE));
+    for (int i = 0; i < 100 && lseek(reader, 0, SEEK_DATA) != AT; i++) usleep(10000);
+    IS(AT, lseek(reader, 0, SEEK_DATA));
+    IS(AT + 4096, lseek(reader, AT, SEEK_HOLE));
+    close(reader);
+    WORKS(unlink("a"));
+}
+
+static void copies_of_ranges(void) {
+    off_t from = 2, to = 100000;
+    int in = make("a", "some bytes"), out = make("b", "");
+    IS(8, copy_file_range(in, &from, out, &to, 1000, 0));
+    IS(10, from);
+    IS(100008, to);
+    IS(100008, size_of("b"));
+    IS(0, copy_file_range(in, &from, out, &to, 1000, 0));
+    char bytes[16] = {0};
+    IS(8, pread(out, bytes, 16, 100000));
+    IS(0, memcmp(bytes, "me bytes", 8));
+    WORKS(unlink("a")); /* it is open */
+    from = 0, to = 0;
+    IS(4, copy_file_range(in, &from, out, &to, 4, 0));
+    IS(4, pread(out, bytes, 4, 0));
+    IS(0, memcmp(bytes, "some", 4));
+    FAILS(EOPNOTSUPP, fallocate(out, 0, 0, 4096));
+    FAILS(EOPNOTSUPP, fallocate(out, FALLOC_FL_PUNCH_HOLE | FALLOC_FL_KEEP_SIZE, 0, 4096));
+    close(in);
+    close(out);
+    WORKS(unlink("b"));
+}
+
 static void long_names(void) {
     char name[300];
     memset(name, 'n', sizeof name);
@@ -228,7 +313,8 @@ static void deleted_while_open(void) {
     close(fd);
 }
 
-/* A file is read through its descriptor after its directory and a directory above that got other names. */
+/* A file is read through its descriptor after its directory and a directory above that got other
+ * names. */
 static void renamed_while_open(void) {
     char bytes[8] = {0};
     WORKS(mkdir("d", 0755));
@@ -365,8 +451,9 @@ static int is_new(const char *path) {
 }
 
 static void times(void) {
-    static const struct timespec whens[] = {{1000000000, 123456789}, {1, 0},           {0, 1},
-                                            {-1, 999999999},         {-1000000000, 5}, {9000000000, 0}};
+    static const struct timespec whens[] = {
+        {1000000000, 123456789}, {1, 0},           {0, 1},
+        {-1, 999999999},         {-1000000000, 5}, {9000000000, 0}};
     close(make("a", "x"));
     WORKS(mkdir("d", 0755));
     for (size_t i = 0; i < sizeof whens / sizeof *whens; i++) {
@@ -420,8 +507,8 @@ static void times_of_names(void) {
 static int leads_to(const char *path, const char *target) {
     char bytes[4200];
     ssize_t n = readlink(path, bytes, sizeof bytes);
-    return n == (ssize_t)strlen(target) && memcmp(bytes, target, (size_t)n) == 0 && look(path).st_size == n &&
-           look(path).st_mode == (S_IFLNK | 0777);
+    return n == (ssize_t)strlen(target) && memcmp(bytes, target, (size_t)n) == 0 &&
+           look(path).st_size == n && look(path).st_mode == (S_IFLNK | 0777);
 }
 
 static void symbolic_links(void) {
@@ -459,7 +546,9 @@ static void symbolic_links(void) {
     has_time("to-d", 1000, 1, __LINE__);
     IS(1, is_new("d"));
     WORKS(unlink("to-d"));
-    for (const char *const *it = (const char *const[]){"a", "s", "t", "loop", "long", "d/up", NULL}; *it; it++) unlink(*it);
+    for (const char *const *it = (const char *const[]){"a", "s", "t", "loop", "long", "d/up", NULL};
+         *it; it++)
+        unlink(*it);
     WORKS(rmdir("d"));
 }
 
@@ -581,6 +670,9 @@ static int calls(int version) {
     directories();
     renames();
     links();
+    holes();
+    holes_that_are_mapped();
+    copies_of_ranges();
     long_names();
     deleted_while_open();
     renamed_while_open();
@@ -597,7 +689,8 @@ static int looks(long count) {
     struct statx it;
     long failed = 0;
     int fd = make("looked-at", "x");
-    for (long i = 0; i < count; i++) failed += statx(fd, "", AT_EMPTY_PATH | AT_STATX_FORCE_SYNC, STATX_ALL, &it) != 0;
+    for (long i = 0; i < count; i++)
+        failed += statx(fd, "", AT_EMPTY_PATH | AT_STATX_FORCE_SYNC, STATX_ALL, &it) != 0;
     close(fd);
     if (failed) fprintf(stderr, "%ld of %ld calls of statx failed\n", failed, count);
     return failed != 0;
@@ -703,11 +796,49 @@ static int make_whole(const char *path, int value, long size) {
     return fd;
 }
 
+/* Fills the volume, up to the last byte. */
+static void fill_volume(void) {
+    static char bytes[1 << 20];
+    int fd = open("filler", O_WRONLY | O_CREAT, 0644);
+    ssize_t n = -1;
+    memset(bytes, 'x', sizeof bytes);
+    for (size_t size = sizeof bytes; size; size = n < 0 ? size / 2 : size)
+        n = write(fd, bytes, size);
+    FAILS(ENOSPC, n);
+    close(fd);
+}
+
+static void numbered(char name[32], const char *kind, long number) {
+    snprintf(name, 32, "%s%ld", kind, number);
+}
+
+/* Whatever is open was opened when there were free blocks: then no deletion fails. */
+static int removes(long count) {
+    char name[32], bytes[8];
+    int fds[4096];
+    for (long i = 0; i < count; i++) {
+        numbered(name, "f", i);
+        fds[i] = make(name, "text");
+        WORKS(fds[i]);
+    }
+    fill_volume();
+    for (long i = 0; i < count; i++) {
+        numbered(name, "f", i);
+        WORKS(unlink(name));
+    }
+    for (long i = 0; i < count; i++) IS(4, pread(fds[i], bytes, 8, 0));
+    for (long i = 0; i < count; i++) IS(0, links_of(fds[i]));
+    for (long i = 0; i < count; i++) close(fds[i]);
+    WORKS(unlink("filler"));
+    return wrong;
+}
+
 static int replaces(long size) {
     close(make_whole("current", 'a', size));
     for (int value = 'a';; value = value == 'z' ? 'a' : value + 1) {
         int old = open("current", O_RDONLY), new = make_whole("new", value, size);
-        if (old < 0 || new < 0 || rename("new", "current") || (value == 'k' && fsync(new))) return 0;
+        if (old < 0 || new < 0 || rename("new", "current") || (value == 'k' && fsync(new)))
+            return 0;
         close(old);
         close(new);
     }
@@ -730,7 +861,8 @@ static int forgets(long count) {
         if (i < FILES || !can_forget) close(make(name, ""));
         if (!can_forget) WORKS(unlink(name));
         else WORKS(stat(name, &(struct stat){0}));
-        if (can_forget && i % FILES == FILES - 1) WORKS(mount(NULL, ".", NULL, MS_REMOUNT | MS_NOSUID | MS_NODEV, NULL));
+        if (can_forget && i % FILES == FILES - 1)
+            WORKS(mount(NULL, ".", NULL, MS_REMOUNT | MS_NOSUID | MS_NODEV, NULL));
     }
     return wrong;
 }
@@ -739,14 +871,16 @@ int main(int argc, char **argv) {
     static const struct {
         const char *name;
         int (*it)(long count);
-    } counted[] = {{"looks", looks}, {"many", many}, {"appends", appends}, {"opens", opens}, {"forgets", forgets},
-                 {"replaces", replaces}, {"whole", whole}};
+    } counted[] = {{"looks", looks},     {"many", many},       {"appends", appends},
+                   {"opens", opens},     {"forgets", forgets}, {"replaces", replaces},
+                   {"removes", removes}, {"whole", whole}};
     if (argc >= 3 && chdir(argv[2]) == 0) {
         if (argc == 4 && strcmp(argv[1], "calls") == 0) return calls(atoi(argv[3]));
         if (argc == 3 && strcmp(argv[1], "others") == 0) return others();
         for (size_t i = 0; argc == 4 && i < sizeof counted / sizeof *counted; i++)
             if (strcmp(argv[1], counted[i].name) == 0) return counted[i].it(atol(argv[3]));
     }
-    fprintf(stderr, "usage: mounted_test calls FOLDER VERSION, others FOLDER, or NAME FOLDER COUNT (see mounted_test.c)\n");
+    fprintf(stderr, "usage: mounted_test calls FOLDER VERSION, others FOLDER, or NAME FOLDER COUNT "
+                    "(see mounted_test.c)\n");
     return 2;
 }

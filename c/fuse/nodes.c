@@ -4,7 +4,8 @@
 #include <stdlib.h>
 #include <string.h>
 
-/* NAMES bounds how long a file with very many links takes to find one of them. What is not remembered is looked up. */
+/* NAMES bounds how long a file with very many links takes to find one of them. What is not
+ * remembered is looked up. */
 enum { PLACES = 1 << 16, NAMES = 16, ROOT_ID = 1 /* FUSE_ROOT_ID */ };
 
 typedef struct name {
@@ -197,7 +198,8 @@ int nodes_path_in(const node *dir, const char *text, path *into) {
 }
 
 int nodes_path(const node *it, path *into) {
-    if (it != &root) return it->names ? nodes_path_in(it->names->parent, it->names->text, into) : -ESTALE;
+    if (it != &root)
+        return it->names ? nodes_path_in(it->names->parent, it->names->text, into) : -ESTALE;
     into->text = "/", into->length = 1;
     return 0;
 }

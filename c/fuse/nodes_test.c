@@ -1,4 +1,5 @@
-/* nodes_test.c - the table of nodes: its paths after renames, and how many nodes remain when the kernel forgets them. */
+/* nodes_test.c - the table of nodes: its paths after renames, and how many nodes remain when the
+ * kernel forgets them. */
 #define _GNU_SOURCE
 #include "hidden.h"
 #include "test_volume.h"
@@ -29,15 +30,21 @@ static void forget(node *const *nodes, size_t count) {
 
 static void paths(void) {
     path at;
-    node *root = nodes_root(), *a = make(root, "a", of_directory), *b = make(a, "b", of_directory), *c = make(b, "c", of_file);
+    node *root = nodes_root(), *a = make(root, "a", of_directory), *b = make(a, "b", of_directory),
+         *c = make(b, "c", of_file);
     must(is_at(root, "/") && is_at(a, "/a") && is_at(c, "/a/b/c"), "a wrong path");
-    must(files_rename(a, "b", root, "d", 0) == 0 && is_at(c, "/d/c"), "a wrong path after a rename");
-    must(files_link(c, a, "e") == 0 && files_unlink(b, "c") == 0 && is_at(c, "/a/e"), "a wrong path after an unlink");
-    must(files_rename(root, "a", root, "f", 0) == 0 && is_at(c, "/f/e"), "a wrong path after another rename");
+    must(files_rename(a, "b", root, "d", 0) == 0 && is_at(c, "/d/c"),
+         "a wrong path after a rename");
+    must(files_link(c, a, "e") == 0 && files_unlink(b, "c") == 0 && is_at(c, "/a/e"),
+         "a wrong path after an unlink");
+    must(files_rename(root, "a", root, "f", 0) == 0 && is_at(c, "/f/e"),
+         "a wrong path after another rename");
     must(files_unlink(a, "e") == 0, "not deleted");
-    must(nodes_path(c, &at) == -ESTALE && files_open(c) == -ESTALE, "a path after the deletion");
+    must(nodes_path(c, &at) == -ESTALE && files_open(c, false) == -ESTALE,
+         "a path after the deletion");
     must(files_rmdir(root, "d") == 0 && files_rmdir(root, "f") == 0, "not deleted");
-    must(nodes_path(b, &at) == -ESTALE && files_make(b, "c", of_file, &c) == -ENOENT, "a path after the deletion");
+    must(nodes_path(b, &at) == -ESTALE && files_make(b, "c", of_file, &c) == -ENOENT,
+         "a path after the deletion");
     forget((node *[]){a, b, c, c}, 4);
 }
 
@@ -48,8 +55,11 @@ static void long_paths(void) {
     size_t depth = 0;
     memset(name, 'n', sizeof name);
     name[BPFS_MAX_NAME + 1] = 0;
-    must(files_make(dir, name, of_file, &it) == -ENAMETOOLONG && files_lookup(dir, name, &it) == -ENAMETOOLONG, "a long name");
-    for (name[BPFS_MAX_NAME] = 0; files_make(dir, name, of_directory, &it) == 0; dir = dirs[depth++] = it) {}
+    must(files_make(dir, name, of_file, &it) == -ENAMETOOLONG &&
+             files_lookup(dir, name, &it) == -ENAMETOOLONG,
+         "a long name");
+    for (name[BPFS_MAX_NAME] = 0; files_make(dir, name, of_directory, &it) == 0;
+         dir = dirs[depth++] = it) {}
     must(depth == BPFS_MAX_PATH / (BPFS_MAX_NAME + 1), "a wrong greatest depth");
     must(files_make(dir, name, of_directory, &it) == -ENAMETOOLONG, "not too long");
     while (depth--) {
@@ -58,7 +68,8 @@ static void long_paths(void) {
     }
 }
 
-/* A file with more names than are remembered is one node with one inode, and is found by each name. */
+/* A file with more names than are remembered is one node with one inode, and is found by each
+ * name. */
 static void many_names(void) {
     char name[16];
     struct stat st;
@@ -67,15 +78,16 @@ static void many_names(void) {
         snprintf(name, sizeof name, "%d", i);
         must(files_link(it, root, name) == 0, "no link");
     }
-    must(files_open(it) == 0, "not open");
+    must(files_open(it, false) == 0, "not open");
     for (int i = 0; i < 100; i++) {
         snprintf(name, sizeof name, "%d", i);
         must(files_lookup(root, name, &found) == 0 && found == it, "another node");
         must(files_unlink(root, name) == 0, "not deleted");
-        must(files_stat(it, &st) == 0 && st.st_nlink == (nlink_t)(99 - i), "a wrong number of links");
+        must(files_stat(it, &st) == 0 && st.st_nlink == (nlink_t)(99 - i),
+             "a wrong number of links");
     }
     must(files_write(it, "x", 1, 0) == 1, "not written");
-    files_close(it);
+    files_close(it, false);
     files_forget(it, 200);
 }
 
@@ -85,7 +97,8 @@ static void numbers(void) {
     uint32_t number = old->number;
     must(files_unlink(root, "a") == 0, "not deleted");
     node *new = make(root, "b", of_file);
-    must(new->number == number && new != old && new->generation != old->generation, "one node for two files");
+    must(new->number == number &&new != old &&new->generation != old->generation,
+         "one node for two files");
     must(files_unlink(root, "b") == 0, "not deleted");
     forget((node *[]){old, new}, 2);
 }
@@ -119,7 +132,8 @@ int main(void) {
     many_names();
     numbers();
     lookups();
-    must(volume_carry() == 0 && nodes_count() == 1, "nodes are left"); /* that of the hidden directory remains */
+    must(volume_carry() == 0 && nodes_count() == 1,
+         "nodes are left"); /* that of the hidden directory remains */
     hidden_end();
     must(nodes_count() == 0, "nodes are left at the end");
     test_lose();

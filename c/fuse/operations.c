@@ -9,9 +9,11 @@
 #include <fcntl.h>
 #include <limits.h>
 #include <stdlib.h>
+#include <unistd.h>
 
-/* Seconds for which the kernel keeps names, also those that are not there, and attributes. It sees all changes, and has one
- * inode for all links of a file. So they would stay right, except after an operation that fails when half of it is done. */
+/* Seconds for which the kernel keeps names, also those that are not there, and attributes. It sees
+ * all changes, and has one inode for all links of a file. So they would stay right, except after an
+ * operation that fails when half of it is done. */
 static const double timeout = 1;
 
 /* ---- replies */
@@ -29,13 +31,16 @@ static int get_entry(node *it, struct fuse_entry_param *entry) {
 /* Replies with a node, which has one lookup for this reply. */
 static void reply_entry(fuse_req_t request, int code, node *it) {
     struct fuse_entry_param entry;
-    if (code) return reply(request, code);
+    if (code) {
+        reply(request, code);
+        return;
+    }
     code = get_entry(it, &entry);
     if (code) reply(request, code);
     if (code || fuse_reply_entry(request, &entry)) files_forget(it, 1);
 }
 
-static void reply_attributes(fuse_req_t request, int code, const node *it) {
+static void reply_attributes(fuse_req_t request, int code, node *it) {
     struct stat st;
     if (!code) code = files_stat(it, &st);
     if (code) reply(request, code);
@@ -47,7 +52,8 @@ static void reply_attributes(fuse_req_t request, int code, const node *it) {
 static void do_lookup(fuse_req_t request, fuse_ino_t dir, const char *name) {
     node *it = NULL;
     int code = files_lookup(nodes_of(dir), name, &it);
-    if (code == -ENOENT) fuse_reply_entry(request, &(struct fuse_entry_param){.entry_timeout = timeout});
+    if (code == -ENOENT)
+        fuse_reply_entry(request, &(struct fuse_entry_param){.entry_timeout = timeout});
     else reply_entry(request, code, it);
 }
 
@@ -68,10 +74,13 @@ static void do_mkdir(fuse_req_t request, fuse_ino_t dir, const char *name, mode_
     reply_entry(request, code, it);
 }
 
-static void do_mknod(fuse_req_t request, fuse_ino_t dir, const char *name, mode_t mode, dev_t device) {
+static void do_mknod(fuse_req_t request, fuse_ino_t dir, const char *name, mode_t mode,
+                     dev_t device) {
     (void)device;
     node *it = NULL;
-    int code = S_ISREG(mode) ? files_make(nodes_of(dir), name, of_caller(request, S_IFREG | (mode & 07777)), &it) : -EPERM;
+    int code = S_ISREG(mode) ? files_make(nodes_of(dir), name,
+                                          of_caller(request, S_IFREG | (mode & 07777)), &it)
+                             : -EPERM;
     reply_entry(request, code, it);
 }
 
@@ -94,8 +103,8 @@ static void do_rmdir(fuse_req_t request, fuse_ino_t dir, const char *name) {
     reply(request, files_rmdir(nodes_of(dir), name));
 }
 
-static void do_rename(fuse_req_t request, fuse_ino_t from_dir, const char *from, fuse_ino_t to_dir, const char *to,
-                      unsigned flags) {
+static void do_rename(fuse_req_t request, fuse_ino_t from_dir, const char *from, fuse_ino_t to_dir,
+                      const char *to, unsigned flags) {
     reply(request, files_rename(nodes_of(from_dir), from, nodes_of(to_dir), to, flags));
 }
 
@@ -125,7 +134,8 @@ static int set_time(node *it, const struct stat *st, int which) {
     return which & FUSE_SET_ATTR_MTIME ? times_set(it, st->st_mtim) : 0;
 }
 
-static void do_setattr(fuse_req_t request, fuse_ino_t id, struct stat *st, int which, struct fuse_file_info *info) {
+static void do_setattr(fuse_req_t request, fuse_ino_t id, struct stat *st, int which,
+                       struct fuse_file_info *info) {
     (void)info;
     node *it = nodes_of(id);
     int code = set_attributes(it, st, which);
@@ -144,10 +154,15 @@ static void do_statfs(fuse_req_t request, fuse_ino_t id) {
 
 /* ---- files */
 
+/* Only a descriptor that reads and writes can be mapped to write. */
+static bool may_map(const struct fuse_file_info *info) {
+    return (info->flags & O_ACCMODE) == O_RDWR;
+}
+
 /* The kernel's cache of a file's bytes stays right: it has one for all links. */
 static int open_node(node *it, struct fuse_file_info *info) {
     info->keep_cache = true;
-    return files_open(it);
+    return files_open(it, may_map(info));
 }
 
 static void do_open(fuse_req_t request, fuse_ino_t id, struct fuse_file_info *info) {
@@ -155,32 +170,36 @@ static void do_open(fuse_req_t request, fuse_ino_t id, struct fuse_file_info *in
     int code = info->flags & O_TRUNC ? files_truncate(it, 0) : 0;
     if (!code) code = open_node(it, info);
     if (code) reply(request, code);
-    else if (fuse_reply_open(request, info)) files_close(it); /* the caller was interrupted */
+    else if (fuse_reply_open(request, info)) files_close(it, may_map(info)); /* interrupted */
 }
 
-static void do_create(fuse_req_t request, fuse_ino_t dir, const char *name, mode_t mode, struct fuse_file_info *info) {
+static void do_create(fuse_req_t request, fuse_ino_t dir, const char *name, mode_t mode,
+                      struct fuse_file_info *info) {
     struct fuse_entry_param entry;
     node *it = NULL;
     int code = files_make(nodes_of(dir), name, of_caller(request, S_IFREG | (mode & 07777)), &it);
-    if (code) return reply(request, code);
+    if (code) {
+        reply(request, code);
+        return;
+    }
     code = get_entry(it, &entry);
     if (!code) code = open_node(it, info);
     if (code) {
         reply(request, code);
         files_forget(it, 1);
     } else if (fuse_reply_create(request, &entry, info)) {
-        files_close(it);
+        files_close(it, may_map(info));
         files_forget(it, 1);
     }
 }
 
 static void do_release(fuse_req_t request, fuse_ino_t id, struct fuse_file_info *info) {
-    (void)info;
-    files_close(nodes_of(id));
+    files_close(nodes_of(id), may_map(info));
     reply(request, 0);
 }
 
-static void do_read(fuse_req_t request, fuse_ino_t id, size_t size, off_t offset, struct fuse_file_info *info) {
+static void do_read(fuse_req_t request, fuse_ino_t id, size_t size, off_t offset,
+                    struct fuse_file_info *info) {
     (void)info;
     char *bytes = malloc(size + 1);
     int count = bytes ? files_read(nodes_of(id), bytes, size, offset) : -ENOMEM;
@@ -189,10 +208,35 @@ static void do_read(fuse_req_t request, fuse_ino_t id, size_t size, off_t offset
     free(bytes);
 }
 
-static void do_write(fuse_req_t request, fuse_ino_t id, const char *bytes, size_t size, off_t offset,
-                     struct fuse_file_info *info) {
+static void do_write(fuse_req_t request, fuse_ino_t id, const char *bytes, size_t size,
+                     off_t offset, struct fuse_file_info *info) {
     (void)info;
     int count = files_write(nodes_of(id), bytes, size, offset);
+    if (count < 0) reply(request, count);
+    else fuse_reply_write(request, (size_t)count);
+}
+
+static void do_lseek(fuse_req_t request, fuse_ino_t id, off_t offset, int whence,
+                     struct fuse_file_info *info) {
+    (void)info;
+    if (whence != SEEK_DATA && whence != SEEK_HOLE) {
+        reply(request, -EINVAL);
+        return;
+    }
+    off_t found = files_seek(nodes_of(id), offset, whence == SEEK_HOLE);
+    if (found < 0) reply(request, (int)found);
+    else fuse_reply_lseek(request, found);
+}
+
+static void do_copy_file_range(fuse_req_t request, fuse_ino_t id, off_t offset,
+                               struct fuse_file_info *info, fuse_ino_t to, off_t to_offset,
+                               struct fuse_file_info *to_info, size_t size, int flags) {
+    (void)info, (void)to_info;
+    if (flags) {
+        reply(request, -EINVAL);
+        return;
+    }
+    int count = files_copy(nodes_of(id), offset, nodes_of(to), to_offset, size);
     if (count < 0) reply(request, count);
     else fuse_reply_write(request, (size_t)count);
 }
@@ -211,7 +255,10 @@ static listing *listing_of(const struct fuse_file_info *info) {
 static void do_opendir(fuse_req_t request, fuse_ino_t id, struct fuse_file_info *info) {
     (void)id;
     listing *it = calloc(1, sizeof *it);
-    if (!it) return reply(request, -ENOMEM);
+    if (!it) {
+        reply(request, -ENOMEM);
+        return;
+    }
     info->fh = (uintptr_t)it;
     if (fuse_reply_open(request, info)) free(it);
 }
@@ -252,14 +299,16 @@ static bool add_directory(page *into, const char *name, const node *it, off_t ne
 static bool add_name(page *into, node *dir, const char *name, bool is_dir, off_t next) {
     struct fuse_entry_param entry = {0};
     node *it = NULL;
-    if (!into->plus) return files_entry(dir, name, is_dir, &entry.attr) || add(into, name, &entry, next);
+    if (!into->plus)
+        return files_entry(dir, name, is_dir, &entry.attr) || add(into, name, &entry, next);
     if (files_lookup(dir, name, &it)) return true;
     if (get_entry(it, &entry) == 0 && add(into, name, &entry, next)) return true;
     files_forget(it, 1);
     return false;
 }
 
-/* Adds what comes at an offset: 0 and 1 for "." and "..", then the names. False: no room, or no more. */
+/* Adds what comes at an offset: 0 and 1 for "." and "..", then the names. False: no room, or no
+ * more. */
 static bool add_at(page *into, node *dir, const listing *names, off_t offset) {
     bool is_dir;
     if (offset == 0) return add_directory(into, ".", dir, 1);
@@ -270,7 +319,8 @@ static bool add_at(page *into, node *dir, const listing *names, off_t offset) {
     return hidden_is(dir, name) || add_name(into, dir, name, is_dir, offset + 1);
 }
 
-/* The names are those of when the directory is read from its beginning. So an offset means the same until then. */
+/* The names are those of when the directory is read from its beginning. So an offset means the same
+ * until then. */
 static int take_names(const node *dir, listing *names, off_t offset) {
     path at;
     if (offset > 0 && names->text) return 0;
@@ -283,17 +333,22 @@ static void read_directory(page *into, fuse_ino_t id, off_t offset, struct fuse_
     int code = take_names(dir, listing_of(info), offset);
     if (!code) into->bytes = malloc(into->size);
     if (!code && !into->bytes) code = -ENOMEM;
-    if (code) return reply(into->request, code);
+    if (code) {
+        reply(into->request, code);
+        return;
+    }
     while (add_at(into, dir, listing_of(info), offset)) offset++;
     fuse_reply_buf(into->request, into->bytes, into->used);
     free(into->bytes);
 }
 
-static void do_readdir(fuse_req_t request, fuse_ino_t id, size_t size, off_t offset, struct fuse_file_info *info) {
+static void do_readdir(fuse_req_t request, fuse_ino_t id, size_t size, off_t offset,
+                       struct fuse_file_info *info) {
     read_directory(&(page){.request = request, .size = size}, id, offset, info);
 }
 
-static void do_readdirplus(fuse_req_t request, fuse_ino_t id, size_t size, off_t offset, struct fuse_file_info *info) {
+static void do_readdirplus(fuse_req_t request, fuse_ino_t id, size_t size, off_t offset,
+                           struct fuse_file_info *info) {
     read_directory(&(page){.request = request, .size = size, .plus = true}, id, offset, info);
 }
 
@@ -302,15 +357,38 @@ static void do_readdirplus(fuse_req_t request, fuse_ino_t id, size_t size, off_t
 static void do_init(void *data, struct fuse_conn_info *connection) {
     (void)data;
     connection->max_write = (unsigned)volume.max_write;
-    connection->want &= ~(unsigned)FUSE_CAP_HANDLE_KILLPRIV; /* the kernel clears set-user-ID bits, by chmod */
-    connection->want &= ~(unsigned)FUSE_CAP_AUTO_INVAL_DATA; /* a new time says nothing: the kernel saw the write */
+    connection->want &=
+        ~(unsigned)FUSE_CAP_HANDLE_KILLPRIV; /* the kernel clears set-user-ID bits, by chmod */
+    connection->want &=
+        ~(unsigned)FUSE_CAP_AUTO_INVAL_DATA; /* a new time says nothing: the kernel saw the write */
 }
 
 const struct fuse_lowlevel_ops operations = {
-    .init = do_init, .lookup = do_lookup, .forget = do_forget, .getattr = do_getattr, .setattr = do_setattr,
-    .readlink = do_readlink, .mknod = do_mknod, .mkdir = do_mkdir, .unlink = do_unlink, .rmdir = do_rmdir,
-    .symlink = do_symlink, .rename = do_rename, .link = do_link, .open = do_open, .read = do_read, .write = do_write,
-    .release = do_release, .fsync = do_fsync, .opendir = do_opendir, .readdir = do_readdir,
-    .readdirplus = do_readdirplus, .releasedir = do_releasedir, .fsyncdir = do_fsync, .statfs = do_statfs,
+    .init = do_init,
+    .lookup = do_lookup,
+    .forget = do_forget,
+    .getattr = do_getattr,
+    .setattr = do_setattr,
+    .readlink = do_readlink,
+    .mknod = do_mknod,
+    .mkdir = do_mkdir,
+    .unlink = do_unlink,
+    .rmdir = do_rmdir,
+    .symlink = do_symlink,
+    .rename = do_rename,
+    .link = do_link,
+    .open = do_open,
+    .read = do_read,
+    .write = do_write,
+    .release = do_release,
+    .fsync = do_fsync,
+    .opendir = do_opendir,
+    .readdir = do_readdir,
+    .readdirplus = do_readdirplus,
+    .releasedir = do_releasedir,
+    .fsyncdir = do_fsync,
+    .statfs = do_statfs,
     .create = do_create,
+    .lseek = do_lseek,
+    .copy_file_range = do_copy_file_range,
 };

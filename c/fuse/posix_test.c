@@ -1,12 +1,14 @@
-/* posix_test.c - what POSIX and Linux say of system calls on files, on a mount or on any other file system.
+/* posix_test.c - what POSIX and Linux say of system calls on files, on a mount or on any other file
+ * system.
  *
  *     posix_test FOLDER             each case in a new folder within FOLDER
- *     posix_test FOLDER mount       the same; a case that README.md excepts has the answer that README.md has
+ *     posix_test FOLDER mount       the same; a case that README.md excepts has its answer there
  *     posix_test FOLDER prepare     makes what the cases of a read-only file system need
  *     posix_test FOLDER read-only   those cases, in FOLDER itself
  *
- * Prints the number of cases, and a line for each that differs. The status is 1 if one does. Only root runs the cases
- * of other users. Without `mount`, all of this has to hold on tmpfs: a case that differs there is wrong itself.
+ * Prints the number of cases, and a line for each that differs. The status is 1 if one does. Only
+ * root runs the cases of other users. Without `mount`, all of this has to hold on tmpfs: a case
+ * that differs there is wrong itself.
  */
 #define _GNU_SOURCE
 #include <dirent.h>
@@ -42,14 +44,15 @@ static bool on_mount, case_differs;
 /* The same after a call that has to succeed. */
 #define AFTER(first, wanted, call) BY(self, first, wanted, call)
 
-/* The same by another user, after a call by root. A file that the call opens is closed with the case. */
-#define BY(user, first, wanted, call)                                                                                  \
-    do {                                                                                                               \
-        begin_case();                                                                                                  \
-        is(0, (first) < 0 ? errno : 0, #first, __LINE__);                                                              \
-        become(user);                                                                                                  \
-        is(wanted, (call) == -1 ? errno : 0, #call, __LINE__);                                                         \
-        end_case();                                                                                                    \
+/* The same by another user, after a call by root. A file that the call opens is closed with the
+ * case. */
+#define BY(user, first, wanted, call)                                                              \
+    do {                                                                                           \
+        begin_case();                                                                              \
+        is(0, (first) < 0 ? errno : 0, #first, __LINE__);                                          \
+        become(user);                                                                              \
+        is(wanted, (call) == -1 ? errno : 0, #call, __LINE__);                                     \
+        end_case();                                                                                \
     } while (0)
 
 /* Within a case */
@@ -90,7 +93,8 @@ static void prepare(void) {
     close(make("f", "text"));
     close(make("g", "other"));
     close(open("run", O_WRONLY | O_CREAT, 0755));
-    if (mkdir("d", 0755) || mkdir("full", 0755) || symlink("f", "s") || symlink("d", "sd")) stop("prepare");
+    if (mkdir("d", 0755) || mkdir("full", 0755) || symlink("f", "s") || symlink("d", "sd"))
+        stop("prepare");
     if (symlink("none", "dangling") || symlink("loop", "loop")) stop("prepare");
     close(make("full/x", "x"));
 }
@@ -117,7 +121,8 @@ static void end_case(void) {
     become(self);
     umask(022);
     close_range(3, ~0U, 0);
-    if (chdir(top) || nftw("case", remove_one, 16, FTW_DEPTH | FTW_PHYS)) stop("a case is not removed");
+    if (chdir(top) || nftw("case", remove_one, 16, FTW_DEPTH | FTW_PHYS))
+        stop("a case is not removed");
     count_case();
 }
 
@@ -802,11 +807,11 @@ static void readlink_cuts(void) {
 /* ---- times */
 
 /* Sets the time of a directory, calls, and looks whether the directory is new. */
-#define TOUCHES(wanted, path, call)                                                                                    \
-    do {                                                                                                               \
-        WORKS(set_time(path, 1000, 0));                                                                                \
-        WORKS(call);                                                                                                   \
-        IS(wanted, is_new(path));                                                                                      \
+#define TOUCHES(wanted, path, call)                                                                \
+    do {                                                                                           \
+        WORKS(set_time(path, 1000, 0));                                                            \
+        WORKS(call);                                                                               \
+        IS(wanted, is_new(path));                                                                  \
     } while (0)
 
 static void times_of_parents(void) {
@@ -1029,16 +1034,40 @@ static const struct {
     void (*run)(void);
     bool by_root; /* it changes owners, or is by another user */
 } longer[] = {
-    {clears_set_user_id, true}, {refuses_set_group_id, true}, {set_group_id_directory, true},
-    {extended_attributes, true}, {kept_after_unlink, false}, {kept_after_rename, false},
-    {mapped_after_unlink, false}, {links_of_a_file, false}, {renamed_to_its_link, false},
-    {links_of_a_directory, false}, {link_of_a_deleted_file, false}, {in_a_deleted_directory, false},
-    {flags_of_open, false}, {dangling_is_created, false}, {holes, false}, {umask_of_new_files, false},
-    {chmod_follows, false}, {readlink_cuts, false}, {times_of_parents, false}, {times_of_files, false},
-    {many_symbolic_links, false}, {many_links, false}, {any_bytes_in_a_name, false}, {copies_a_range, false},
-    {reads_a_late_name, false}, {two_readers, false}, {change_times, false}, {omitted_times, false},
-    {reads_all_names, false}, {reads_while_names_change, false}, {removes_while_reading, false},
-    {seeks_in_a_directory, false}, {kinds_in_a_directory, false}, {parent_of_a_moved_directory, false},
+    {clears_set_user_id, true},
+    {refuses_set_group_id, true},
+    {set_group_id_directory, true},
+    {extended_attributes, true},
+    {kept_after_unlink, false},
+    {kept_after_rename, false},
+    {mapped_after_unlink, false},
+    {links_of_a_file, false},
+    {renamed_to_its_link, false},
+    {links_of_a_directory, false},
+    {link_of_a_deleted_file, false},
+    {in_a_deleted_directory, false},
+    {flags_of_open, false},
+    {dangling_is_created, false},
+    {holes, false},
+    {umask_of_new_files, false},
+    {chmod_follows, false},
+    {readlink_cuts, false},
+    {times_of_parents, false},
+    {times_of_files, false},
+    {many_symbolic_links, false},
+    {many_links, false},
+    {any_bytes_in_a_name, false},
+    {copies_a_range, false},
+    {reads_a_late_name, false},
+    {two_readers, false},
+    {change_times, false},
+    {omitted_times, false},
+    {reads_all_names, false},
+    {reads_while_names_change, false},
+    {removes_while_reading, false},
+    {seeks_in_a_directory, false},
+    {kinds_in_a_directory, false},
+    {parent_of_a_moved_directory, false},
     {temporary_file, false},
 };
 
@@ -1064,7 +1093,8 @@ static void all_cases(void) {
 
 /* ---- a read-only file system */
 
-#define READ_ONLY(wanted, call) (is(wanted, (call) == -1 ? errno : 0, #call, __LINE__), count_case())
+#define READ_ONLY(wanted, call)                                                                    \
+    (is(wanted, (call) == -1 ? errno : 0, #call, __LINE__), count_case())
 
 static void read_only_cases(void) {
     READ_ONLY(0, open("f", O_RDONLY));
@@ -1093,7 +1123,8 @@ static void read_only_cases(void) {
 
 int main(int argc, char **argv) {
     const char *what = argc == 3 ? argv[2] : "";
-    bool is_known = !*what || !strcmp(what, "mount") || !strcmp(what, "prepare") || !strcmp(what, "read-only");
+    bool is_known =
+        !*what || !strcmp(what, "mount") || !strcmp(what, "prepare") || !strcmp(what, "read-only");
     if (argc < 2 || argc > 3 || !is_known || chdir(argv[1]) || !getcwd(top, sizeof top)) {
         fprintf(stderr, "usage: posix_test FOLDER [mount | prepare | read-only]\n");
         return 2;

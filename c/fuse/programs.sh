@@ -6,6 +6,7 @@
 # Images and mounts are in FOLDER (/dev/shm). A program is ok if its output, its status and the files that it leaves are
 # the same on both sides. CHECKER is the program bpfs; it checks the image after the unmount. The outcome: PROGRAMS.md.
 set -u
+unset MAKEFLAGS MFLAGS MAKELEVEL # of a make that calls this: they change what the programs print
 program=$(realpath "${1:?usage: programs.sh BPFS_FUSE [FOLDER [CHECKER]]}") checker=${3:-}
 work=$(mktemp -d "${2:-/dev/shm}/bpfs-programs-XXXXXX")
 image=$work/image at=$work/mount own=$work/own daemon=
@@ -501,6 +502,8 @@ import os; open(\"a\", \"w\"); os.setxattr(\"a\", \"user.x\", b\"1\")"' 'Operati
 lacks 'setfacl' setfacl 'touch a; setfacl -m u:1:r a' 'Operation not supported'
 lacks 'fallocate' fallocate 'fallocate -l 100000 a' 'Operation not supported'
 lacks 'fallocate -p' fallocate 'seq 5000 > a; fallocate -p -o 4096 -l 4096 a' 'keep size mode is unsupported'
+both 'du, cp and tar -S of a file with holes' 'du tar' 'truncate -s 50M a; echo x | dd of=a bs=1 seek=20M conv=notrunc 2> out
+    du -k a; cp a b; du -k b; cmp a b; tar -Scf c.tar a; stat -c %s c.tar; mkdir d; tar -C d -xSf c.tar; du -k d/a; cmp a d/a; rm a b d/a'
 both 'posix_fallocate' fallocate 'fallocate -x -l 100000 a; stat -c %s a; cksum a'
 lacks 'chattr' chattr 'touch a; chattr +i a' 'Operation not supported'
 lacks 'renameat2 with RENAME_EXCHANGE' python3 'touch a b; python3 -c "

@@ -1,8 +1,9 @@
-/* room_test.c - each operation of a mount, with each number of events in the log that leaves room for few calls.
+/* room_test.c - each operation of a mount, with each number of events in the log that leaves room
+ * for few calls.
  *
- * An operation may make several calls of the library, and each of them needs room in the log. So each operation is tried
- * with the log as full as it may be for 0 to 8 more calls, and has to succeed: on a volume of version 2 of the format, and
- * on one of version 3.
+ * An operation may make several calls of the library, and each of them needs room in the log. So
+ * each operation is tried with the log as full as it may be for 0 to 8 more calls, and has to
+ * succeed: on a volume of version 2 of the format, and on one of version 3.
  */
 #define _GNU_SOURCE
 #include "hidden.h"
@@ -25,7 +26,8 @@ static char bytes[LENGTH];
 static void fill_log(size_t calls) {
     must(volume_carry() == 0 && bpfs_event_count(&volume.fs) == 0, "not carried");
     while (bpfs_event_count(&volume.fs) + calls < BPFS_LOG_ROOM + 1)
-        must(bpfs_rmdir(&volume.fs, (const uint8_t *)"/", 1, NULL) == BPFS_IS_ROOT, "the root is not refused");
+        must(bpfs_rmdir(&volume.fs, (const uint8_t *)"/", 1, NULL) == BPFS_IS_ROOT,
+             "the root is not refused");
 }
 
 /* ---- operations: each is prepared, tried, and undone */
@@ -36,7 +38,8 @@ static struct statvfs stvfs;
 
 static int make(const char *name, attributes it) {
     node *made;
-    int code = S_ISLNK(it.mode) ? files_symlink("target", root, name, it, &made) : files_make(root, name, it, &made);
+    int code = S_ISLNK(it.mode) ? files_symlink("target", root, name, it, &made)
+                                : files_make(root, name, it, &made);
     if (!code) nodes_forget(made, 1);
     return code;
 }
@@ -83,15 +86,21 @@ static int rmdir_new(void) { return files_rmdir(root, "new"); }
 static int create_new(void) { return make("new", of_file); }
 static int unlink_new(void) { return files_unlink(root, "new"); }
 static int rename_file(void) { return files_rename(root, "file", root, "new", 0); }
-static int rename_noreplace(void) { return files_rename(root, "file", root, "new", RENAME_NOREPLACE); }
+static int rename_noreplace(void) {
+    return files_rename(root, "file", root, "new", RENAME_NOREPLACE);
+}
 static int rename_back(void) { return files_rename(root, "new", root, "file", 0); }
-static int rename_exists(void) { return files_rename(root, "file", root, "dir", RENAME_NOREPLACE) == -EEXIST ? 0 : -EIO; }
+static int rename_exists(void) {
+    return files_rename(root, "file", root, "dir", RENAME_NOREPLACE) == -EEXIST ? 0 : -EIO;
+}
 static int truncate_file(void) { return files_truncate(file, 77); }
 static int write_file(void) { return files_write(file, bytes, LENGTH, 0) == LENGTH ? 0 : -EIO; }
 static int carry(void) { return volume_carry() ? -EIO : 0; }
 static int write_and_carry(void) { return write_file() ? -EIO : carry(); }
 static int chmod_file(void) { return files_set_attributes(file, 0644, (uid_t)-1, (gid_t)-1); }
-static int chown_file(void) { return files_set_attributes(file, (mode_t)-1, volume.owner, volume.group); }
+static int chown_file(void) {
+    return files_set_attributes(file, (mode_t)-1, volume.owner, volume.group);
+}
 static int set_time(void) { return times_set(file, (struct timespec){1, 1}); }
 static int readlink_link(void) { return readlink_at("link"); }
 static int symlink_new(void) { return make("new", of_link); }
@@ -105,7 +114,7 @@ static int link_new(void) {
 /* A file with the name "new" that is open */
 static int create_open(void) {
     int code = files_make(root, "new", of_file, &open_file);
-    return code ? code : files_open(open_file);
+    return code ? code : files_open(open_file, false);
 }
 
 static int unlink_open(void) {
@@ -121,7 +130,7 @@ static uint64_t count_files(void) {
 
 static int close_it(void) {
     uint64_t count = count_files();
-    files_close(open_file);
+    files_close(open_file, false);
     files_forget(open_file, 1);
     return count_files() == count - 1 ? 0 : -EIO;
 }
@@ -173,7 +182,8 @@ static bool works(const struct trial *trial, size_t calls) {
     must(!trial->prepare || trial->prepare() == 0, "not prepared");
     fill_log(calls);
     int code = trial->it();
-    if (code) fprintf(stderr, "%s with room for %zu calls: %s\n", trial->name, calls, strerror(-code));
+    if (code)
+        fprintf(stderr, "%s with room for %zu calls: %s\n", trial->name, calls, strerror(-code));
     must(code || !trial->undo || trial->undo() == 0, "not undone");
     return code == 0;
 }
@@ -184,14 +194,17 @@ static size_t try_all(uint32_t version) {
     volume.max_write = PIECE;
     test_mount();
     root = nodes_root();
-    must(make("dir", of_directory) == 0 && files_make(root, "file", of_file, &file) == 0, "no files");
+    must(make("dir", of_directory) == 0 && files_make(root, "file", of_file, &file) == 0,
+         "no files");
     must(version < 3 || make("link", of_link) == 0, "no symbolic link");
     for (size_t i = 0; i < count; i++)
         for (size_t calls = 0; calls <= CALLS; calls++) wrong += !works(&trials[i], calls);
     must(volume_carry() == 0 && !times_wait(), "times are left");
     test_lose();
     if (wrong) fprintf(stderr, "%zu operations failed\n", wrong);
-    else printf("%zu operations of version %u with room for 0 to %d calls in the log: ok\n", count, version, CALLS);
+    else
+        printf("%zu operations of version %u with room for 0 to %d calls in the log: ok\n", count,
+               version, CALLS);
     return wrong;
 }
 

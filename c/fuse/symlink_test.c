@@ -1,7 +1,7 @@
 /* symlink_test.c - a symbolic link after a power failure while it is made.
  *
- * The operation makes several calls of the library. Each prefix of their stores is mounted, as it would be after a power
- * failure: the whole link is there, or nothing, and then it can be made.
+ * The operation makes several calls of the library. Each prefix of their stores is mounted, as it
+ * would be after a power failure: the whole link is there, or nothing, and then it can be made.
  */
 #define _GNU_SOURCE
 #include "test_volume.h"
@@ -38,7 +38,8 @@ static bool cut_after(size_t count, bool *was_whole) {
     node *dir;
     test_format(BLOCKS, 3);
     test_mount();
-    must(files_make(nodes_root(), "dir", of_directory, &dir) == 0 && volume_carry() == 0, "no directory");
+    must(files_make(nodes_root(), "dir", of_directory, &dir) == 0 && volume_carry() == 0,
+         "no directory");
     test_stores = count;
     must(make_link() == 0 && volume_carry() == 0, "no symbolic link");
     bool all = test_stores > 0;
@@ -47,14 +48,16 @@ static bool cut_after(size_t count, bool *was_whole) {
     *was_whole = is_whole();
     must(count_files() == *was_whole, "half a symbolic link is there");
     must(*was_whole || make_link() == 0, "no symbolic link after the power failure");
-    must(is_whole() && count_files() == 1 && volume_carry() == 0, "no whole symbolic link after the power failure");
+    must(is_whole() && count_files() == 1 && volume_carry() == 0,
+         "no whole symbolic link after the power failure");
     test_lose();
     return all;
 }
 
 int main(void) {
     size_t count = 0, whole = 0;
-    for (bool all = false, was_whole; !all; count++, whole += was_whole) all = cut_after(count, &was_whole);
+    for (bool all = false, was_whole; !all; count++, whole += was_whole)
+        all = cut_after(count, &was_whole);
     must(whole > 0 && whole < count, "no cut before the link, or none after it");
     printf("a symbolic link, cut after 0 to %zu stores: whole or not there\n", count - 1);
     return 0;

@@ -162,6 +162,12 @@ keeps_its_directory() {
         ! rm -r "$at/.bpfs_fuse" && [ -e "$at/small" ]
 }
 
+# An old mount, by the path interface of libfuse, left such a name. It is a file like others.
+keeps_old_names() {
+    [ "$(cat "$at/.fuse_hidden0000000200000001")" = old ] && rm "$at/.fuse_hidden0000000200000001" &&
+        [ ! -e "$at/.fuse_hidden0000000200000001" ]
+}
+
 # df -i counts the files that can be found, and no others.
 counts_files() {
     [ "$(df --output=iused "$at" | tail -1)" -eq "$(find "$at" -printf '%i\n' | sort -u | wc -l)" ]
@@ -303,6 +309,18 @@ keeps_what_was_synced() {
 }
 
 # ---- when calls are carried
+
+# Each of these makes all calls so far durable, also those on other files (README.md).
+carries_at_each() {
+    echo x > "$at/other"
+    for how in 'sync -d other' 'sync other' 'sync .' 'dd if=second of=other oflag=sync' 'dd if=second of=other oflag=dsync'; do
+        echo first > "$at/first" && echo second > "$at/second" || return 1
+        (cd "$at" && echo third > first && eval "$how" 2> "$logs/dd") || return 1
+        kills_it
+        mounts bpfs_fuse quiet
+        [ "$(cat "$at/first")" = third ] || { echo "not durable: $how"; return 1; }
+    done
+}
 
 # No call may run out of room in the log, however many come.
 looks_often() {
@@ -520,6 +538,11 @@ lead_and_lose() {
 
 # ---- all of it
 
+if [ -n "$everyone" ] && unshare -m true 2> "$logs/output"; then
+    step "mount(8), fstab, other users, mounts that fail" bash mount_test.sh "$1"
+else
+    echo "left out: mount(8) (no mount namespace can be made)"
+fi
 modes='delete truncate persist wal' # a kill within a transaction of the modes off and memory leaves no database
 step "images that can't be opened" opens_what_is_there
 
@@ -547,11 +570,11 @@ step "programs and scripts" runs_programs
 step "ln -s" links_by_symbols
 if [ -x "$(command -v python3)" ]; then step "python3 -m venv" makes_an_environment; else echo "left out: python3"; fi
 list "$at" > "$own/list"
-find "$at" -printf '%i %n %P\n' | sort > "$own/inodes"
+find "$at" -printf '%i %n %b %P\n' | sort > "$own/inodes"
 unmounts
 mounts san-bpfs_fuse cached
 step "mounted again, with the same modes, owners and times" diff "$own/list" <(list "$at")
-step "the same inode numbers" diff "$own/inodes" <(find "$at" -printf '%i %n %P\n' | sort)
+step "the same inode numbers and blocks" diff "$own/inodes" <(find "$at" -printf '%i %n %b %P\n' | sort)
 rm -rf "${at:?}"/*
 step "cp -r, diff -r" copies
 step "ls -i, df -i" has_inodes
@@ -563,6 +586,7 @@ step "rm -r of a folder with an open file" removes_a_folder
 step "tar" archives
 mkdir "$at/appended" "$at/opened"
 step "two processes append by two names" build/mounted_test appends "$at/appended" 1000
+echo old > "$at/.fuse_hidden0000000200000001"
 step "20,000 times open of a file that is replaced" build/mounted_test opens "$at/opened" 20000
 step "20 times 10,000 pseudo-random calls, as in a normal folder" is_like_a_folder
 if [ -x "$(command -v git)" ]; then step "git" commits; else echo "left out: git"; fi
@@ -577,6 +601,7 @@ step "a second mount is refused" refuses 7 'in use by another process' "$image" 
 unmounts
 mounts san-bpfs_fuse quiet
 step "mounted again" diff -r "$own/tree" "$at/moved"
+step "a name that an old libfuse left" keeps_old_names
 step "mounted again, as the normal folder" diff -r --no-dereference "$own/fsx" "$at/fsx"
 exec 3< "$at/bytes"
 rm "$at/bytes"
@@ -615,7 +640,21 @@ cat "$logs/output"
 step "carried under load" is_carried_under_load
 step "carried when idle" is_carried_when_idle
 step "a kill leaves what was synced" keeps_what_was_synced
+step "fsync, fdatasync, O_SYNC, O_DSYNC and sync of a folder" carries_at_each
 step "the journal is applied, and emptied" applies_the_journal
+unmounts
+rm -f "$image" "$image-redo"
+
+mounts san-bpfs_fuse cached,format=4096
+mkdir "$at/removed"
+step "1,000 open files are removed from a full volume" build/mounted_test removes "$at/removed" 1000
+rm -rf "${at:?}"/*
+mkdir "$at/fsx" "$own/blocks"
+step "pseudo-random calls" build/fsx_test "$at/fsx" "$own/blocks" 99 20000
+find "$at" -printf '%i %b %P\n' | sort > "$own/inodes"
+unmounts
+mounts san-bpfs_fuse cached
+step "the same blocks after all of them" diff "$own/inodes" <(find "$at" -printf '%i %b %P\n' | sort)
 unmounts
 rm -f "$image" "$image-redo"
 
@@ -662,6 +701,14 @@ for _ in $(seq "$kills"); do kill_while_replaced; done
 echo "an open file that is replaced: killed $kills times, its name has the old bytes or the new ones"
 passed=$((passed + 1))
 rm -f "$image" "$image-redo"
+
+if [ -n "$everyone" ]; then
+    step "the same, killed at each system call" "$here/build/killed_test" "$here/build/bpfs_fuse" "$image" "$at" 1
+    cat "$logs/output"
+    rm -f "$image" "$image-redo"
+else
+    echo "left out: kills at each system call (they need root)"
+fi
 
 if [ -x "$(command -v sqlite3)" ]; then
     mounts bpfs_fuse quiet,format=16384

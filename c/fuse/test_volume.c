@@ -49,7 +49,8 @@ void test_format(uint32_t blocks, uint32_t version) {
 void test_mount(void) {
     bpfs_fault fault;
     test_stores = SIZE_MAX;
-    must(bpfs_mount(&volume.fs, words, block_count * BPFS_BLOCK_WORDS, &fault) == BPFS_OK, "no mount");
+    must(bpfs_mount(&volume.fs, words, block_count * BPFS_BLOCK_WORDS, &fault) == BPFS_OK,
+         "no mount");
     must(bpfs_bind(&volume.fs, &medium) == 0, "not bound");
     volume.carriers[0] = &medium, volume.carrier_count = 1;
     times_begin();

@@ -1,4 +1,5 @@
-/* test_volume.h - a volume in memory, whose power can fail, for tests that call files.h without the kernel. */
+/* test_volume.h - a volume in memory, whose power can fail, for tests that call files.h without the
+ * kernel. */
 #ifndef BPFS_TEST_VOLUME_H
 #define BPFS_TEST_VOLUME_H
 #include "files.h"

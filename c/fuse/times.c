@@ -32,7 +32,8 @@ void times_forget(node *it) {
 
 /* ---- attributes */
 
-/* Nanoseconds since 1970, as a signed number. 0 says that no time was set: the time 0 is 1 there. */
+/* Nanoseconds since 1970, as a signed number. 0 says that no time was set: the time 0 is 1
+ * there. */
 static uint64_t word_of(struct timespec when) {
     const int64_t last = INT64_MAX / BILLION - 1;
     int64_t seconds = when.tv_sec > last ? last : when.tv_sec < -last ? -last : when.tv_sec;
@@ -84,7 +85,8 @@ void times_touch(node *it) {
     if (!it->is_deleted) enter(it, times_now());
 }
 
-/* Without a name, the time is lost. So an operation that removes the last known name calls this before. */
+/* Without a name, the time is lost. So an operation that removes the last known name calls this
+ * before. */
 void times_store_of(node *it) {
     if (!volume.keeps || !it->has_time) return;
     int code = store(it, it->time);

@@ -1,7 +1,8 @@
 /* times.h - when files and directories were changed.
  *
- * Version 3 of the format keeps a time as attribute 1 (docs/format.md). It is not stored at each write: the node has the new
- * time until the log is carried. Earlier versions keep none, and a node has its time as long as the mount lasts.
+ * Version 3 of the format keeps a time as attribute 1 (docs/format.md). It is not stored at each
+ * write: the node has the new time until the log is carried. Earlier versions keep none, and a node
+ * has its time as long as the mount lasts.
  */
 #ifndef BPFS_TIMES_H
 #define BPFS_TIMES_H
@@ -25,7 +26,8 @@ void times_touch(node *it);
 /* Forgets a time that is not stored. */
 void times_forget(node *it);
 
-/* Stores the times of all nodes, or of one, if the version keeps them. One that can't be stored now remains. */
+/* Stores the times of all nodes, or of one, if the version keeps them. One that can't be stored now
+ * remains. */
 void times_store(void);
 void times_store_of(node *it);
 

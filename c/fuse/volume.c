@@ -30,7 +30,8 @@ struct timespec volume_now(void) {
 
 static struct timespec after_delay(struct timespec it) {
     long nanoseconds = it.tv_nsec + VOLUME_DELAY % 1000 * 1000000L;
-    return (struct timespec){it.tv_sec + VOLUME_DELAY / 1000 + nanoseconds / 1000000000, nanoseconds % 1000000000};
+    return (struct timespec){it.tv_sec + VOLUME_DELAY / 1000 + nanoseconds / 1000000000,
+                             nanoseconds % 1000000000};
 }
 
 /* Whether a carrier can never go on. */
@@ -40,10 +41,12 @@ static bool is_lost(void) {
     return false;
 }
 
-/* A failure that is not for good (no memory, a full disk) is tried again after the delay, and reported once. */
+/* A failure that is not for good (no memory, a full disk) is tried again after the delay, and
+ * reported once. */
 static int carry_failed(int why) {
     volume.failed = is_lost();
-    if (volume.failed) report("calls can't be saved, and changes are refused from now on: %s", strerror(why));
+    if (volume.failed)
+        report("calls can't be saved, and changes are refused from now on: %s", strerror(why));
     else if (!volume.reported) report("calls can't be saved now: %s", strerror(why));
     volume.reported = true;
     volume.waits = !volume.failed;
@@ -79,7 +82,8 @@ void volume_served(struct timespec began) {
 int volume_wait(void) {
     if (!volume.waits) return -1;
     struct timespec now = volume_now();
-    long long left = (volume.due.tv_sec - now.tv_sec) * 1000LL + (volume.due.tv_nsec - now.tv_nsec + 999999) / 1000000;
+    long long left = (volume.due.tv_sec - now.tv_sec) * 1000LL +
+                     (volume.due.tv_nsec - now.tv_nsec + 999999) / 1000000;
     return left < 0 ? 0 : (int)left;
 }
 

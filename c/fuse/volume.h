@@ -8,7 +8,9 @@
 #include <sys/types.h>
 #include <time.h>
 
-enum { VOLUME_DELAY = 1000 }; /* milliseconds from the first call that is not carried to the carry */
+enum {
+    VOLUME_DELAY = 1000
+}; /* milliseconds from the first call that is not carried to the carry */
 
 struct volume {
     bpfs fs;
@@ -33,11 +35,13 @@ extern struct volume volume;
 /* Prints a line on standard error, or writes it to the system log. */
 void report(const char *format, ...) __attribute__((format(printf, 1, 2)));
 
-/* Makes room in the log for one call of the library. Call it before each call that may change the tree: room for one
- * call is all that is sure. False if the log could not be carried, or if the volume has failed. */
+/* Makes room in the log for one call of the library. Call it before each call that may change the
+ * tree: room for one call is all that is sure. False if the log could not be carried, or if the
+ * volume has failed. */
 bool volume_has_room(void);
 
-/* Stores the times that were not stored yet, and carries the log: all calls so far are durable. 0, or -1. */
+/* Stores the times that were not stored yet, and carries the log: all calls so far are durable. 0,
+ * or -1. */
 int volume_carry(void);
 
 /* Notes that a request began at this time. Call it after the request. */
